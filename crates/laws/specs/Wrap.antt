@@ -1,0 +1,157 @@
+-- The two's complement wrap of any integer at 64 bits. Assumes nothing.
+use mathlib.Core.Path.{_≡_, refl, ap, sym, _∙_}
+use mathlib.Core.Bool.{Bool, true, false, not}
+use Prim.Native.Nat.{ℕ, zero, suc, _+_, _*_, _-_, _/_, _%_, _^_, _≤_, _<_, min}
+use native.Mathlib.Omega.{arith}
+use native.Mathlib.Nat.{add-mul, mul-assoc, mul-comm}
+use lib.Dec.{T, ltb, ltb→lt, nltb→le}
+use lib.IntN.{ℤ, pos, negsuc, negℤ, natAbs, _+ℤ_, _-ℤ_, _*ℤ_, negℤ-negℤ}
+use lib.Signed.{shrZ, mag, ltZ}
+use mir.Syntax.{w64}
+use mir.Val.{SFits, Fits, toZ, ofZ, sel}
+use mir.Facts.{toZ-ofZ}
+use Rattle.laws.specs.Integer.{up, dn, Parts, parts, ext, Lin, var, minus, times, _⊞_, _⊟_, Floor, floor-law, lt-yes, lt-no}
+
+-- the lowest 64 bits of z
+abbrev pub low64 : ℤ → ℕ
+low64 (pos n) = n % 2 ^ 64
+low64 (negsuc n) = 2 ^ 64 - 1 - n % 2 ^ 64
+
+unfoldable pub wrap : ℤ → ℤ
+wrap z = toZ w64 (low64 z)
+
+-- r is z less k times 2 ^ 64, and an i64
+pub record Wraps (z r : ℤ) : Type 0 where
+  pub k : ℤ
+  pub law : up r + dn z + 2 ^ 64 * up k ≡ dn r + up z + 2 ^ 64 * dn k
+  pub fits : mag r < 2 ^ 63
+
+pub unique : (z r s : ℤ) → Wraps z r → Wraps z s → r ≡ s
+unique z r s x y = ext (omega (arith, parts r, parts s))
+
+toZ-by : (n : ℕ) (b : Bool) → (T b → n < 2 ^ 63) → (T (not b) → 2 ^ 63 ≤ n) → n < 2 ^ 64 → Wraps (pos n) (sel b (pos n) (negsuc (2 ^ 64 - suc n)))
+toZ-by n true f g h = let l : n < 2 ^ 63 = f tt in record { k = pos 0; law = omega arith; fits = l }
+toZ-by n false f g h = let l : 2 ^ 63 ≤ n = g tt in record { k = pos 1; law = omega arith; fits = omega arith }
+
+pub toZ-wraps : (n : ℕ) → n < 2 ^ 64 → Wraps (pos n) (toZ w64 n)
+toZ-wraps n h = toZ-by n (ltb n (2 ^ 63)) (ltb→lt n (2 ^ 63)) (nltb→le n (2 ^ 63)) h
+
+low-lt : (z : ℤ) → low64 z < 2 ^ 64
+low-lt (pos n) = omega arith
+low-lt (negsuc n) = omega arith
+
+-- the lowest bits are z less 2 ^ 64 times its floor
+low-law : (z : ℤ) → low64 z + dn z + 2 ^ 64 * up (shrZ z (2 ^ 64)) ≡ up z + 2 ^ 64 * dn (shrZ z (2 ^ 64))
+low-law (pos n) = omega arith
+low-law (negsuc n) = omega arith
+
+pub wraps : (z : ℤ) → Wraps z (wrap z)
+unfolding wrap
+wraps z =
+    let w = toZ-wraps (low64 z) (low-lt z) in
+    let l = low-law z in
+    let q = shrZ z (2 ^ 64) in
+    let v = var (w .k) ⊞ var q in
+    record { k = w .k +ℤ q; law = omega arith; fits = w .fits }
+
+-- a number that fits is its own wrap
+pub wrap-fits : (z : ℤ) → SFits w64 z → wrap z ≡ z
+wrap-fits z f = unique z (wrap z) z (wraps z) (record { k = pos 0; law = omega arith; fits = f .sfits })
+
+-- an inner wrap changes nothing
+pub wrap-add : (a b : ℤ) → wrap (wrap a +ℤ b) ≡ wrap (a +ℤ b)
+wrap-add a b =
+    let x = wraps (wrap a +ℤ b) in
+    let y = wraps a in
+    let v = var (wrap a) ⊞ var b in
+    let w = var a ⊞ var b in
+    let u = var (x .k) ⊞ var (y .k) in
+    unique (a +ℤ b) _ _ (record { k = x .k +ℤ y .k; law = omega arith; fits = x .fits }) (wraps (a +ℤ b))
+
+pub wrap-sub-add : (a w : ℤ) → SFits w64 a → wrap (wrap (a -ℤ w) +ℤ w) ≡ a
+wrap-sub-add a w f =
+    let x = wraps (wrap (a -ℤ w) +ℤ w) in
+    let y = wraps (a -ℤ w) in
+    let v = var (wrap (a -ℤ w)) ⊞ var w in
+    let u = var a ⊟ var w in
+    let t = var (x .k) ⊞ var (y .k) in
+    unique a _ _ (record { k = x .k +ℤ y .k; law = omega arith; fits = x .fits }) (record { k = pos 0; law = omega arith; fits = f .sfits })
+
+-- by the machine's bits: n is z and j times 2 ^ 64
+pub wrap-bits : (z : ℤ) (n j : ℕ) → n + dn z ≡ up z + 2 ^ 64 * j → toZ w64 (n % 2 ^ 64) ≡ wrap z
+wrap-bits z n j h =
+    let x = toZ-wraps (n % 2 ^ 64) (omega arith) in
+    let q = n / 2 ^ 64 in
+    let v = var (pos q) ⊟ var (pos j) in
+    let w = var (x .k) ⊞ var (pos q -ℤ pos j) in
+    unique z _ _ (record { k = x .k +ℤ (pos q -ℤ pos j); law = omega arith; fits = x .fits }) (wraps z)
+
+-- 1 below zero
+abbrev pub sg : ℤ → ℕ
+sg (pos n) = 0
+sg (negsuc n) = 1
+
+pub sg-le : (z : ℤ) → sg z ≤ 1
+sg-le (pos n) = omega arith
+sg-le (negsuc n) = omega arith
+
+pub ofZ-law : (z : ℤ) → SFits w64 z → ofZ w64 z + dn z ≡ up z + 2 ^ 64 * sg z
+ofZ-law (pos n) f = omega arith
+ofZ-law (negsuc n) f = omega arith
+
+pub ofZ-lt : (z : ℤ) → SFits w64 z → ofZ w64 z < 2 ^ 64
+ofZ-lt (pos n) f = omega arith
+ofZ-lt (negsuc n) f = omega arith
+
+pub add-bits : (a b : ℤ) → SFits w64 a → SFits w64 b → toZ w64 ((ofZ w64 a + ofZ w64 b) % 2 ^ 64) ≡ wrap (a +ℤ b)
+add-bits a b f g =
+    let v = var a ⊞ var b in
+    wrap-bits (a +ℤ b) (ofZ w64 a + ofZ w64 b) (sg a + sg b) (omega (arith, ofZ-law a f, ofZ-law b g))
+
+-- what std::num's difference gives: r with (r + b) % 2 ^ 64 ≡ a
+pub sub-bits : (a b : ℤ) (r : ℕ) → SFits w64 a → SFits w64 b → r < 2 ^ 64 → (r + ofZ w64 b) % 2 ^ 64 ≡ ofZ w64 a → toZ w64 r ≡ wrap (a -ℤ b)
+sub-bits a b r f g h e =
+    let v = var a ⊟ var b in
+    let n = r + 2 ^ 64 in
+    let q = (r + ofZ w64 b) / 2 ^ 64 in
+    let m : n % 2 ^ 64 ≡ r = omega arith in
+    ap (toZ w64) (sym m) ∙ wrap-bits (a -ℤ b) n (1 + q + sg a - sg b) (omega (arith, ofZ-law a f, ofZ-law b g, ofZ-lt a f, ofZ-lt b g, sg-le b))
+
+pub tap-bits : (a : ℤ) (t : ℕ) → SFits w64 a → toZ w64 ((ofZ w64 a * t) % 2 ^ 64) ≡ wrap (pos t *ℤ a)
+tap-bits a t f =
+    let l = ofZ-law a f in
+    let v = times t (var a) in
+    let e : (ofZ w64 a + dn a) * t ≡ (up a + 2 ^ 64 * sg a) * t = ap (λ (x : ℕ). x * t) l in
+    wrap-bits (pos t *ℤ a) (ofZ w64 a * t) (sg a * t)
+    (omega (arith, add-mul (ofZ w64 a) (dn a) t, add-mul (up a) (2 ^ 64 * sg a) t, mul-assoc (2 ^ 64) (sg a) t, mul-comm t (up a), mul-comm t (dn a)))
+
+pub wrap-add-sub : (a w : ℤ) → SFits w64 a → wrap (wrap (a +ℤ w) -ℤ w) ≡ a
+wrap-add-sub a w f =
+    let x = wraps (wrap (a +ℤ w) -ℤ w) in
+    let y = wraps (a +ℤ w) in
+    let v = var (wrap (a +ℤ w)) ⊟ var w in
+    let u = var a ⊞ var w in
+    let t = var (x .k) ⊞ var (y .k) in
+    unique a _ _ (record { k = x .k +ℤ y .k; law = omega arith; fits = x .fits }) (record { k = pos 0; law = omega arith; fits = f .sfits })
+
+pub wrap-neg : (a : ℤ) → wrap (pos 0 -ℤ wrap a) ≡ wrap (negℤ a)
+wrap-neg a =
+    let x = wraps (pos 0 -ℤ wrap a) in
+    let y = wraps a in
+    let v = var (pos 0) ⊟ var (wrap a) in
+    let u = minus (var a) in
+    let t = var (x .k) ⊟ var (y .k) in
+    unique (negℤ a) _ _ (record { k = x .k -ℤ y .k; law = omega arith; fits = x .fits }) (wraps (negℤ a))
+
+pub neg-mul : (n : ℕ) (x : ℤ) → negsuc n *ℤ x ≡ negℤ (pos (suc n) *ℤ x)
+neg-mul n (pos a) = refl
+neg-mul n (negsuc a) = sym (negℤ-negℤ (pos (suc n * suc a)))
+
+-- by the sign of t
+pub mul-below : (t x : ℤ) → ltZ t (pos 0) ≡ true → wrap (pos 0 -ℤ wrap (pos (natAbs t) *ℤ x)) ≡ wrap (t *ℤ x)
+mul-below (pos n) x h = let l = lt-yes (pos n) (pos 0) h in absurd (omega arith)
+mul-below (negsuc n) x h = wrap-neg (pos (suc n) *ℤ x) ∙ ap wrap (sym (neg-mul n x))
+
+pub mul-plain : (t x : ℤ) → ltZ t (pos 0) ≡ false → wrap (pos (natAbs t) *ℤ x) ≡ wrap (t *ℤ x)
+mul-plain (pos n) x h = refl
+mul-plain (negsuc n) x h = let l = lt-no (negsuc n) (pos 0) h in absurd (omega arith)
