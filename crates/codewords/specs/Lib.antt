@@ -1,0 +1,10 @@
+pub mod Bit
+pub mod Code
+pub mod Read
+pub mod Bytes
+pub mod BitLaws
+pub mod CodeLaws
+pub mod ByteLaws
+pub mod ReadLaws
+pub mod Writer
+pub mod WriterLaws
