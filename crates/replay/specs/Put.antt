@@ -1,0 +1,30 @@
+-- What a case puts behind its ones. Assumes nothing.
+use mathlib.Core.Path.{_≡_}
+use Prim.Native.Nat.{ℕ, _+_, _≤_, _<_, _^_}
+use native.Mathlib.Omega.{arith}
+use mir.Syntax.{w64}
+use mir.Val.{SFits}
+use lib.ListN.{length}
+use Rattle.laws.specs.Machine.{unfit}
+use Rattle.codewords.specs.Bit.{Bits, lit}
+use Rattle.codewords.specs.BitLaws.{length-lit}
+use Rattle.codewords.specs.Code.{log2, codeU, codeS}
+use Rattle.codewords.specs.CodeLaws.{length-codeU, leading-log2, codeS-short}
+use Rattle.replay.specs.declared.words.Put.{Put}
+use Rattle.replay.specs.declared.words.Put.the-variants.{Uint, Sint, Nbits}
+
+abbrev pub bitsOf : Put → Bits
+bitsOf (Uint v) = codeU v
+bitsOf (Sint z) = codeS z
+bitsOf (Nbits n v) = lit n v
+
+-- a number that the writer takes
+abbrev pub Legal : Put → Type 0
+Legal (Uint v) = v < 2 ^ 32
+Legal (Sint z) = SFits w64 z
+Legal (Nbits n v) = n ≤ 64
+
+pub short : (p : Put) → Legal p → length (bitsOf p) ≤ 128
+short (Uint v) h = omega (arith, length-codeU v, leading-log2 33 (v + 1) (omega arith) (omega arith))
+short (Sint z) h = codeS-short z (unfit z h)
+short (Nbits n v) h = omega (arith, length-lit n v)

@@ -1,0 +1,92 @@
+// Replays recorded answers of the Rust: each case on standard input is run here, and what comes out is compared with what was recorded.
+//
+// The input is 64-bit words, high byte first. A case is a word K * 2^32 + N, its kind and the number of words that follow, and then
+// these words. Signed numbers are in two's complement. Packed bytes stand eight to a word, high byte first, zeros behind the last.
+//   1  uint_code_len: v, length
+//   2  sint_code_len: v, length
+//   3  put_uint: s, v, bits, packed bytes. s ones (0 to 7) are put first; bits counts all, and zeros fill the last byte
+//   4  put_sint: s, v, bits, packed bytes
+//   5  put_nbits: s, n, v, bits, packed bytes
+// What is printed: a line for each case that differs or is malformed, with its number from 1 on and its kind; then for each kind how
+// many were run and how many differ, and how many cases were malformed. A case of another kind or form is malformed; one that is cut
+// off, or longer than 8,192 words, is malformed and ends the run.
+mod case;
+mod tally;
+mod words;
+
+use case::Verdict;
+use libc::STDIN_FILENO;
+use tally::Tally;
+ghost use Prim.Native.Nat.{_+_, _*_, _≤_, _<_};
+ghost use mathlib.Core.Path.{_≡_};
+ghost use lib.ListN.{length};
+
+// A case of n words is run.
+fn run_case(kind: u64, w: &[u64]) -> Verdict {
+    match kind {
+        1 => words::uint_len(w),
+        2 => words::sint_len(w),
+        3 => words::uint_bits(w),
+        4 => words::sint_bits(w),
+        5 => words::nbits_bits(w),
+        _ => Verdict::Malformed,
+    }
+}
+
+// The words of a case whose n words were read into bytes are run.
+fn run_bytes(kind: u64, n: usize, bytes: &[u8], words: &mut [u64]) -> Verdict
+    requires { ⌜ (8 * n ≤ length (now bytes)) × (n ≤ length (now words)) ⌝ }
+{
+    case::unpack(bytes, n, words);
+    run_case(kind, &words[..n])
+}
+
+// One case more is read and run.
+fn step(bytes: &mut [u8], words: &mut [u64], t: Tally) -> Tally
+    requires { ⌜ (65536 ≡ length (now bytes)) × (8192 ≡ length (now words)) ⌝ }
+{
+    let head = io::read_full(STDIN_FILENO, &mut bytes[..8]);
+    if head == 0 {
+        return t.ended();
+    }
+    if head < 8 {
+        return t.cut(0);
+    }
+    let first = case::word_at(bytes, 0);
+    let kind = first / 0x1_0000_0000;
+    let n = (first % 0x1_0000_0000) as usize;
+    if n > 8192 {
+        return t.cut(kind);
+    }
+    let e = 8 * n;
+    let got = io::read_full(STDIN_FILENO, &mut bytes[..e]);
+    if got < e {
+        return t.cut(kind);
+    }
+    let v = run_bytes(kind, n, bytes, words);
+    t.counted(kind, v)
+}
+
+// All cases, at most a million.
+fn replay(bytes: &mut [u8], words: &mut [u64]) -> Tally
+    requires { ⌜ (65536 ≡ length (now bytes)) × (8192 ≡ length (now words)) ⌝ }
+{
+    let mut t = Tally::new();
+    let mut turns: u64 = 1000000;
+    while 0 < turns {
+        t = step(bytes, words, t);
+        if t.done {
+            turns = 0;
+        } else {
+            turns -= 1;
+        }
+    }
+    t
+}
+
+fn main() {
+    let mut bytes = [0u8; 65536];
+    let mut words = [0u64; 8192];
+    let t = replay(&mut bytes, &mut words);
+    t.print();
+}

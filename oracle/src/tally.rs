@@ -1,0 +1,99 @@
+//! Counts over a run of jobs, so that its coverage can be seen.
+
+use crate::jobs::{Answered, Job};
+use crate::picture::{Kind, Outcome, Rate, Settings};
+use crate::unit;
+use std::collections::BTreeMap;
+use std::fmt;
+
+#[derive(Default)]
+pub struct Tally {
+    jobs: u64,
+    answers: BTreeMap<u32, u64>,
+    malformed: u64,
+    accepted: BTreeMap<String, u64>,
+    largest_scaler: u64,
+    longest_unit: usize,
+}
+
+impl Tally {
+    pub fn add(&mut self, answered: &Answered) {
+        self.jobs += 1;
+        match &answered.outcome {
+            None => self.malformed += 1,
+            Some((job, outcome)) => {
+                *self.answers.entry(outcome.answer).or_default() += 1;
+                if outcome.answer == 0 {
+                    self.add_accepted(job, outcome);
+                }
+            }
+        }
+    }
+
+    fn count(&mut self, what: impl Into<String>, n: u64) {
+        *self.accepted.entry(what.into()).or_default() += n;
+    }
+
+    fn add_accepted(&mut self, job: &Job, outcome: &Outcome) {
+        let s = job.settings();
+        let read = unit::read(&outcome.unit, s.version_3()).expect("the unit was read before");
+        let low_delay = s.kind == Kind::LowDelay;
+        self.count(if low_delay { "low delay" } else { "high quality" }, 1);
+        self.count(format!("wavelet {}", s.wavelet), 1);
+        self.count(format!("format {}", s.format), 1);
+        self.count(format!("depths {}", s.depth + s.depth_ho), 1);
+        let level_0 = s.padded(s.sizes()[0]).width >> (s.depth + s.depth_ho);
+        let bits = [s.luma_excursion, s.colour_excursion, s.colour_excursion];
+        let above = |(plane, excursion): (&Vec<u32>, u32)| {
+            plane.iter().any(|&v| v >> Settings::sample_depth(excursion) != 0)
+        };
+        for (what, holds) in [
+            ("mixed wavelets", s.wavelet != s.wavelet_ho),
+            ("horizontal-only levels", s.depth_ho != 0),
+            ("fields", s.mode == 1),
+            ("extended", s.extended),
+            ("custom matrix", s.custom),
+            ("rate lossless", s.rate == Rate::Lossless),
+            ("rate index", matches!(s.rate, Rate::Index(_))),
+            ("rate bytes", matches!(s.rate, Rate::Bytes(_))),
+            ("target 0", s.rate == Rate::Bytes(0)),
+            ("padded luma", s.padded(s.sizes()[0]).area() != s.sizes()[0].area()),
+            ("slices without level-0 places", s.across as u64 > level_0),
+            ("samples above the depth", job.planes.iter().zip(bits).any(above)),
+            ("pictures with cut slices", outcome.cut != 0),
+            ("raised scalers", outcome.scaler > s.scaler as u64),
+            (
+                "raised scalers at a byte target",
+                outcome.scaler > s.scaler as u64 && matches!(s.rate, Rate::Bytes(_)),
+            ),
+        ] {
+            self.count(what, holds as u64);
+        }
+        self.count("slices", read.slices.len() as u64);
+        self.count("cut slices", outcome.cut);
+        let kept_zeros = read.slices.iter().filter(|x| x.luma_ends_in_zero).count();
+        self.count("cut slices with a luma run that ends in 0", kept_zeros as u64);
+        let one_byte = read.slices.iter().filter(|x| low_delay && x.length == 1).count();
+        self.count("one-byte slices", one_byte as u64);
+        self.largest_scaler = self.largest_scaler.max(outcome.scaler);
+        self.longest_unit = self.longest_unit.max(outcome.unit.len());
+    }
+}
+
+impl fmt::Display for Tally {
+    fn fmt(&self, f: &mut fmt::Formatter) -> fmt::Result {
+        let answers: Vec<String> = self.answers.iter().map(|(a, n)| format!("{a}: {n}")).collect();
+        writeln!(
+            f,
+            "{} jobs, {} malformed, answers {}",
+            self.jobs,
+            self.malformed,
+            answers.join(", ")
+        )?;
+        writeln!(f, "of the accepted ones:")?;
+        for (what, n) in &self.accepted {
+            writeln!(f, "  {what}: {n}")?;
+        }
+        write!(f, "  largest scaler {}, longest unit {}", self.largest_scaler, self.longest_unit)
+    }
+}
