@@ -37,3 +37,9 @@ codeS z = codeU (natAbs z) ++ sign z
 unfoldable pub codes : List ℤ → Bits
 codes [] = []
 codes (y ∷ ys) = codeS y ++ codes ys
+
+-- the first n of ys, with zeros where ys is too short
+unfoldable pub zeroFilled : ℕ → List ℤ → List ℤ
+zeroFilled zero ys = []
+zeroFilled (suc n) [] = pos zero ∷ zeroFilled n []
+zeroFilled (suc n) (y ∷ ys) = y ∷ zeroFilled n ys

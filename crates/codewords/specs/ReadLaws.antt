@@ -12,7 +12,7 @@ use lib.ListN.{length, drop, length-append, replicate}
 use lib.Seq.{drop-at}
 use Rattle.codewords.specs.Bit.{Bits, val, lit, value, ones}
 use Rattle.codewords.specs.BitLaws.{length-lit, value-of-lit}
-use Rattle.codewords.specs.Code.{log2, interleaved, codeU, sign, codeS, codes}
+use Rattle.codewords.specs.Code.{log2, interleaved, codeU, sign, codeS, codes, zeroFilled}
 use Rattle.codewords.specs.CodeLaws.{value-code}
 use Rattle.codewords.specs.Read.{Read, got, stop, Parser, pure, field, checked, such, after, _>>=_, nbitsFrom, readNbits, boolFrom, readBool, uintFrom, readUint, signFrom, sintFrom, readSint, byteAlign, splitFrom, readBits, uintb, signb, sintb, sintsb}
 use Rattle.codewords.specs.ByteLaws.{Full, full-append}
@@ -32,6 +32,11 @@ reads-bind {p = p} {w = w} f {v = v} a b = record {
   at = λ rest.
       ap (λ s. after (p s) f) (append-assoc w v rest) ∙ ap (λ o. after o f) (a .at (v ++ rest)) ∙ b .at rest;
 }
+
+-- a last step that reads nothing more
+pub reads-last : {A B : Type 0} {p : Parser A} {w : Bits} {x : A} (f : A → Parser B) {y : B} → Reads p w x → Reads (f x) [] y → Reads (p >>= f) w y
+unfolding _>>=_
+reads-last f a b = record { at = λ rest. ap (λ o. after o f) (a .at rest) ∙ b .at rest }
 
 cond-true : {A : Type 0} (b : Bool) (x y : A) → T b → cond b x y ≡ x
 cond-true true x y t = refl
@@ -169,15 +174,9 @@ sintb-code z rest =
     last (pos (suc n)) = refl
     last (negsuc n) = refl
 
--- the first n of ys, with zeros where ys is too short
-unfoldable pub padded : ℕ → List ℤ → List ℤ
-padded zero ys = []
-padded (suc n) [] = pos zero ∷ padded n []
-padded (suc n) (y ∷ ys) = y ∷ padded n ys
-
 -- a block that holds the codes of a run and then ones gives the run and then zeros, for any count asked
-pub block-codes : (n : ℕ) (ys : List ℤ) (j : ℕ) → sintsb n (codes ys ++ ones j) ≡ padded n ys
-unfolding sintsb codes padded sintb uintb
+pub block-codes : (n : ℕ) (ys : List ℤ) (j : ℕ) → sintsb n (codes ys ++ ones j) ≡ zeroFilled n ys
+unfolding sintsb codes zeroFilled sintb uintb
 block-codes zero ys j = refl
 block-codes (suc n) [] zero = ap (λ (r : List ℤ). pos zero ∷ r) (block-codes n [] zero)
 block-codes (suc n) [] (suc j) = ap (λ (r : List ℤ). pos zero ∷ r) (block-codes n [] j)
