@@ -7,10 +7,16 @@
 //   3  put_uint: s, v, bits, packed bytes. s ones (0 to 7) are put first; bits counts all, and zeros fill the last byte
 //   4  put_sint: s, v, bits, packed bytes
 //   5  put_nbits: s, n, v, bits, packed bytes
+//   16  quant_factor: index, answer (0, or 6), value (0 if refused)
+//   17  quant_offset: index, answer, value
+//   18  forward_quant: coefficient, index, answer, value
+//   19  inverse_quant: number, index, answer, value
+//   20  default_quant_matrix: wavelet, horizontal-only wavelet, depth, horizontal-only depth, count (0 if there is none), values
 // What is printed: a line for each case that differs or is malformed, with its number from 1 on and its kind; then for each kind how
 // many were run and how many differ, and how many cases were malformed. A case of another kind or form is malformed; one that is cut
 // off, or longer than 8,192 words, is malformed and ends the run.
 mod case;
+mod quant;
 mod tally;
 mod words;
 
@@ -21,6 +27,18 @@ ghost use Prim.Native.Nat.{_+_, _*_, _≤_, _<_};
 ghost use mathlib.Core.Path.{_≡_};
 ghost use lib.ListN.{length};
 
+// A case of the quantiser is run.
+fn run_quant(kind: u64, w: &[u64]) -> Verdict {
+    match kind {
+        16 => quant::factor(w),
+        17 => quant::offset(w),
+        18 => quant::forward(w),
+        19 => quant::inverse(w),
+        20 => quant::matrix(w),
+        _ => Verdict::Malformed,
+    }
+}
+
 // A case of n words is run.
 fn run_case(kind: u64, w: &[u64]) -> Verdict {
     match kind {
@@ -29,7 +47,7 @@ fn run_case(kind: u64, w: &[u64]) -> Verdict {
         3 => words::uint_bits(w),
         4 => words::sint_bits(w),
         5 => words::nbits_bits(w),
-        _ => Verdict::Malformed,
+        _ => run_quant(kind, w),
     }
 }
 

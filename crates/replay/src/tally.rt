@@ -101,6 +101,11 @@ impl Tally {
         self.line(b"put_uint", 3);
         self.line(b"put_sint", 4);
         self.line(b"put_nbits", 5);
+        self.line(b"quant_factor", 16);
+        self.line(b"quant_offset", 17);
+        self.line(b"forward_quant", 18);
+        self.line(b"inverse_quant", 19);
+        self.line(b"default_quant_matrix", 20);
         io::write_all(STDOUT_FILENO, b"malformed: ");
         io::print_decimal(STDOUT_FILENO, self.malformed);
         io::write_all(STDOUT_FILENO, b"\n");

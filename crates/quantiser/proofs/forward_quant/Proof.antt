@@ -1,0 +1,32 @@
+-- `quantiser::forward_quant` meets its contract. Assumes nothing.
+use mathlib.Core.Path.{_∙_}
+use mir.Syntax.{w64}
+use mir.Facts.{toZ-ofZ}
+use borrow.Author.Needs.{needs}
+use Rattle.quantiser.specs.Quant.{forwardQuant}
+use Rattle.quantiser.specs.StepLaws.{back, refused, answered}
+use Rattle.quantiser.proofs.forward_quant.Statement.{statement}
+use Rattle.quantiser.proofs.forward_quant.Tie as tie
+use Rattle.quantiser.proofs.forward_quant.Reads as reads
+use Rattle.quantiser.proofs.forward_quant.Lts as lts
+use Rattle.quantiser.proofs.factors.factor_at.Reads as factor-at-reads
+use Rattle.quantiser.proofs.forward_by.Reads as forward-by-reads
+
+returns : tie.Need-returns
+returns c = refused (c .before .args .index) _ (c .if1 .taken)
+
+factor-at-requires : tie.Need-factor-at-requires
+factor-at-requires c κs = search needs
+
+forward-by-requires : tie.Need-forward-by-requires
+forward-by-requires c κs = search needs
+
+returns-2 : tie.Need-returns-2
+unfolding forwardQuant
+returns-2 c =
+    let s = c .before .before .before in
+    answered (s .args .index) _ _ (c .before .before .if1 .left)
+    (back _ (c .forward-by .ok) ∙ c .forward-by .ensures ∙ rw (c .before .factor-at .ensures .0, toZ-ofZ {w = w64} (s .fits .coeff)))
+
+pub forward-quant-spec : {M : Type 1} → statement M
+forward-quant-spec = tie.close (tie.spec returns factor-at-requires forward-by-requires returns-2)

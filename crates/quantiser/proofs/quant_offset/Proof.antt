@@ -1,0 +1,27 @@
+-- `quantiser::quant_offset` meets its contract. Assumes nothing.
+use mathlib.Core.Path.{ap, _∙_}
+use lib.IntN.{pos}
+use mir.Syntax.{w64}
+use mir.Facts.{toZ-pos}
+use borrow.Author.Needs.{needs}
+use Rattle.quantiser.specs.StepLaws.{refused, answered}
+use Rattle.quantiser.proofs.quant_offset.Statement.{statement}
+use Rattle.quantiser.proofs.quant_offset.Tie as tie
+use Rattle.quantiser.proofs.quant_offset.Reads as reads
+use Rattle.quantiser.proofs.quant_offset.Lts as lts
+use Rattle.quantiser.proofs.factors.offset_at.Reads as offset-at-reads
+
+returns : tie.Need-returns
+returns c = refused (c .before .args .index) _ (c .if1 .taken)
+
+offset-at-requires : tie.Need-offset-at-requires
+offset-at-requires c κs = search needs
+
+cast-t4 : tie.Need-cast-t4
+cast-t4 c = search needs
+
+returns-2 : tie.Need-returns-2
+returns-2 c = answered (c .before .before .args .index) _ _ (c .before .if1 .left) (toZ-pos w64 (c .offset-at .ensures .1) ∙ ap pos (c .offset-at .ensures .0))
+
+pub quant-offset-spec : {M : Type 1} → statement M
+quant-offset-spec = tie.close (tie.spec returns offset-at-requires cast-t4 returns-2)

@@ -1,0 +1,14 @@
+pub mod Standard
+pub mod Quant
+pub mod Answer
+pub mod Step
+pub mod AnnexD
+pub mod Default
+pub mod Cells
+pub mod TableLaws
+pub mod CellLaws
+pub mod CapLaws
+pub mod SignLaws
+pub mod StepLaws
+pub mod QuantLaws
+pub mod Examples

@@ -1,0 +1,155 @@
+// Factors, offsets and the quantiser, and the default matrices. The port of quant.rs.
+pub mod annex_d;
+pub mod factors;
+
+ghost use mathlib.Core.Path.{_≡_};
+ghost use Prim.Native.Nat.{ℕ, _+_, _*_, _/_, _%_, _≤_, _<_, _^_};
+ghost use lib.IntN.{ℤ, pos};
+ghost use Rattle.quantiser.specs.Answer.{Answered};
+ghost use Rattle.quantiser.specs.Standard.{signed};
+ghost use Rattle.quantiser.specs.Quant.{cap, quantFactor, quantOffset, forwardBy, forwardQuant, inverseBy, inverseQuant};
+ghost use Rattle.quantiser.specs.Step.{Doubles, Step};
+
+// A call's value, or its refusal's number in document 01.
+pub enum QuantAnswer {
+    Value(i64),
+    Refused(u32),
+}
+
+pub fn quant_factor(index: u32) -> QuantAnswer
+    ensures { λ r. ⌜ Answered index (pos (quantFactor index)) r ⌝ }
+{
+    if index > 255 {
+        return QuantAnswer::Refused(6);
+    }
+    QuantAnswer::Value(factors::factor_at(index) as i64)
+}
+
+pub fn quant_offset(index: u32) -> QuantAnswer
+    ensures { λ r. ⌜ Answered index (pos (quantOffset index)) r ⌝ }
+{
+    if index > 255 {
+        return QuantAnswer::Refused(6);
+    }
+    QuantAnswer::Value(factors::offset_at(index) as i64)
+}
+
+pub fn forward_quant(coeff: i64, index: u32) -> QuantAnswer
+    ensures { λ r. ⌜ Answered index (forwardQuant coeff index) r ⌝ }
+{
+    if index > 255 {
+        return QuantAnswer::Refused(6);
+    }
+    QuantAnswer::Value(forward_by(coeff, factors::factor_at(index)))
+}
+
+pub fn inverse_quant(number: i64, index: u32) -> QuantAnswer
+    ensures { λ r. ⌜ Answered index (inverseQuant number index) r ⌝ }
+{
+    if index > 255 {
+        return QuantAnswer::Refused(6);
+    }
+    QuantAnswer::Value(inverse_by(number, factors::factor_at(index), factors::offset_at(index)))
+}
+
+// The sign of z on the magnitude m.
+fn signed(z: i64, m: u64) -> i64
+    requires { ⌜ m < 2 ^ 63 ⌝ }
+    ensures { λ r. ⌜ r ≡ signed z m ⌝ }
+{
+    let n = m as i64;
+    if z < 0 { 0 - n } else { n }
+}
+
+// A number at most 2^63 - 1.
+fn cap(n: u64) -> u64
+    ensures { λ r. ⌜ (r ≡ cap n) × (r < 2 ^ 63) ⌝ }
+{
+    if n < 0x7FFF_FFFF_FFFF_FFFF {
+        n
+    } else {
+        0x7FFF_FFFF_FFFF_FFFF
+    }
+}
+
+// A quotient and its remainder.
+pub struct Quotient {
+    pub quotient: u64,
+    pub remainder: u64,
+}
+
+// Those of twice the dividend.
+fn doubled(q: Quotient, f: u64) -> Quotient
+    requires { ⌜ (q .quotient < 2 ^ 63) × ((q .remainder < f) × (f < 2 ^ 63)) ⌝ }
+    ensures { λ r. ⌜ Doubles f q r ⌝ }
+{
+    let q2 = 2 * q.quotient;
+    let r2 = 2 * q.remainder;
+    if r2 < f {
+        Quotient {
+            quotient: q2,
+            remainder: r2,
+        }
+    } else {
+        Quotient {
+            quotient: q2 + 1,
+            remainder: r2 - f,
+        }
+    }
+}
+
+// Four times c over the factor f, truncated and capped: a quotient and a remainder doubled twice. For the layers above.
+pub fn forward_by(c: i64, f: u64) -> i64
+    requires { ⌜ (4 ≤ f) × (f < 2 ^ 63) ⌝ }
+    ensures { λ r. ⌜ r ≡ forwardBy f c ⌝ }
+{
+    let m = codewords::unsigned_abs(c);
+    let once = Quotient {
+        quotient: m / f,
+        remainder: m % f,
+    };
+    let four = doubled(doubled(once, f), f);
+    signed(c, cap(four.quotient))
+}
+
+// The product, capped.
+fn capped_mul(a: u64, b: u64) -> u64
+    requires { ⌜ 0 < b ⌝ }
+    ensures { λ r. ⌜ (r ≡ cap (a * b)) × (r < 2 ^ 63) ⌝ }
+{
+    if a > 0x7FFF_FFFF_FFFF_FFFF / b {
+        0x7FFF_FFFF_FFFF_FFFF
+    } else {
+        a * b
+    }
+}
+
+// The number q rebuilt at the factor f and the offset off. For the layers above.
+pub fn inverse_by(q: i64, f: u64, off: u64) -> i64
+    requires { ⌜ (4 ≤ f) × (off < 2 ^ 63) ⌝ }
+    ensures { λ r. ⌜ r ≡ inverseBy f off q ⌝ }
+{
+    let m = codewords::unsigned_abs(q);
+    if m == 0 {
+        return 0;
+    }
+    let product = capped_mul(cap(m), f);
+    let sum = cap(cap(product + off) + 2);
+    signed(q, sum / 4)
+}
+
+// A coefficient's number and what is rebuilt of it.
+pub struct Quantised {
+    pub number: i64,
+    pub rebuilt: i64,
+}
+
+// The quantising step: both together. For the layers above.
+pub fn quantise(c: i64, f: u64, off: u64) -> Quantised
+    requires { ⌜ (4 ≤ f) × ((f < 2 ^ 63) × (off < 2 ^ 63)) ⌝ }
+    ensures { λ r. ⌜ Step f off c r ⌝ }
+{
+    let number = forward_by(c, f);
+    let rebuilt = inverse_by(number, f, off);
+    Quantised { number, rebuilt }
+}
