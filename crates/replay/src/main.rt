@@ -12,12 +12,17 @@
 //   18  forward_quant: coefficient, index, answer, value
 //   19  inverse_quant: number, index, answer, value
 //   20  default_quant_matrix: wavelet, horizontal-only wavelet, depth, horizontal-only depth, count (0 if there is none), values
+//   32  oned_analysis: wavelet, answer (0, 1), n, row (n words), row after the call (n words)
+//   33  dwt: wavelet, horizontal-only wavelet, depth, horizontal-only depth, width, height, d (the offset is 2^(d-1)), samples, all
+//       coefficients of the padded component in subband order, each band row by row
+//   34  long row: wavelet, n, answer (0, 1 or 15) for a row of n zeros
 // What is printed: a line for each case that differs or is malformed, with its number from 1 on and its kind; then for each kind how
 // many were run and how many differ, and how many cases were malformed. A case of another kind or form is malformed; one that is cut
 // off, or longer than 8,192 words, is malformed and ends the run.
 mod case;
 mod quant;
 mod tally;
+mod transform;
 mod words;
 
 use case::Verdict;
@@ -39,6 +44,16 @@ fn run_quant(kind: u64, w: &[u64]) -> Verdict {
     }
 }
 
+// A case of the transform is run.
+fn run_transform(kind: u64, w: &[u64]) -> Verdict {
+    match kind {
+        32 => transform::row(w),
+        33 => transform::dwt(w),
+        34 => transform::long_row(w),
+        _ => run_quant(kind, w),
+    }
+}
+
 // A case of n words is run.
 fn run_case(kind: u64, w: &[u64]) -> Verdict {
     match kind {
@@ -47,7 +62,7 @@ fn run_case(kind: u64, w: &[u64]) -> Verdict {
         3 => words::uint_bits(w),
         4 => words::sint_bits(w),
         5 => words::nbits_bits(w),
-        _ => run_quant(kind, w),
+        _ => run_transform(kind, w),
     }
 }
 

@@ -106,6 +106,9 @@ impl Tally {
         self.line(b"forward_quant", 18);
         self.line(b"inverse_quant", 19);
         self.line(b"default_quant_matrix", 20);
+        self.line(b"oned_analysis", 32);
+        self.line(b"dwt", 33);
+        self.line(b"long row", 34);
         io::write_all(STDOUT_FILENO, b"malformed: ");
         io::print_decimal(STDOUT_FILENO, self.malformed);
         io::write_all(STDOUT_FILENO, b"\n");

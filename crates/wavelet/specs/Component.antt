@@ -1,0 +1,88 @@
+-- A component from its samples to its coefficients, and components one after the other. Assumes nothing.
+use mathlib.Core.Path.{_≡_, refl, sym, ap, ap₂, _∙_}
+use Prim.Native.Nat.{ℕ, _+_, _*_, _-_, _≤_}
+use native.Mathlib.Omega.{arith}
+use native.Mathlib.Nat.{zero-add}
+use mathlib.Core.List.{List, [], _++_, append-assoc}
+use lib.ListN.{length, take, drop, length-append, length-drop}
+use lib.Seq.{take-at, drop-at, drop-drop, length-take-le}
+use lib.IntN.{ℤ}
+use Rattle.laws.specs.Wrap.{wrap}
+use Rattle.laws.specs.Window.{piece, put, put-lent, put-again, piece-put, drop-put}
+use Rattle.laws.specs.Plane.{asPlane, asList, length-asList}
+use Rattle.wavelet.specs.PlaneLaws.{dwt-cong}
+use Rattle.wavelet.specs.PlaneLists.{plane-is}
+use Rattle.wavelet.specs.Pad.{padded, componentOf}
+use Rattle.wavelet.specs.Level.{Place}
+use Rattle.wavelet.specs.Walk.{Deep, coefficientsOf}
+use Rattle.wavelet.specs.declared.component.Component as Sides
+use Rattle.wavelet.specs.declared.component.Transform as Levels
+
+-- what a component asks
+pub record ComponentIn (c : Sides.Component) (t : Levels.Transform) (s : List ℕ) (n off : ℕ) (l : List ℤ) : Type 0 where
+  pub deep : Deep (t .k) (t .d) (c .ph) (c .pw) (t .ih) (t .iv)
+  pub place : Place n off (c .ph * c .pw) l
+  pub some : (1 ≤ c .w) × (1 ≤ c .h)
+  pub whole : c .h * c .w ≤ length s
+
+-- what three components ask: the colours are alike
+pub record ComponentsIn (luma colour : Sides.Component) (t : Levels.Transform) (y u v : List ℕ) (n : ℕ) (l : List ℤ) : Type 0 where
+  pub deep : Deep (t .k) (t .d) (luma .ph) (luma .pw) (t .ih) (t .iv)
+  pub colours : Deep (t .k) (t .d) (colour .ph) (colour .pw) (t .ih) (t .iv)
+  pub some : (1 ≤ luma .w) × (1 ≤ luma .h)
+  pub some-colours : (1 ≤ colour .w) × (1 ≤ colour .h)
+  pub whole-y : luma .h * luma .w ≤ length y
+  pub whole-u : colour .h * colour .w ≤ length u
+  pub whole-v : colour .h * colour .w ≤ length v
+  pub room : (luma .ph * luma .pw ≤ n) × (colour .ph * colour .pw ≤ n)
+  pub fits : n + (luma .ph * luma .pw + colour .ph * colour .pw + colour .ph * colour .pw) ≤ length l
+
+-- the plane is padded in its own part, which was lent, and then analysed
+pub component-is : (i j k d : ℕ) (s : List ℕ) (o w h pw ph n off : ℕ) (l ys l2 : List ℤ) → Place n off (ph * pw) l → ys ≡ asList ph pw (padded s o w h)
+    → drop n l2 ≡ put off (ph * pw) (coefficientsOf i j k d ph pw (piece off (ph * pw) (drop n (take (n + off) l ++ (ys ++ drop (n + off + ph * pw - (n + off)) (drop (n + off) l))))))
+    (drop n (take (n + off) l ++ (ys ++ drop (n + off + ph * pw - (n + off)) (drop (n + off) l))))
+    → drop n l2 ≡ put off (ph * pw) (componentOf i j k d s o w h pw ph) (drop n l)
+component-is i j k d s o w h pw ph n off l ys l2 p ey e2 =
+    let P = padded s o w h in
+    let x = asList ph pw P in
+    let u = drop n l in
+    let m : ℕ = ph * pw in
+    let fit : off + m ≤ length u = rw (length-drop n l) (omega (arith, p .fits)) in
+    let long : length x ≡ m = length-asList ph pw P in
+    let view : drop n (take (n + off) l ++ (ys ++ drop (n + off + m - (n + off)) (drop (n + off) l))) ≡ put off m x u =
+    ap (drop n) (put-lent (n + off) m ys l ∙ ap (λ (z : List ℤ). put (n + off) m z l) ey) ∙ drop-put n off m x l (omega (arith, p .fits)) in
+    let same : piece off m (put off m x u) ≡ x = piece-put off m x u fit long in
+    let B : coefficientsOf i j k d ph pw x ≡ componentOf i j k d s o w h pw ph = dwt-cong wrap i j k d ph pw (asPlane pw x) P (plane-is ph pw P) in
+    e2 ∙ ap (λ (v : List ℤ). put off m (coefficientsOf i j k d ph pw (piece off m v)) v) view
+    ∙ ap (λ (y : List ℤ). put off m (coefficientsOf i j k d ph pw y) (put off m x u)) same ∙ put-again off m x u fit long (coefficientsOf i j k d ph pw x)
+    ∙ ap (λ (y : List ℤ). put off m y u) B
+
+-- one after the other: done is there, and the next one goes behind it
+lay-next : (done ys v u : List ℤ) (off m : ℕ) → off ≡ length done → v ≡ done ++ drop off u → put off m ys v ≡ done ++ ys ++ drop (off + m) u
+unfolding put
+lay-next done ys v u off m e f =
+    let t : take off v ≡ done = ap (take off) f ∙ take-at done (drop off u) off (sym e) in
+    let d : drop (off + m) v ≡ drop (off + m) u = sym (drop-drop m off v) ∙ ap (λ (z : List ℤ). drop m (drop off z)) f ∙ ap (drop m) (drop-at done (drop off u) off (sym e)) ∙ drop-drop m off u in
+    ap₂ (λ (x y : List ℤ). x ++ (ys ++ y)) t d ∙ sym (append-assoc done ys (drop (off + m) u))
+
+put-long : (off m : ℕ) (ys v u : List ℤ) → v ≡ put off m ys u → off + m ≤ length u → length v ≡ length u → length ys ≡ m
+unfolding put
+put-long off m ys v u e f g =
+    let a = length-take-le off u (omega arith) in
+    let b = ap length e ∙ length-append (take off u) (ys ++ drop (off + m) u) ∙ ap (λ (k : ℕ). length (take off u) + k) (length-append ys (drop (off + m) u)) in
+    omega (arith, a, b, length-drop (off + m) u)
+
+pub three-are : (n m c : ℕ) (l0 l1 l2 l3 A B C : List ℤ) → n + (m + c + c) ≤ length l0 → length l1 ≡ length l0 → length l2 ≡ length l1
+    → drop n l1 ≡ put 0 m A (drop n l0) → drop n l2 ≡ put m c B (drop n l1) → drop n l3 ≡ put (m + c) c C (drop n l2)
+    → drop n l3 ≡ A ++ B ++ C ++ drop (m + c + c) (drop n l0)
+three-are n m c l0 l1 l2 l3 A B C fits g1 g2 e1 e2 e3 =
+    let u = drop n l0 in
+    let d0 = length-drop n l0 in
+    let d1 = length-drop n l1 in
+    let d2 = length-drop n l2 in
+    let a : length A ≡ m = put-long 0 m A (drop n l1) u e1 (omega arith) (omega arith) in
+    let b : length B ≡ c = put-long m c B (drop n l2) (drop n l1) e2 (omega arith) (omega arith) in
+    let v1 : drop n l1 ≡ A ++ drop m u = e1 ∙ lay-next [] A u u 0 m refl refl ∙ ap (λ (k : ℕ). A ++ drop k u) (zero-add m) in
+    let v2 : drop n l2 ≡ A ++ B ++ drop (m + c) u = e2 ∙ lay-next A B (drop n l1) u m c (sym a) v1 in
+    let ab : m + c ≡ length (A ++ B) = sym (length-append A B ∙ ap₂ _+_ a b) in
+    e3 ∙ lay-next (A ++ B) C (drop n l2) u (m + c) c ab v2

@@ -1,0 +1,215 @@
+-- What the code's runs of updates leave, and that they make up a lifting stage of a row. Assumes nothing.
+use mathlib.Core.Path.{_≡_, refl, sym, ap, ap₂, _∙_}
+use mathlib.Core.Bool.{Bool, not}
+use mathlib.Core.Logic.{_≢_}
+use Prim.Native.Nat.{ℕ, zero, suc, _+_, _*_, _-_, _/_, _≤_, _<_, min, max}
+use native.Mathlib.Omega.{arith}
+use native.Mathlib.Nat.{mul-lt-mul-of-pos-left, mul-one}
+use native.Mathlib.Numerals.{add-one}
+use mathlib.Core.List.{List, []}
+use lib.ListN.{length, getD, set, drop, length-set}
+use lib.Seq.{length-take-le, getD-set-same, getD-set-other}
+use lib.IntN.{ℤ, pos}
+use Rattle.laws.specs.Wrap.{wrap}
+use Rattle.laws.specs.Rows.{at}
+use Rattle.wavelet.specs.Lifting.{Stage, place, dot, scaled, delta, change, lifted, unlift, analysis}
+use Rattle.wavelet.specs.LiftingLaws.{place-law, place-moves, dot-ext, length-lifted, here-old, delta-old, lifted-next, analysis-next}
+use Rattle.wavelet.specs.Filters.{filterOf, type1}
+use Rattle.wavelet.specs.Table.{stageOf, stageAt, Legal, in-table}
+use Rattle.wavelet.specs.declared.lift.LiftStage.{LiftStage}
+
+-- ---- what the functions ask and leave
+-- the places that the taps read for update n, each times w
+pub record Placed (st : Stage) (len n w : ℕ) (o : List ℕ) : Type 0 where
+  pub long : length o ≡ 8
+  pub is : (j : ℕ) → j < 8 → getD o j 0 ≡ place st len n j * w
+
+-- m updates from n on, whose places move on by 2 with each
+pub record Moves (st : Stage) (len n m : ℕ) : Type 0 where
+  pub some : 1 ≤ m
+  pub fits : n + m ≤ len / 2
+  pub moves : (i j : ℕ) → i < m → j < length (st .taps) → place st len (n + i) j ≡ place st len n j + 2 * i
+
+-- the sum of the first k taps, their places moved by x
+abbrev pub tapsTo : List ℤ → List ℕ → ℕ → List ℤ → ℕ → ℤ
+tapsTo ts o x a k = dot wrap (at ts) (λ j. at a (getD o j 0 + x)) k
+
+pub record TapsIn (a : List ℤ) (s : LiftStage) (o : List ℕ) (x : ℕ) : Type 0 where
+  pub legal : Legal s
+  pub long : length o ≡ 8
+  pub inside : (j : ℕ) → j < s .count → getD o j 0 + x < length a
+
+-- m more taps from k on
+pub record TapIn (a : List ℤ) (s : LiftStage) (o : List ℕ) (x k : ℕ) (sum : ℤ) (m : ℕ) : Type 0 where
+  pub taps : TapsIn a s o x
+  pub so-far : sum ≡ tapsTo (s .taps) o x a k
+  pub more : k + m ≤ s .count
+
+-- the new number at place p + x
+abbrev pub valueOf : Stage → Bool → List ℕ → ℕ → ℕ → List ℤ → ℤ
+valueOf st plus o p x xs = change wrap plus (at xs (p + x)) (scaled wrap st (tapsTo (st .taps) o x xs (length (st .taps))))
+
+-- the list after m updates, of the places p, p + step, .., each of which reads it as it was
+unfoldable pub ran : Stage → Bool → List ℕ → ℕ → ℕ → ℕ → List ℤ → List ℤ
+ran st plus o p step zero xs = xs
+ran st plus o p step (suc m) xs = set (ran st plus o p step m xs) (p + step * m) (valueOf st plus o p (step * m) xs)
+
+pub record RunIn (a : List ℤ) (s : LiftStage) (o : List ℕ) (p count step : ℕ) : Type 0 where
+  pub legal : Legal s
+  pub long : length o ≡ 8
+  pub steps : 1 ≤ step
+  pub inside : (i j : ℕ) → i < count → j < s .count → getD o j 0 + step * i < length a
+  pub writes : (i : ℕ) → i < count → p + step * i < length a
+  -- no place is read after it is updated
+  pub later : (h i j : ℕ) → h < i → i < count → j < s .count → getD o j 0 + step * i ≢ p + step * h
+
+-- ---- one function after the other
+pub taps-long : (s : LiftStage) → Legal s → length (stageOf s .taps) ≡ s .count
+unfolding stageOf
+taps-long s l = length-take-le (s .count) (s .taps) (omega (arith, l .long, l .count-le))
+
+not-moved : (s : LiftStage) (len n i j : ℕ) → i ≡ 0 → place (stageOf s) len (n + i) j ≡ place (stageOf s) len n j + 2 * i
+not-moved s len n i j e =
+    let f : n + i ≡ n = omega arith in
+    rw f (omega arith)
+
+pub moves-one : (s : LiftStage) (len n : ℕ) → n < len / 2 → Moves (stageOf s) len n 1
+moves-one s len n l = record {
+  some = omega arith;
+  fits = omega arith;
+  moves = λ i j hi hj. not-moved s len n i j (omega arith);
+}
+
+pub moves-more : (s : LiftStage) (len n m : ℕ) → Legal s → n < len / 2 → s .back < n + s .ahead
+    → m ≡ max 1 (min (len / 2) (len / 2 + s .back + 1 - (s .count + s .ahead)) - n) → Moves (stageOf s) len n m
+unfolding stageOf
+moves-more s len n m l h b e = record {
+  some = omega arith;
+  fits = omega (arith, fits len (s .back) (s .count) (s .ahead) n h);
+  moves = λ i j hi hj. by i j hi (rw (taps-long s l) at hj);
+}
+  where
+    fits : (len b c a n : ℕ) → n < len / 2 → n + max 1 (min (len / 2) (len / 2 + b + 1 - (c + a)) - n) ≤ len / 2
+    fits len b c a n h = omega arith
+
+    below : (x n m i : ℕ) → m ≡ max 1 (x - n) → suc i < m → n + suc i < x
+    below x n m i e hi = omega arith
+
+    by : (i j : ℕ) → i < m → j < s .count → place (stageOf s) len (n + i) j ≡ place (stageOf s) len n j + 2 * i
+    by zero j hi hj = not-moved s len n 0 j refl
+    by (suc i) j hi hj =
+        let q = below (min (len / 2) (len / 2 + s .back + 1 - (s .count + s .ahead))) n m i e hi in
+        place-moves (stageOf s) len n (suc i) j (l .side) b (omega (arith, q))
+
+module _ (st : Stage) (plus : Bool) (o : List ℕ) (p step : ℕ) where
+  pub length-ran : (m : ℕ) (xs : List ℤ) → length (ran st plus o p step m xs) ≡ length xs
+  unfolding ran
+  length-ran zero xs = refl
+  length-ran (suc m) xs = length-set (ran st plus o p step m xs) (p + step * m) (valueOf st plus o p (step * m) xs) ∙ length-ran m xs
+
+  -- a place that is not updated
+  pub ran-other : (m q : ℕ) (xs : List ℤ) → ((h : ℕ) → h < m → q ≢ p + step * h) → at (ran st plus o p step m xs) q ≡ at xs q
+  unfolding ran
+  ran-other zero q xs d = refl
+  ran-other (suc m) q xs d =
+      getD-set-other (ran st plus o p step m xs) (p + step * m) q (valueOf st plus o p (step * m) xs) (pos 0) (d m (omega arith)) ∙ ran-other m q xs (λ h l. d h (omega arith))
+
+  apart : 1 ≤ step → (h i : ℕ) → h < i → p + step * i ≢ p + step * h
+  apart s h i l e = omega (arith, mul-lt-mul-of-pos-left {k = step} l s)
+
+  -- a place that is
+  pub ran-at : (m i : ℕ) (xs : List ℤ) → 1 ≤ step → i < m → p + step * i < length xs → at (ran st plus o p step m xs) (p + step * i) ≡ valueOf st plus o p (step * i) xs
+  unfolding ran
+  ran-at zero i xs s l b = absurd (omega arith)
+  ran-at (suc m) i xs s l b = by (native.Mathlib.Decide.ℕ-discrete i m) (λ h. ran-at m i xs s h b)
+    where
+      ys : List ℤ
+      ys = ran st plus o p step m xs
+
+      by : Dec (i ≡ m) → (i < m → at ys (p + step * i) ≡ valueOf st plus o p (step * i) xs) → at (set ys (p + step * m) (valueOf st plus o p (step * m) xs)) (p + step * i) ≡ valueOf st plus o p (step * i) xs
+      by (yes e) r = rw e (getD-set-same ys (p + step * m) (valueOf st plus o p (step * m) xs) (pos 0) (rw (length-ran m xs, ← e) b))
+      by (no n) r =
+          let h : i < m = omega arith in
+          getD-set-other ys (p + step * m) (p + step * i) (valueOf st plus o p (step * m) xs) (pos 0) (λ e. apart s i m h (sym e)) ∙ r h
+
+-- one more update: the code reads the list as it is, and finds what was there
+pub ran-turn : (s : LiftStage) (plus : Bool) (o : List ℕ) (p count step i : ℕ) (xs ys : List ℤ) → RunIn xs s o p count step → i < count
+    → ys ≡ ran (stageOf s) plus o p step i xs → set ys (p + step * i) (valueOf (stageOf s) plus o p (step * i) ys) ≡ ran (stageOf s) plus o p step (i + 1) xs
+unfolding ran
+ran-turn s plus o p count step i xs ys r l e =
+    let st = stageOf s in
+    let zs = ran st plus o p step i xs in
+    let here : at zs (p + step * i) ≡ at xs (p + step * i) = ran-other st plus o p step i (p + step * i) xs (λ h k. apart st plus o p step (r .steps) h i k) in
+    let sums : tapsTo (st .taps) o (step * i) zs (length (st .taps)) ≡ tapsTo (st .taps) o (step * i) xs (length (st .taps)) =
+    dot-ext wrap (at (st .taps)) (at (st .taps)) (λ j. at zs (getD o j 0 + step * i)) (λ j. at xs (getD o j 0 + step * i)) (length (st .taps)) (λ j k. refl)
+    (λ j k. ran-other st plus o p step i (getD o j 0 + step * i) xs (λ h m. r .later h i j m l (rw (taps-long s (r .legal)) at k))) in
+    rw (add-one i) (ap (λ (z : List ℤ). set z (p + step * i) (valueOf st plus o p (step * i) z)) e
+    ∙ ap (set zs (p + step * i)) (ap₂ (change wrap plus) here (ap (scaled wrap st) sums)))
+
+pub ran-none : (st : Stage) (plus : Bool) (o : List ℕ) (p step : ℕ) (xs : List ℤ) → xs ≡ ran st plus o p step 0 xs
+unfolding ran
+ran-none st plus o p step xs = refl
+
+-- ---- a stage of a row, run by run
+module _ (s : LiftStage) (o : List ℕ) (len n m : ℕ) (l : Legal s) (pl : Placed (stageOf s) len n 1 o) (mv : Moves (stageOf s) len n m) where
+  moved : (i j : ℕ) → i < m → j < s .count → getD o j 0 + 2 * i ≡ place (stageOf s) len (n + i) j
+  moved i j hi hj =
+      ap (λ (q : ℕ). q + 2 * i) (pl .is j (omega (arith, l .count-le)) ∙ mul-one (place (stageOf s) len n j)) ∙ sym (mv .moves i j hi (rw (taps-long s l) hj))
+
+  turn : (i : ℕ) → i < m → n + i < len / 2
+  turn i hi = omega (arith, mv .fits)
+
+  side : stageOf s .to ≤ 1
+  unfolding stageOf
+  side = l .side
+
+  pub row-runs : (a : List ℤ) → length a ≡ len → RunIn a s o (2 * n + stageOf s .to) m 2
+  row-runs a e = record {
+    legal = l;
+    long = pl .long;
+    steps = omega arith;
+    inside = λ i j hi hj. rw (moved i j hi hj, e) (place-law (stageOf s) len (n + i) j side (turn i hi) .inside);
+    writes = λ i hi. omega (arith, turn i hi, side, e);
+    later = λ h i j hh hi hj q.
+        let w = place-law (stageOf s) len (n + i) j side (turn i hi) in
+        let f : place (stageOf s) len (n + i) j ≡ 2 * n + stageOf s .to + 2 * h = sym (moved i j hi hj) ∙ q in
+        let g = w .free (rw f (omega (arith, side))) in
+        omega (arith, turn i hi, side, f, g);
+  }
+
+  -- i of the run's updates
+  ran-some : (plus : Bool) (xs a : List ℤ) → length xs ≡ len → a ≡ lifted wrap (stageOf s) plus n xs → (i : ℕ) → i ≤ m
+      → ran (stageOf s) plus o (2 * n + stageOf s .to) 2 i a ≡ lifted wrap (stageOf s) plus (n + i) xs
+  unfolding ran delta
+  ran-some plus xs a e f zero h = f ∙ ap (λ (k : ℕ). lifted wrap (stageOf s) plus k xs) (omega arith)
+  ran-some plus xs a e f (suc i) h =
+      let st = stageOf s in
+      let to = st .to in
+      let p : ℕ = 2 * n + to in
+      let long : length a ≡ length xs = ap length f ∙ length-lifted wrap st plus n xs in
+      let k : ℕ = n + i in
+      let here : p + 2 * i ≡ 2 * k + to = omega arith in
+      let more : k < length xs / 2 = rw e (turn i (omega arith)) in
+      let sums : scaled wrap st (tapsTo (st .taps) o (2 * i) a (length (st .taps))) ≡ delta wrap st a k =
+      ap (scaled wrap st) (dot-ext wrap (at (st .taps)) (at (st .taps)) (λ j. at a (getD o j 0 + 2 * i)) (λ j. at a (place st (length a) k j)) (length (st .taps)) (λ j hj. refl)
+      (λ j hj. ap (at a) (moved i j (omega arith) (rw (taps-long s l) at hj) ∙ ap (λ (z : ℕ). place st z k j) (sym (long ∙ e))))) in
+      let old : delta wrap st a k ≡ delta wrap st xs k = ap (λ (z : List ℤ). delta wrap st z k) f ∙ delta-old wrap st plus xs n k side (omega arith) more in
+      let old-here : at a (p + 2 * i) ≡ at xs (2 * k + to) = ap₂ at f here ∙ here-old wrap st plus xs n k side (omega arith) more in
+      ap₂ (λ (z : List ℤ) (v : ℤ). set z (p + 2 * i) v) (ran-some plus xs a e f i (omega arith)) (ap₂ (change wrap plus) old-here (sums ∙ old))
+      ∙ ap (λ (q : ℕ). set (lifted wrap st plus k xs) q (change wrap plus (at xs (2 * k + to)) (delta wrap st xs k))) here
+      ∙ lifted-next wrap st plus xs k side more ∙ ap (λ (q : ℕ). lifted wrap st plus q xs) (omega arith)
+
+  pub ran-lifted : (plus : Bool) (xs a : List ℤ) → length xs ≡ len → a ≡ lifted wrap (stageOf s) plus n xs
+      → ran (stageOf s) plus o (2 * n + stageOf s .to) 2 m a ≡ lifted wrap (stageOf s) plus (n + m) xs
+  ran-lifted plus xs a e f = ran-some plus xs a e f m (omega arith)
+
+-- ---- all stages: one more is undone
+pub analysis-turn : (i k : ℕ) (s : LiftStage) (xs ys zs : List ℤ) → i ≤ 6 → 0 < k → k ≤ length (filterOf i .stages) → stageOf s ≡ stageAt (2 * i + (k - 1))
+    → ys ≡ analysis wrap (drop k (filterOf i .stages)) xs → zs ≡ lifted wrap (stageOf s) (not (s .adds)) (length ys / 2) ys → zs ≡ analysis wrap (drop (k - 1) (filterOf i .stages)) xs
+unfolding stageOf
+analysis-turn i zero s xs ys zs h p l e f g = absurd (omega arith)
+analysis-turn i (suc k) s xs ys zs h p l e f g =
+    let q : suc k - 1 ≡ k = omega arith in
+    let e2 : stageOf s ≡ getD (filterOf i .stages) k (type1 0 0 0 []) = rw q at e ∙ in-table i h .stage-of k (omega arith) in
+    rw q (g ∙ ap (λ (t : Stage). lifted wrap t (not (t .adds)) (length ys / 2) ys) e2 ∙ ap (unlift wrap (getD (filterOf i .stages) k (type1 0 0 0 []))) f
+    ∙ analysis-next wrap (filterOf i .stages) k (type1 0 0 0 []) xs (omega arith))

@@ -1,0 +1,151 @@
+-- Level after level: what the walk leaves are the definition's bands. Assumes nothing.
+use mathlib.Core.Path.{_≡_, refl, sym, ap, ap₂, _∙_}
+use Prim.Native.Nat.{ℕ, zero, suc, _+_, _*_, _-_, _/_, _%_, _≤_, _<_}
+use native.Mathlib.Omega.{arith}
+use native.Mathlib.Nat.{mul-le-mul}
+use mathlib.Core.List.{List, [], _∷_, _++_, append-nil}
+use lib.ListN.{length, take, drop, length-append, length-drop}
+use lib.Seq.{take-at, drop-at}
+use lib.IntN.{ℤ}
+use Rattle.laws.specs.Wrap.{wrap}
+use Rattle.laws.specs.Window.{piece, put, length-piece, put-self, put-inner, piece-inner}
+use Rattle.laws.specs.Plane.{Plane, asPlane, asList, length-asList, asList-back}
+use Rattle.wavelet.specs.Planes.{coefficients, hPass, vhPass, part, partH, dwtH, dwt, Padded}
+use Rattle.wavelet.specs.PlaneLaws.{coefficients-append, dwt-cong, quarters-size, halves-size, padded-both, padded-across}
+use Rattle.wavelet.specs.PlaneLists.{plane-is}
+use Rattle.wavelet.specs.Level.{Place, EvenSides, EvenWidth, halves, quarters}
+
+-- what the walk asks of depths, sides and filters
+pub record Deep (k d h w ih iv : ℕ) : Type 0 where
+  pub sides : Padded k d h w
+  pub h-le : h ≤ 65536
+  pub w-le : w ≤ 65536
+  pub ih-le : ih ≤ 6
+  pub iv-le : iv ≤ 6
+
+-- the coefficients of the plane of h rows of w that a list is
+abbrev pub coefficientsOf : ℕ → ℕ → ℕ → ℕ → ℕ → ℕ → List ℤ → List ℤ
+coefficientsOf ih iv k d h w l = coefficients (dwt wrap ih iv k d h w (asPlane w l))
+
+pub deep-both : (k d h w ih iv : ℕ) → 0 < d → Deep k d h w ih iv → EvenSides h w × Deep k (d - 1) (h / 2) (w / 2) ih iv
+deep-both k zero h w ih iv z p = absurd (omega arith)
+deep-both k (suc d) h w ih iv z p =
+    let s = padded-both k d h w (p .sides) in
+    let e : suc d - 1 ≡ d = omega arith in (
+      record { high = s .0; wide = s .1 .0; h-le = p .h-le; w-le = p .w-le },
+      record { sides = rw e (s .1 .1); h-le = omega (arith, p .h-le); w-le = omega (arith, p .w-le); ih-le = p .ih-le; iv-le = p .iv-le },
+    )
+
+pub deep-across : (k d h w ih iv : ℕ) → d ≤ 0 → 0 < k → Deep k d h w ih iv → EvenWidth h w × Deep (k - 1) 0 h (w / 2) ih iv
+deep-across zero d h w ih iv y z p = absurd (omega arith)
+deep-across (suc k) (suc d) h w ih iv y z p = absurd (omega arith)
+deep-across (suc k) zero h w ih iv y z p =
+    let s = padded-across k h w (p .sides) in
+    let e : suc k - 1 ≡ k = omega arith in (
+      record { wide = s .0; h-le = p .h-le; w-le = p .w-le },
+      record { sides = rw e (s .1); h-le = p .h-le; w-le = omega (arith, p .w-le); ih-le = p .ih-le; iv-le = p .iv-le },
+    )
+
+pub quarter-le : (h w : ℕ) → h / 2 * (w / 2) ≤ h * w
+quarter-le h w = mul-le-mul (omega arith) (omega arith)
+
+pub half-le : (h w : ℕ) → h * (w / 2) ≤ h * w
+half-le h w = mul-le-mul {n₁ = h} {m₁ = w / 2} {n₂ = h} {m₂ = w} (omega arith) (omega arith)
+
+pub place-down : (n off m q : ℕ) (l new : List ℤ) → Place n off m l → q ≤ m → length new ≡ length l → Place n off q new
+place-down n off m q l new p h e = record { room = omega (arith, p .room); fits = omega (arith, p .fits) }
+
+-- ---- on the list of a plane
+-- what is left of a level after its first band, and the deeper levels on that band
+first-deeper : (ih iv k d a b : ℕ) (g : Plane) (rest m : List ℤ) → m ≡ asList a b g ++ rest
+    → (coefficientsOf ih iv k d a b (take (a * b) m) ≡ coefficients (dwt wrap ih iv k d a b g)) × (drop (a * b) m ≡ rest)
+first-deeper ih iv k d a b g rest m e =
+    let long = length-asList a b g in
+    let t : take (a * b) m ≡ asList a b g = ap (take (a * b)) e ∙ take-at (asList a b g) rest (a * b) long in (
+      ap (coefficientsOf ih iv k d a b) t ∙ dwt-cong wrap ih iv k d a b (asPlane b (asList a b g)) g (plane-is a b g),
+      ap (drop (a * b)) e ∙ drop-at (asList a b g) rest (a * b) long,
+    )
+
+both-list : (ih iv k d h w : ℕ) (l : List ℤ) → 0 < d
+    → coefficientsOf ih iv k (d - 1) (h / 2) (w / 2) (take (h / 2 * (w / 2)) (quarters h w (vhPass wrap ih iv h w (asPlane w l))))
+    ++ drop (h / 2 * (w / 2)) (quarters h w (vhPass wrap ih iv h w (asPlane w l))) ≡ coefficientsOf ih iv k d h w l
+unfolding dwt
+both-list ih iv k zero h w l z = absurd (omega arith)
+both-list ih iv k (suc d) h w l z =
+    let g = vhPass wrap ih iv h w (asPlane w l) in
+    let a : ℕ = h / 2 in
+    let b : ℕ = w / 2 in
+    let rest = asList a b (part 0 1 g) ++ (asList a b (part 1 0 g) ++ asList a b (part 1 1 g)) in
+    let r = first-deeper ih iv k d a b (part 0 0 g) rest (quarters h w g) refl in
+    let e : suc d - 1 ≡ d = omega arith in
+    let tail : rest ≡ asList a b (part 0 1 g) ++ (asList a b (part 1 0 g) ++ (asList a b (part 1 1 g) ++ [])) =
+    ap (λ (z : List ℤ). asList a b (part 0 1 g) ++ (asList a b (part 1 0 g) ++ z)) (sym (append-nil (asList a b (part 1 1 g)))) in
+    rw e (ap₂ _++_ (r .0) (r .1 ∙ tail)
+    ∙ sym (coefficients-append (dwt wrap ih iv k d a b (part 0 0 g))
+    (record { high = a; wide = b; plane = part 0 1 g } ∷ record { high = a; wide = b; plane = part 1 0 g } ∷ record { high = a; wide = b; plane = part 1 1 g } ∷ [])))
+
+across-list : (ih iv k d h w : ℕ) (l : List ℤ) → d ≤ 0 → 0 < k
+    → coefficientsOf ih iv (k - 1) 0 h (w / 2) (take (h * (w / 2)) (halves h w (hPass wrap ih h w (asPlane w l))))
+    ++ drop (h * (w / 2)) (halves h w (hPass wrap ih h w (asPlane w l))) ≡ coefficientsOf ih iv k d h w l
+unfolding dwt dwtH
+across-list ih iv zero d h w l y z = absurd (omega arith)
+across-list ih iv (suc k) (suc d) h w l y z = absurd (omega arith)
+across-list ih iv (suc k) zero h w l y z =
+    let g = hPass wrap ih h w (asPlane w l) in
+    let b : ℕ = w / 2 in
+    let r = first-deeper ih iv k 0 h b (partH 0 g) (asList h b (partH 1 g)) (halves h w g) refl in
+    let e : suc k - 1 ≡ k = omega arith in
+    rw e (ap₂ _++_ (r .0) (r .1 ∙ sym (append-nil (asList h b (partH 1 g))))
+    ∙ sym (coefficients-append (dwtH wrap ih k h b (partH 0 g)) (record { high = h; wide = b; plane = partH 1 g } ∷ [])))
+
+-- ---- on what lies behind the scratch
+module _ (n off m q : ℕ) (l l1 l2 L B : List ℤ) (p : Place n off m l) (small : q ≤ m) (long : length L ≡ m)
+    (e1 : drop n l1 ≡ put off m L (drop n l)) (D : List ℤ → List ℤ) (e2 : drop n l2 ≡ put off q (D (piece off q (drop n l1))) (drop n l1)) (all : D (take q L) ++ drop q L ≡ B) where
+  step : drop n l2 ≡ put off m B (drop n l)
+  step =
+      let u = drop n l in
+      let fit : off + m ≤ length u = rw (length-drop n l) (omega (arith, p .fits)) in
+      let first : piece off q (drop n l1) ≡ take q L = ap (piece off q) e1 ∙ piece-inner off m L u fit long q small in
+      e2 ∙ ap₂ (λ (x y : List ℤ). put off q (D x) y) first e1 ∙ put-inner off m L u fit long q (D (take q L)) small ∙ ap (λ (x : List ℤ). put off m x u) all
+
+length-quarters : (h w : ℕ) (g : Plane) → h % 2 ≡ 0 → w % 2 ≡ 0 → length (quarters h w g) ≡ h * w
+length-quarters h w g eh ew = simp (length-append, length-asList) (quarters-size h w eh ew)
+
+length-halves : (h w : ℕ) (g : Plane) → w % 2 ≡ 0 → length (halves h w g) ≡ h * w
+length-halves h w g ew = simp (length-append, length-asList) (halves-size h w ew)
+
+-- one level both ways, and the walk on its first quarter
+pub walk-both : (ih iv k d h w n off : ℕ) (l l1 l2 : List ℤ) → 0 < d → EvenSides h w → Place n off (h * w) l
+    → drop n l1 ≡ put off (h * w) (quarters h w (vhPass wrap ih iv h w (asPlane w (piece off (h * w) (drop n l))))) (drop n l)
+    → drop n l2 ≡ put off (h / 2 * (w / 2)) (coefficientsOf ih iv k (d - 1) (h / 2) (w / 2) (piece off (h / 2 * (w / 2)) (drop n l1))) (drop n l1)
+    → drop n l2 ≡ put off (h * w) (coefficientsOf ih iv k d h w (piece off (h * w) (drop n l))) (drop n l)
+walk-both ih iv k d h w n off l l1 l2 z e p e1 e2 =
+    let o = piece off (h * w) (drop n l) in
+    let g = vhPass wrap ih iv h w (asPlane w o) in
+    step n off (h * w) (h / 2 * (w / 2)) l l1 l2 (quarters h w g) (coefficientsOf ih iv k d h w o) p (quarter-le h w) (length-quarters h w g (e .high) (e .wide)) e1
+    (coefficientsOf ih iv k (d - 1) (h / 2) (w / 2)) e2 (both-list ih iv k d h w o z)
+
+-- one horizontal-only level, and the walk on its first half
+pub walk-across : (ih iv k d h w n off : ℕ) (l l1 l2 : List ℤ) → d ≤ 0 → 0 < k → EvenWidth h w → Place n off (h * w) l
+    → drop n l1 ≡ put off (h * w) (halves h w (hPass wrap ih h w (asPlane w (piece off (h * w) (drop n l))))) (drop n l)
+    → drop n l2 ≡ put off (h * (w / 2)) (coefficientsOf ih iv (k - 1) 0 h (w / 2) (piece off (h * (w / 2)) (drop n l1))) (drop n l1)
+    → drop n l2 ≡ put off (h * w) (coefficientsOf ih iv k d h w (piece off (h * w) (drop n l))) (drop n l)
+walk-across ih iv k d h w n off l l1 l2 y z e p e1 e2 =
+    let o = piece off (h * w) (drop n l) in
+    let g = hPass wrap ih h w (asPlane w o) in
+    step n off (h * w) (h * (w / 2)) l l1 l2 (halves h w g) (coefficientsOf ih iv k d h w o) p (half-le h w) (length-halves h w g (e .wide)) e1
+    (coefficientsOf ih iv (k - 1) 0 h (w / 2)) e2 (across-list ih iv k d h w o y z)
+
+-- no level is left
+none : (ih iv k d h w : ℕ) (l : List ℤ) → d ≤ 0 → k ≤ 0 → length l ≡ h * w → l ≡ coefficientsOf ih iv k d h w l
+unfolding dwt dwtH
+none ih iv zero zero h w l y z e = sym (append-nil (asList h w (asPlane w l)) ∙ asList-back h w l e)
+none ih iv (suc k) zero h w l y z e = absurd (omega arith)
+none ih iv k (suc d) h w l y z e = absurd (omega arith)
+
+pub walk-none : (ih iv k d h w n off : ℕ) (l : List ℤ) → d ≤ 0 → k ≤ 0 → Place n off (h * w) l
+    → drop n l ≡ put off (h * w) (coefficientsOf ih iv k d h w (piece off (h * w) (drop n l))) (drop n l)
+walk-none ih iv k d h w n off l y z p =
+    let u = drop n l in
+    let fit : off + h * w ≤ length u = rw (length-drop n l) (omega (arith, p .fits)) in
+    put-self off (h * w) u ∙ ap (λ (x : List ℤ). put off (h * w) x u) (none ih iv k d h w (piece off (h * w) u) y z (length-piece off (h * w) u fit))
