@@ -1,0 +1,99 @@
+-- Demand 3: what the reader gives back of an accepted picture's unit. One statement about a call and the whole reading. Assumes nothing.
+use mathlib.Core.Path.{_≡_}
+use mathlib.Core.List.{List, [], _∷_, map}
+use Prim.Native.Nat.{ℕ, zero, suc, _+_, _*_, _-_, _/_, _<_}
+use lib.IntN.{ℤ, pos, natAbs, _-ℤ_}
+use lib.ListN.{length, getD}
+use Rattle.codewords.specs.Read.{Read, got}
+use Rattle.laws.specs.Plane.{Plane}
+use Rattle.laws.specs.Rows.{span}
+use Rattle.quantiser.specs.Quant.{quantFactor, bandIndex}
+use Rattle.wavelet.specs.Planes.{Band}
+use Rattle.unit.specs.declared.Settings.{Settings}
+use Rattle.unit.specs.Three.{Three}
+use Rattle.unit.specs.Sizes.{Size, sizesOf, depthsOf}
+use Rattle.unit.specs.Slices.{Grid, count, sliceOf}
+use Rattle.unit.specs.Matrix.{matrixValues}
+use Rattle.unit.specs.Parameters.{SliceParameters, lowDelay, highQuality, Parameters, parameterBytes}
+use Rattle.unit.specs.LowDelay.{sliceBytes}
+use Rattle.unit.specs.Coefficients.{coefficientsOf}
+use Rattle.unit.specs.Quantised.{sizeOf}
+use Rattle.unit.specs.Plan.{SlicePlan, Plan}
+use Rattle.unit.specs.Unit.{majorVersion, gridOf, planOf}
+use Rattle.unit.specs.Reader.{SliceRead, Reading, readUnit, readBands, readSamples}
+
+abbrev pub All : {A : Type 0} → (A → Type 0) → List A → Type 0
+All P [] = Unit {0}
+All P (x ∷ xs) = P x × All P xs
+
+abbrev pub bytesOf : SlicePlan → ℕ
+bytesOf a = length (a .bits) / 8
+
+-- what is read of a slice is what was planned: its index, its numbers, with zeros for those after the runs that a cut keeps, and its bytes
+pub record SameSlice (a : SlicePlan) (r : SliceRead) : Type 0 where
+  pub index : r .index ≡ a .index
+  pub numbers : r .numbers ≡ a .kept
+  pub bytes : r .length ≡ bytesOf a
+
+abbrev pub SameSlices : List SlicePlan → List SliceRead → Type 0
+SameSlices [] [] = Unit {0}
+SameSlices [] (r ∷ rs) = ⊥
+SameSlices (a ∷ more) [] = ⊥
+SameSlices (a ∷ more) (r ∷ rs) = SameSlice a r × SameSlices more rs
+
+-- each slice begins where the last one ended, the first at n, and the last one ends at e
+abbrev pub Follow : ℕ → List SliceRead → ℕ → Type 0
+Follow n [] e = n ≡ e
+Follow n (r ∷ rs) e = (r .offset ≡ n) × Follow (n + r .length) rs e
+
+abbrev pub sum : List ℕ → ℕ
+sum [] = 0
+sum (n ∷ ns) = n + sum ns
+
+-- low delay: each slice takes exactly its slice bytes, and they sum to the numerator
+abbrev pub Bytes : SliceParameters → List SliceRead → Type 0
+Bytes (highQuality p c) ss = Unit {0}
+Bytes (lowDelay n d) ss = (map (λ (r : SliceRead). r .length) ss ≡ span (sliceBytes n d) 0 (length ss)) × (sum (map (λ (r : SliceRead). r .length) ss) ≡ n)
+
+-- no slice has dropped a number that is not 0
+abbrev pub Undropped : Plan → Type 0
+Undropped a = All (λ (s : SlicePlan). s .kept ≡ s .numbers) (a .slices)
+
+abbrev pub AllZero : Plan → Type 0
+AllZero a = All (λ (s : SlicePlan). s .index ≡ 0) (a .slices)
+
+abbrev pub planIndex : Plan → ℕ → ℕ
+planIndex a k = getD (map (λ (s : SlicePlan). s .index) (a .slices)) k 0
+
+-- a component's subbands b and those read, r: at every place, padding included, four times the error is less than the factor of the
+-- band's index there; n counts the subbands, m are the matrix values
+abbrev pub NearBands : Grid → List ℕ → (ℕ → ℕ) → ℕ → List Band → List Band → Type 0
+NearBands g m index n [] [] = Unit {0}
+NearBands g m index n [] (r ∷ rs) = ⊥
+NearBands g m index n (b ∷ bs) [] = ⊥
+NearBands g m index n (b ∷ bs) (r ∷ rs) =
+    ((y x : ℕ) → y < b .high → x < b .wide
+    → 4 * natAbs (b .plane y x -ℤ r .plane y x) < quantFactor (bandIndex (index (sliceOf g (sizeOf b) y x)) (getD m n 0)))
+    × NearBands g m index (suc n) bs rs
+
+-- a component's samples of size z and those read
+abbrev pub SameSamples : Size → List ℕ → Plane → Type 0
+SameSamples z p f = (y x : ℕ) → y < z .height → x < z .width → f y x ≡ pos (getD p (y * z .width + x) 0)
+
+-- settings s, lent matrix m, planes p, and the unit
+pub record Demand3 (s : Settings) (m : List ℕ) (p : Three (List ℕ)) (unit : List ℕ) : Type 0 where
+  pub reading : Reading
+  -- nothing stops the reading, and it ends at the last byte
+  pub reads : readUnit (sizesOf s) (majorVersion s) unit ≡ got reading []
+  pub kind : reading .kind ≡ s .kind
+  pub number : reading .number ≡ s .«picture_number»
+  pub parameters : reading .parameters ≡ planOf s m p .parameters
+  pub slices : SameSlices (planOf s m p .slices) (reading .slices)
+  pub places : Follow (17 + parameterBytes (majorVersion s) (reading .parameters)) (reading .slices) (length unit)
+  pub bytes : Bytes (reading .parameters .slice) (reading .slices)
+  pub near : Undropped (planOf s m p)
+      → let b = coefficientsOf s p in let r = readBands (sizesOf s) reading in let i = planIndex (planOf s m p) in let v = matrixValues s m in
+      NearBands (gridOf s) v i 0 (b .y) (r .y) × NearBands (gridOf s) v i 0 (b .c1) (r .c1) × NearBands (gridOf s) v i 0 (b .c2) (r .c2)
+  pub samples : Undropped (planOf s m p) → AllZero (planOf s m p)
+      → let z = sizesOf s in let f = readSamples z reading (depthsOf s) in
+      SameSamples (z .y) (p .y) (f .y) × SameSamples (z .c1) (p .c1) (f .c1) × SameSamples (z .c2) (p .c2) (f .c2)

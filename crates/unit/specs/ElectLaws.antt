@@ -1,0 +1,67 @@
+-- Laws of the election of an index: it stays between its ends, and below the upper end it fits. Assumes nothing.
+use mathlib.Core.Path.{_≡_, refl, sym, ap, _∙_, subst}
+use mathlib.Core.Bool.{Bool, true, false}
+use Prim.Native.Nat.{ℕ, zero, suc, _+_, _-_, _/_, _≤_, _<_}
+use native.Mathlib.Omega.{arith}
+use native.Mathlib.Nat.{le-antisymm}
+use borrow.Author.Tests.{ltb-true, ltb-false}
+use lib.Dec.{ltb}
+use Rattle.unit.specs.Elect.{halve, climb, elect}
+
+-- an index q between lo and hi that fits, unless it is top, which is never tried
+pub record Elected (fits : ℕ → Bool) (lo hi top q : ℕ) : Type 0 where
+  pub low : lo ≤ q
+  pub high : q ≤ hi
+  pub fit : q < top → fits q ≡ true
+
+module _ (fits : ℕ → Bool) where
+  last : (lo hi top : ℕ) → lo ≤ hi → hi ≤ lo → (hi < top → fits hi ≡ true) → Elected fits lo hi top lo
+  last lo hi top a b f = record {
+    low = omega arith;
+    high = a;
+    fit = λ h. let e : lo ≡ hi = le-antisymm a b in ap fits e ∙ f (omega arith);
+  }
+
+  -- a turn of the halving; r and t say what its halves elect
+  turn : (n lo hi top : ℕ) → lo ≤ hi → (hi < top → fits hi ≡ true) → (c d : Bool) → ltb lo hi ≡ c → fits ((lo + hi) / 2) ≡ d
+      → (lo < hi → fits ((lo + hi) / 2) ≡ true → Elected fits lo ((lo + hi) / 2) top (halve fits n lo ((lo + hi) / 2)))
+      → (lo < hi → Elected fits ((lo + hi) / 2 + 1) hi top (halve fits n ((lo + hi) / 2 + 1) hi))
+      → Elected fits lo hi top
+      (elim c [ true ↦ elim d [ true ↦ halve fits n lo ((lo + hi) / 2) | false ↦ halve fits n ((lo + hi) / 2 + 1) hi ] | false ↦ lo ])
+  turn n lo hi top a f true true e g r t =
+      let h = ltb-true lo hi e in
+      let x = r h g in
+      record { low = x .low; high = omega arith; fit = x .fit }
+  turn n lo hi top a f true false e g r t =
+      let h = ltb-true lo hi e in
+      let x = t h in
+      record { low = omega arith; high = x .high; fit = x .fit }
+  turn n lo hi top a f false d e g r t = last lo hi top a (ltb-false lo hi e) f
+
+  halve-elects : (n lo hi top : ℕ) → lo ≤ hi → hi - lo ≤ n → (hi < top → fits hi ≡ true) → Elected fits lo hi top (halve fits n lo hi)
+  unfolding halve
+  halve-elects zero lo hi top a b f = last lo hi top a (omega arith) f
+  halve-elects (suc n) lo hi top a b f =
+      let mid : ℕ = (lo + hi) / 2 in
+      turn n lo hi top a f (ltb lo hi) (fits mid) refl refl
+      (λ h e. halve-elects n lo mid top (omega arith) (omega arith) (λ l. e))
+      (λ h. halve-elects n (mid + 1) hi top (omega arith) (omega arith) f)
+
+  -- the way up ends where it began
+  climb-stays : (n q : ℕ) → (0 < n → fits q ≡ true) → climb fits n q ≡ q
+  unfolding climb
+  climb-stays zero q f = refl
+  climb-stays (suc n) q f = rw (f (omega arith), climb)
+
+  halved : (lo hi : ℕ) → lo ≤ hi → Elected fits lo hi hi (halve fits (hi - lo) lo hi)
+  halved lo hi h = halve-elects (hi - lo) lo hi hi h (omega arith) (λ l. absurd (omega arith))
+
+  pub elect-halves : (lo hi : ℕ) → lo ≤ hi → elect lo hi fits ≡ halve fits (hi - lo) lo hi
+  unfolding elect
+  elect-halves lo hi h =
+      let r = halved lo hi h in
+      let q = halve fits (hi - lo) lo hi in
+      climb-stays (hi - q) q (λ l. r .fit (omega arith))
+
+  pub elected : (lo hi : ℕ) → lo ≤ hi → Elected fits lo hi hi (elect lo hi fits)
+  elected lo hi h = subst (Elected fits lo hi hi) (sym (elect-halves lo hi h)) (halved lo hi h)

@@ -1,0 +1,80 @@
+-- High quality: document 01, "Slices and unit"; ST 2042-1, 13.5.4. Assumes nothing.
+use mathlib.Core.Bool.{Bool, true, false, cond}
+use mathlib.Core.List.{List, [], _∷_, _++_, map}
+use Prim.Native.Nat.{ℕ, zero, suc, _+_, _*_, _-_, _/_, _%_, max}
+use lib.Dec.{leb, ltb}
+use lib.IntN.{ℤ}
+use lib.ListN.{length}
+use Rattle.codewords.specs.Bit.{Bits, lit, ones, zeros}
+use Rattle.codewords.specs.Code.{codes}
+use Rattle.laws.specs.Rows.{span}
+use Rattle.wavelet.specs.Planes.{Band}
+use Rattle.unit.specs.declared.RateControl.{RateControl}
+use Rattle.unit.specs.declared.RateControl.the-variants.{Lossless, FixedQuantIndex, PictureBytes}
+use Rattle.unit.specs.Three.{Three, map3}
+use Rattle.unit.specs.Slices.{Grid, count}
+use Rattle.unit.specs.Parameters.{Parameters, parameterBytes}
+use Rattle.unit.specs.Trim.{trimmed, bitsOf, trimmedCost}
+use Rattle.unit.specs.Elect.{elect}
+use Rattle.unit.specs.Quantised.{numbersHQ}
+use Rattle.unit.specs.Plan.{SlicePlan}
+
+-- n over m, rounded up
+abbrev pub ceiling : ℕ → ℕ → ℕ
+ceiling n m = (n + (m - 1)) / m
+
+-- the bytes that a component needs, and these in whole scalers c
+abbrev pub needOf : List ℤ → ℕ
+needOf xs = ceiling (trimmedCost xs) 8
+
+abbrev pub scalersOf : ℕ → List ℤ → ℕ
+scalersOf c xs = ceiling (needOf xs) c
+
+-- a byte that counts scalers, the numbers without trailing zeros, and ones
+unfoldable pub componentBits : ℕ → List ℤ → Bits
+componentBits c xs = lit 8 (scalersOf c xs) ++ (codes (trimmed xs) ++ ones (8 * (scalersOf c xs * c) - trimmedCost xs))
+
+-- p prefix bytes, which are zeros, the index and the components
+unfoldable pub highBits : ℕ → ℕ → ℕ → Three (List ℤ) → Bits
+highBits p c q z = zeros (8 * p) ++ (lit 8 q ++ (componentBits c (z .y) ++ (componentBits c (z .c1) ++ componentBits c (z .c2))))
+
+-- a slice's size: 4, prefix and components, each rounded up to whole scalers
+unfoldable pub sliceSize : ℕ → ℕ → Three (List ℤ) → ℕ
+sliceSize p c z = 4 + p + (scalersOf c (z .y) * c + scalersOf c (z .c1) * c + scalersOf c (z .c2) * c)
+
+-- slice k's share of n bytes among d slices: the earlier ones are larger by at most one
+unfoldable pub shareOf : ℕ → ℕ → ℕ → ℕ
+shareOf n d k = n / d + cond (ltb k (n % d)) 1 0
+
+module _ (g : Grid) (m : List ℕ) (b : Three (List Band)) (p : ℕ) where
+  unfoldable pub highNumbers : ℕ → ℕ → Three (List ℤ)
+  highNumbers k q = record {
+    y = numbersHQ g m (b .y) q k;
+    c1 = numbersHQ g m (b .c1) q k;
+    c2 = numbersHQ g m (b .c2) q k;
+  }
+
+  -- the index of slice k with scaler c and n bytes for all slices: lossless is index 0
+  unfoldable pub highIndex : RateControl → ℕ → ℕ → ℕ → ℕ
+  highIndex Lossless c n k = 0
+  highIndex (FixedQuantIndex q) c n k = q
+  highIndex (PictureBytes t) c n k = elect 0 255 (λ q. leb (sliceSize p c (highNumbers k q)) (shareOf n (count g) k))
+
+  unfoldable pub highPlan : ℕ → ℕ → ℕ → SlicePlan
+  highPlan c k q = let z = highNumbers k q in record { index = q; numbers = z; kept = z; bits = highBits p c q z }
+
+  abbrev pub highSlices : RateControl → ℕ → ℕ → List SlicePlan
+  highSlices r c n = span (λ k. highPlan c k (highIndex r c n k)) 0 (count g)
+
+-- the largest need of a component
+unfoldable pub largestNeed : List SlicePlan → ℕ
+largestNeed [] = 0
+largestNeed (s ∷ ss) = max (max (needOf (s .numbers .y)) (max (needOf (s .numbers .c1)) (needOf (s .numbers .c2)))) (largestNeed ss)
+
+-- While a component needs more than 255 scalers the scaler becomes the largest need over 255, rounded up; slices gives the slices by their
+-- scaler, f bounds the turns.
+unfoldable pub scalerFrom : (ℕ → List SlicePlan) → ℕ → ℕ → ℕ
+scalerFrom slices zero c = c
+scalerFrom slices (suc f) c =
+    let n = largestNeed (slices c) in
+    elim (leb n (255 * c)) [ true ↦ c | false ↦ scalerFrom slices f (ceiling n 255) ]

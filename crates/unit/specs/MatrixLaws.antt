@@ -1,0 +1,80 @@
+-- Annex D's matrices have as many values as there are subbands, none above 255. Assumes nothing.
+use mathlib.Core.Path.{_≡_, refl, ap}
+use mathlib.Core.Bool.{Bool, true, false, not, cond, _&&_, _||_}
+use mathlib.Core.List.{List, [], _∷_}
+use mathlib.Core.Option.{Option, none, some}
+use Prim.Native.Nat.{ℕ, zero, suc, _+_}
+use native.Mathlib.Omega.{arith}
+use lib.Dec.{eqb}
+use lib.ListN.{length}
+use Rattle.quantiser.specs.AnnexD.{Table, tableD1, tableD2, tableD3, tableD4, tableD5, tableD6, tableD7, tableD8, nth, andThen, tables, tableOf, defaultMatrix}
+use Rattle.unit.specs.Subbands.{subbandCount}
+use Rattle.unit.specs.Refusal.{anyAbove}
+use Rattle.unit.specs.Valid.{AllMost}
+use Rattle.unit.specs.TestLaws.{or-none, both, same, all-most}
+
+-- a matrix for n subbands
+pub record Matrix (n : ℕ) (vs : List ℕ) : Type 0 where
+  pub many : length vs ≡ n
+  pub small : AllMost 255 vs
+
+-- if there is one
+abbrev pub MatrixIf : ℕ → Option (List ℕ) → Type 0
+MatrixIf n none = Unit {0}
+MatrixIf n (some vs) = Matrix n vs
+
+-- ---- the computed test of a table: blocks from horizontal-only depth k on, matrices from depth d on
+abbrev badMatrix : ℕ → List ℕ → Bool
+badMatrix n vs = not (eqb (length vs) n) || anyAbove 255 vs
+
+abbrev badMatrices : ℕ → ℕ → List (List ℕ) → Bool
+badMatrices k d [] = false
+badMatrices k d (vs ∷ b) = badMatrix (subbandCount k d) vs || badMatrices k (suc d) b
+
+abbrev badBlocks : ℕ → Table → Bool
+badBlocks k [] = false
+badBlocks k (b ∷ t) = badMatrices k 0 b || badBlocks (suc k) t
+
+abbrev badTables : List Table → Bool
+badTables [] = false
+badTables (t ∷ ts) = badBlocks 0 t || badTables ts
+
+annex-d : badTables (tableD8 ∷ tables) ≡ false
+unfolding tableD1 tableD2 tableD3 tableD4 tableD5 tableD6 tableD7 tableD8
+annex-d = refl
+
+-- ---- what a lookup finds
+in-block : (k d : ℕ) (b : List (List ℕ)) → badMatrices k d b ≡ false → (i j : ℕ) → j ≡ d + i → MatrixIf (subbandCount k j) (nth b i)
+in-block k d [] e i j h = tt
+in-block k d (vs ∷ b) e zero j h =
+    let v = both (same (length vs) (subbandCount k d)) (all-most 255 vs) .0 (or-none (badMatrix (subbandCount k d) vs) (badMatrices k (suc d) b) .0 e .0) in
+    record { many = omega arith; small = v .1 }
+in-block k d (vs ∷ b) e (suc i) j h = in-block k (suc d) b (or-none (badMatrix (subbandCount k d) vs) (badMatrices k (suc d) b) .0 e .1) i j (omega arith)
+
+in-table : (k : ℕ) (t : Table) → badBlocks k t ≡ false → (i j d : ℕ) → j ≡ k + i → MatrixIf (subbandCount j d) (andThen (nth t i) (λ b. nth b d))
+in-table k [] e i j d h = tt
+in-table k (b ∷ t) e zero j d h =
+    let g : j ≡ k = omega arith in
+    rw g (in-block k 0 b (or-none (badMatrices k 0 b) (badBlocks (suc k) t) .0 e .0) d d (omega arith))
+in-table k (b ∷ t) e (suc i) j d h = in-table (suc k) t (or-none (badMatrices k 0 b) (badBlocks (suc k) t) .0 e .1) i j d (omega arith)
+
+module _ (d k : ℕ) where
+  abbrev of-table : Option Table → Option (List ℕ)
+  of-table o = andThen o (λ t. andThen (nth t k) (λ b. nth b d))
+
+  in-tables : (ts : List Table) → badTables ts ≡ false → (i : ℕ) → MatrixIf (subbandCount k d) (of-table (nth ts i))
+  in-tables [] e i = tt
+  in-tables (t ∷ ts) e zero = in-table 0 t (or-none (badBlocks 0 t) (badTables ts) .0 e .0) k k d (omega arith)
+  in-tables (t ∷ ts) e (suc i) = in-tables ts (or-none (badBlocks 0 t) (badTables ts) .0 e .1) i
+
+  by-cond : (c : Bool) (a b : Option Table) → MatrixIf (subbandCount k d) (of-table a) → MatrixIf (subbandCount k d) (of-table b)
+      → MatrixIf (subbandCount k d) (of-table (cond c a b))
+  by-cond true a b f g = f
+  by-cond false a b f g = g
+
+  pub default-matrix : (w h : ℕ) → MatrixIf (subbandCount k d) (defaultMatrix w h d k)
+  unfolding defaultMatrix
+  default-matrix w h =
+      let all = in-tables (tableD8 ∷ tables) annex-d in
+      by-cond (eqb w h) (nth tables w) (cond (eqb w 3 && eqb h 1) (some tableD8) none) (all (suc w))
+      (by-cond (eqb w 3 && eqb h 1) (some tableD8) none (all 0) tt)

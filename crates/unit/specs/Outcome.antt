@@ -1,0 +1,69 @@
+-- The outcome of a picture call: document 01, "Answers that turn a call away". Assumes nothing.
+use mathlib.Core.Bool.{Bool, true, false, _||_}
+use mathlib.Core.List.{List, [], _∷_, _++_}
+use Prim.Native.Nat.{ℕ, zero, suc, _+_}
+use lib.Dec.{eqb, ltb}
+use lib.IntN.{ℤ, pos}
+use lib.ListN.{length, drop, replicate}
+use Rattle.unit.specs.declared.Settings.{Settings}
+use Rattle.unit.specs.declared.PictureKind.{PictureKind}
+use Rattle.unit.specs.declared.PictureKind.the-variants.{LowDelay, HighQuality}
+use Rattle.unit.specs.declared.Coded.{Coded}
+use Rattle.unit.specs.declared.Answer.{Answer}
+use Rattle.unit.specs.declared.Answer.the-variants.{Accepted, Refused}
+use Rattle.unit.specs.Three.{Three}
+use Rattle.unit.specs.Refusal.{refusalOf}
+use Rattle.unit.specs.Parameters.{SliceParameters, lowDelay, highQuality, Parameters}
+use Rattle.unit.specs.Plan.{SlicePlan, Plan}
+use Rattle.unit.specs.Unit.{planOf, lengthOf, unitOf}
+
+-- document 01's number of an answer: 0 where the call is accepted
+abbrev pub numberOf : Answer → ℕ
+numberOf (Accepted c) = 0
+numberOf (Refused n) = n
+
+-- the low-delay slices that carry index 127
+abbrev pub lastIndices : List SlicePlan → ℕ
+lastIndices [] = 0
+lastIndices (s ∷ ss) = elim (eqb (s .index) 127) [ true ↦ suc (lastIndices ss) | false ↦ lastIndices ss ]
+
+unfoldable pub cutCount : PictureKind → Plan → ℕ
+cutCount LowDelay a = lastIndices (a .slices)
+cutCount HighQuality a = 0
+
+-- the final scaler; in low delay the setting's
+abbrev pub scalerIn : SliceParameters → ℕ → ℕ
+scalerIn (lowDelay n d) c = c
+scalerIn (highQuality p c) d = c
+
+unfoldable pub codedOf : Settings → Plan → Coded
+codedOf s a = record {
+  length = lengthOf s a;
+  «cut_slices» = cutCount (s .kind) a;
+  «slice_size_scaler» = scalerIn (a .parameters .slice) (s .«slice_size_scaler»);
+}
+
+pub record Outcome : Type 0 where
+  pub answer : Answer
+  pub output : List ℕ
+  pub work : List ℤ
+
+-- refused: 14 fills both slices with zeros, the others leave them
+abbrev pub zeroed : List ℕ → List ℤ → Outcome
+zeroed out work = record { answer = Refused 14; output = replicate (length out) 0; work = replicate (length work) (pos 0) }
+
+-- the unit goes to the output's start, the rest stays, and the work slice is filled with zeros; 14 where the unit is longer than the output
+-- or than 2^32 - 1 bytes
+abbrev pub coded : Settings → Plan → List ℕ → List ℤ → Outcome
+coded s a out work =
+    let n = lengthOf s a in
+    elim (ltb (length out) n || ltb 4294967295 n) [
+      | true ↦ zeroed out work
+      | false ↦ record { answer = Accepted (codedOf s a); output = unitOf s a ++ drop n out; work = replicate (length work) (pos 0) }
+    ]
+
+-- settings, lent matrix, planes, and the output and work slices as they came
+unfoldable pub outcomeOf : Settings → List ℕ → Three (List ℕ) → List ℕ → List ℤ → Outcome
+outcomeOf s m p out work =
+    let r = refusalOf s m p work in
+    elim (eqb r 0) [ true ↦ coded s (planOf s m p) out work | false ↦ record { answer = Refused r; output = out; work = work } ]

@@ -1,0 +1,42 @@
+-- Laws of padded sides: each is a multiple of its power of 2, not below the side and less than that power above it. Assumes nothing.
+use mathlib.Core.Path.{_≡_}
+use Prim.Native.Nat.{ℕ, _+_, _-_, _*_, _/_, _%_, _^_, _≤_, _<_}
+use native.Mathlib.Nat.{div-add-mod', mod-lt, mul-mod-left, mul-le-mul, mul-le-mul-right}
+use native.Mathlib.Omega.{arith}
+use lib.Pow.{pow-pos}
+use Rattle.wavelet.specs.Planes.{Padded}
+use Rattle.unit.specs.Sizes.{Size, area}
+use Rattle.unit.specs.Subbands.{roundedUp, paddedSize}
+use Rattle.unit.specs.SliceLaws.{div-rises}
+
+-- r is n rounded up to a multiple of m
+pub record Rounded (m n r : ℕ) : Type 0 where
+  pub enough : n ≤ r
+  pub close : r < n + m
+  pub whole : r % m ≡ 0
+
+pub rounded : (m n : ℕ) → 0 < m → Rounded m n (roundedUp m n)
+rounded m n p =
+    let q = div-add-mod' (n + (m - 1)) m in
+    let l = mod-lt (n + (m - 1)) p in
+    record { enough = omega arith; close = omega arith; whole = mul-mod-left ((n + (m - 1)) / m) m }
+
+pub rounded-mono : (m : ℕ) {a b : ℕ} → a ≤ b → roundedUp m a ≤ roundedUp m b
+rounded-mono m {a} {b} h = let l : a + (m - 1) ≤ b + (m - 1) = omega arith in mul-le-mul-right m (div-rises m l)
+
+-- ---- a component of size z, by horizontal-only depth k and depth d
+pub padded-wide : (k d : ℕ) (z : Size) → Rounded (2 ^ (k + d)) (z .width) (paddedSize k d z .width)
+unfolding paddedSize
+padded-wide k d z = rounded (2 ^ (k + d)) (z .width) (pow-pos (k + d))
+
+pub padded-high : (k d : ℕ) (z : Size) → Rounded (2 ^ d) (z .height) (paddedSize k d z .height)
+unfolding paddedSize
+padded-high k d z = rounded (2 ^ d) (z .height) (pow-pos d)
+
+pub padded-is : (k d : ℕ) (z : Size) → Padded k d (paddedSize k d z .height) (paddedSize k d z .width)
+padded-is k d z = record { high = padded-high k d z .whole; wide = padded-wide k d z .whole }
+
+-- a smaller component has no larger padded area
+pub padded-mono : (k d : ℕ) (c z : Size) → c .width ≤ z .width → c .height ≤ z .height → area (paddedSize k d c) ≤ area (paddedSize k d z)
+unfolding paddedSize
+padded-mono k d c z w h = mul-le-mul (rounded-mono (2 ^ (k + d)) w) (rounded-mono (2 ^ d) h)

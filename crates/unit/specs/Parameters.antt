@@ -1,0 +1,61 @@
+-- The transform parameters and their bits: ST 2042-1, 12.4; the major version: document 01, "Settings the box is given". Assumes nothing.
+use mathlib.Core.Bool.{Bool, true, false, not, cond, _||_}
+use mathlib.Core.List.{List, [], _∷_, _++_}
+use mathlib.Core.Option.{Option, none, some}
+use Prim.Native.Nat.{ℕ, zero, suc, _+_, _*_, _/_, _%_, _-_}
+use lib.Dec.{eqb, leb}
+use lib.ListN.{length}
+use Rattle.codewords.specs.Bit.{Bits, zeros}
+use Rattle.codewords.specs.Code.{codeU}
+
+-- 12.4.5.2: what slices are sized by
+pub data SliceParameters : Type 0 where
+  lowDelay : (numerator denominator : ℕ) → SliceParameters
+  highQuality : (prefix scaler : ℕ) → SliceParameters
+
+pub record Parameters : Type 0 where
+  pub wavelet : ℕ
+  pub depth : ℕ
+  pub waveletHo : ℕ
+  pub depthHo : ℕ
+  pub across : ℕ
+  pub down : ℕ
+  pub slice : SliceParameters
+  -- a custom matrix, if one is carried
+  pub matrix : Option (List ℕ)
+
+-- a flag, and the number if it is set
+abbrev pub flagged : Bool → ℕ → Bits
+flagged true n = true ∷ codeU n
+flagged false n = false ∷ []
+
+-- 12.4.4, from version 3 on
+unfoldable pub extendedBits : Parameters → Bits
+extendedBits t = flagged (not (eqb (t .waveletHo) (t .wavelet))) (t .waveletHo) ++ flagged (not (eqb (t .depthHo) 0)) (t .depthHo)
+
+abbrev pub sliceParameterBits : SliceParameters → Bits
+sliceParameterBits (lowDelay n d) = codeU n ++ codeU d
+sliceParameterBits (highQuality p c) = codeU p ++ codeU c
+
+unfoldable pub codesU : List ℕ → Bits
+codesU [] = []
+codesU (v ∷ vs) = codeU v ++ codesU vs
+
+-- 12.4.5.3
+abbrev pub matrixBits : Option (List ℕ) → Bits
+matrixBits none = false ∷ []
+matrixBits (some vs) = true ∷ codesU vs
+
+-- 12.4.1; version is the major version
+unfoldable pub parameterBits : ℕ → Parameters → Bits
+parameterBits version t =
+    codeU (t .wavelet) ++ (codeU (t .depth) ++ (cond (leb 3 version) (extendedBits t) [] ++ (codeU (t .across) ++ (codeU (t .down)
+    ++ (sliceParameterBits (t .slice) ++ matrixBits (t .matrix))))))
+
+-- zeros that fill the last byte of n bits
+abbrev pub fill : ℕ → Bits
+fill n = zeros ((8 - n % 8) % 8)
+
+-- the bytes that they take
+unfoldable pub parameterBytes : ℕ → Parameters → ℕ
+parameterBytes version t = (length (parameterBits version t) + 7) / 8

@@ -1,0 +1,37 @@
+-- Padded sides and the sides of the subbands: ST 2042-1, 13.2.1 and 13.2.3, by horizontal-only depth k and depth d. Assumes nothing.
+use mathlib.Core.Bool.{true, false, cond}
+use mathlib.Core.List.{List, [], _∷_, _++_}
+use Prim.Native.Nat.{ℕ, zero, suc, _+_, _*_, _-_, _/_, _^_}
+use lib.Dec.{eqb, leb}
+use Rattle.laws.specs.Rows.{span}
+use Rattle.unit.specs.Sizes.{Size}
+
+-- n rounded up to a multiple of m
+abbrev pub roundedUp : ℕ → ℕ → ℕ
+roundedUp m n = (n + (m - 1)) / m * m
+
+-- a component's padded size
+unfoldable pub paddedSize : ℕ → ℕ → Size → Size
+paddedSize k d z = record { width = roundedUp (2 ^ (k + d)) (z .width); height = roundedUp (2 ^ d) (z .height) }
+
+-- the size of the subbands of a level, of a component of size z: subband_width and subband_height
+unfoldable pub subbandSize : ℕ → ℕ → Size → ℕ → Size
+subbandSize k d z level =
+    let p = paddedSize k d z in
+    record {
+      width = cond (eqb level 0) (p .width / 2 ^ (k + d)) (p .width / 2 ^ (k + d - level + 1));
+      height = cond (leb level k) (p .height / 2 ^ d) (p .height / 2 ^ (k + d - level + 1));
+    }
+
+-- f n, three times, then f (n + 1) ..: m of them
+abbrev pub triples : {A : Type 0} → (ℕ → A) → ℕ → ℕ → List A
+triples f n zero = []
+triples f n (suc m) = f n ∷ f n ∷ f n ∷ triples f (suc n) m
+
+-- the subbands' sizes in the stream's order: level 0 (LL or L), the horizontal-only levels (H), and at each further level HL, LH, HH
+unfoldable pub subbandSizes : ℕ → ℕ → Size → List Size
+subbandSizes k d z = let f = subbandSize k d z in f 0 ∷ (span f 1 k ++ triples f (suc k) d)
+
+-- how many there are
+abbrev pub subbandCount : ℕ → ℕ → ℕ
+subbandCount k d = 1 + k + 3 * d

@@ -1,0 +1,112 @@
+-- The unit that a call writes: document 01, "Slices and unit". Assumes nothing.
+use mathlib.Core.Bool.{Bool, true, false, not, cond, _||_}
+use mathlib.Core.List.{List, [], _∷_, _++_, map}
+use Prim.Native.Nat.{ℕ, zero, suc, _+_, _*_, _-_, _/_}
+use lib.Dec.{eqb, leb}
+use lib.ListN.{length}
+use Rattle.codewords.specs.Bit.{Bits, lit}
+use Rattle.codewords.specs.Bytes.{toBytes}
+use Rattle.wavelet.specs.Planes.{Band}
+use Rattle.unit.specs.declared.Settings.{Settings}
+use Rattle.unit.specs.declared.PictureKind.{PictureKind}
+use Rattle.unit.specs.declared.PictureKind.the-variants.{LowDelay, HighQuality}
+use Rattle.unit.specs.declared.RateControl.{RateControl}
+use Rattle.unit.specs.declared.RateControl.the-variants.{Lossless, FixedQuantIndex, PictureBytes}
+use Rattle.unit.specs.Three.{Three}
+use Rattle.unit.specs.Sizes.{lumaSize}
+use Rattle.unit.specs.Slices.{Grid, count}
+use Rattle.unit.specs.Refusal.{paddedArea}
+use Rattle.unit.specs.Matrix.{matrixValues, carriedMatrix}
+use Rattle.unit.specs.Parameters.{SliceParameters, lowDelay, highQuality, Parameters, parameterBits, parameterBytes, fill}
+use Rattle.unit.specs.Coefficients.{coefficientsOf}
+use Rattle.unit.specs.Plan.{SlicePlan, Plan}
+use Rattle.unit.specs.LowDelay.{numerator, lowSlices, zeroPlanes}
+use Rattle.unit.specs.HighQuality.{highSlices, scalerFrom}
+
+-- 3 if extended or asymmetric, else 2 for high quality, else 1
+abbrev pub versionBy : Bool → PictureKind → ℕ
+versionBy true k = 3
+versionBy false HighQuality = 2
+versionBy false LowDelay = 1
+
+unfoldable pub majorVersion : Settings → ℕ
+majorVersion s =
+    versionBy (s .extended || (not (eqb (s .«wavelet_index») (s .«wavelet_index_ho»)) || not (eqb (s .«dwt_depth_ho») 0))) (s .kind)
+
+abbrev pub gridOf : Settings → Grid
+gridOf s = record { down = s .«slices_y»; across = s .«slices_x» }
+
+abbrev pub parametersBy : Settings → List ℕ → SliceParameters → Parameters
+parametersBy s m p = record {
+  wavelet = s .«wavelet_index»;
+  depth = s .«dwt_depth»;
+  waveletHo = s .«wavelet_index_ho»;
+  depthHo = s .«dwt_depth_ho»;
+  across = s .«slices_x»;
+  down = s .«slices_y»;
+  slice = p;
+  matrix = carriedMatrix s m;
+}
+
+-- a picture's bytes, 0 for other rates
+abbrev pub targetOf : RateControl → ℕ
+targetOf Lossless = 0
+targetOf (FixedQuantIndex q) = 0
+targetOf (PictureBytes n) = n
+
+module _ (s : Settings) (m : List ℕ) where
+  abbrev pub lowParameters : ℕ → Parameters
+  lowParameters n = parametersBy s m (lowDelay n (count (gridOf s)))
+
+  abbrev pub highParameters : ℕ → Parameters
+  highParameters c = parametersBy s m (highQuality (s .«slice_prefix_bytes») c)
+
+  unfoldable pub numeratorOf : ℕ
+  numeratorOf = numerator (majorVersion s) (targetOf (s .rate)) (count (gridOf s)) lowParameters
+
+  -- the bytes for all high-quality slices: the target less overhead, or 0 below that
+  abbrev pub highBytes : ℕ → ℕ
+  highBytes c = targetOf (s .rate) - (17 + parameterBytes (majorVersion s) (highParameters c))
+
+  abbrev pub highSlicesOf : Three (List Band) → ℕ → List SlicePlan
+  highSlicesOf b c = highSlices (gridOf s) (matrixValues s m) b (s .«slice_prefix_bytes») (s .rate) c (highBytes c)
+
+  -- the final scaler; a component needs at most 16 bytes for each of its numbers
+  unfoldable pub scalerOf : Three (List Band) → ℕ
+  scalerOf b = scalerFrom (highSlicesOf b) (16 * paddedArea s (lumaSize s)) (s .«slice_size_scaler»)
+
+  abbrev pub planBy : PictureKind → Three (List Band) → Plan
+  planBy LowDelay b =
+      let n = numeratorOf in
+      record { parameters = lowParameters n; slices = lowSlices (gridOf s) (matrixValues s m) b n zeroPlanes 0 (count (gridOf s)) }
+  planBy HighQuality b = let c = scalerOf b in record { parameters = highParameters c; slices = highSlicesOf b c }
+
+-- s are the settings, m the lent matrix, p the planes
+unfoldable pub planOf : Settings → List ℕ → Three (List ℕ) → Plan
+planOf s m p = let b = coefficientsOf s p in planBy s m (s .kind) b
+
+abbrev pub parseCode : PictureKind → ℕ
+parseCode LowDelay = 0xC8
+parseCode HighQuality = 0xE8
+
+-- the bytes of the slices, one run for each
+abbrev pub sliceRuns : List SlicePlan → List (List ℕ)
+sliceRuns ss = map (λ p. toBytes (p .bits)) ss
+
+unfoldable pub joined : List (List ℕ) → List ℕ
+joined [] = []
+joined (r ∷ rs) = r ++ joined rs
+
+-- parse information (the next length is the unit's), picture number and transform parameters
+unfoldable pub headBits : Settings → ℕ → Parameters → Bits
+headBits s n t =
+    let b = parameterBits (majorVersion s) t in
+    lit 32 0x42424344 ++ (lit 8 (parseCode (s .kind)) ++ (lit 32 n ++ (lit 32 (s .«prev_unit_len») ++ (lit 32 (s .«picture_number»)
+    ++ (b ++ fill (length b))))))
+
+-- the length of the unit
+unfoldable pub lengthOf : Settings → Plan → ℕ
+lengthOf s a = 17 + parameterBytes (majorVersion s) (a .parameters) + length (joined (sliceRuns (a .slices)))
+
+unfoldable pub unitOf : Settings → Plan → List ℕ
+unitOf s a = let rs = joined (sliceRuns (a .slices)) in toBytes (headBits s (lengthOf s a) (a .parameters)) ++ rs
