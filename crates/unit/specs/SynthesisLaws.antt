@@ -144,7 +144,7 @@ module _ (i j : ℕ) (hi : i ≤ 6) (hj : j ≤ 6) where
       let t : Band = record { high = h; wide = w / 2; plane = partH 1 g } in
       let bs = dwtH exact i k h (w / 2) (partH 0 g) in
       let s = split bs (t ∷ []) rs e in
-      across-top bs t k h w rs refl refl (length-dwtH i j hi hj k h (w / 2) (partH 0 g)) s (idwtH-same k h (w / 2) (partH 0 g) (s .left) (s .equal-left))
+      across-top bs t k h w rs refl refl (length-dwtH exact i k h (w / 2) (partH 0 g)) s (idwtH-same k h (w / 2) (partH 0 g) (s .left) (s .equal-left))
 
   idwt-same : (k d h w : ℕ) (f : Plane) (rs : List Band) → EqualBands (dwt exact i j k d h w f) rs → Agree h w (idwt i j rs k d) (idwt i j (dwt exact i j k d h w f) k d)
   unfolding dwt
@@ -153,7 +153,7 @@ module _ (i j : ℕ) (hi : i ≤ 6) (hj : j ≤ 6) where
       let g = vhPass exact i j h w f in
       let bs = dwt exact i j k d (h / 2) (w / 2) (part 0 0 g) in
       let s = split bs _ rs e in
-      both-top bs (part 0 1 g) (part 1 0 g) (part 1 1 g) k d h w rs (length-dwt i j hi hj k d (h / 2) (w / 2) (part 0 0 g)) s
+      both-top bs (part 0 1 g) (part 1 0 g) (part 1 1 g) k d h w rs (length-dwt exact i j k d (h / 2) (w / 2) (part 0 0 g)) s
       (idwt-same k d (h / 2) (w / 2) (part 0 0 g) (s .left) (s .equal-left))
 
   -- the synthesis of bands that equal those of a plane's analysis is the plane

@@ -7,6 +7,7 @@ pub mod LiftingLaws
 pub mod Bound
 pub mod PlaneLaws
 pub mod PlaneBound
+pub mod Bands
 pub mod PlaneLists
 pub mod PadLaws
 pub mod Product

@@ -108,7 +108,7 @@ interleave-cong h w l m hl lh hh e f a = record {
 twice-half : (n : ℕ) → n % 2 ≡ 0 → 2 * (n / 2) ≡ n
 twice-half n e = omega arith
 
-band-left : (bs ts : List Band) (i : ℕ) → i < length bs → bandAt (bs ++ ts) i ≡ bandAt bs i
+pub band-left : (bs ts : List Band) (i : ℕ) → i < length bs → bandAt (bs ++ ts) i ≡ bandAt bs i
 band-left bs ts i l = List·getD-append bs ts _ i l
 
 pub band-right : (bs ts : List Band) (i j : ℕ) → j ≡ length bs + i → bandAt (bs ++ ts) j ≡ bandAt ts i
@@ -133,6 +133,17 @@ padded-across k h w p = let b = half-of w (k + 0) (rw (suc-add k 0) at (p .wide)
 
 pub padded-of : (k d a c : ℕ) → Padded k d (2 ^ d * a) (2 ^ (k + d) * c)
 padded-of k d a c = record { high = mul-mod-right (2 ^ d) a; wide = mul-mod-right (2 ^ (k + d)) c }
+
+-- ---- how many bands
+pub length-dwtH : (wr : ℤ → ℤ) (i k h w : ℕ) (f : Plane) → length (dwtH wr i k h w f) ≡ 1 + k
+unfolding dwtH
+length-dwtH wr i zero h w f = refl
+length-dwtH wr i (suc k) h w f = simp (length-append, length-dwtH wr i k h (w / 2) (partH 0 (hPass wr i h w f))) (omega arith)
+
+pub length-dwt : (wr : ℤ → ℤ) (i j k d h w : ℕ) (f : Plane) → length (dwt wr i j k d h w f) ≡ 1 + k + 3 * d
+unfolding dwt
+length-dwt wr i j k zero h w f = length-dwtH wr i k h w f ∙ omega arith
+length-dwt wr i j k (suc d) h w f = simp (length-append, length-dwt wr i j k d (h / 2) (w / 2) (part 0 0 (vhPass wr i j h w f))) (omega arith)
 
 -- ---- synthesis of the analysis
 undone : (i : ℕ) → i ≤ 6 → Undone (analysisBy exact i) (synthesisBy exact i)
@@ -176,16 +187,6 @@ module _ (i j : ℕ) (hi : i ≤ 6) (hj : j ≤ 6) where
         ∙ lower-raise b (f y x) (bits-le i hi);
   }
 
-  pub length-dwtH : (k h w : ℕ) (f : Plane) → length (dwtH exact i k h w f) ≡ 1 + k
-  unfolding dwtH
-  length-dwtH zero h w f = refl
-  length-dwtH (suc k) h w f = simp (length-append, length-dwtH k h (w / 2) (partH 0 (hPass exact i h w f))) (omega arith)
-
-  pub length-dwt : (k d h w : ℕ) (f : Plane) → length (dwt exact i j k d h w f) ≡ 1 + k + 3 * d
-  unfolding dwt
-  length-dwt k zero h w f = length-dwtH k h w f ∙ omega arith
-  length-dwt k (suc d) h w f = simp (length-append, length-dwt k d (h / 2) (w / 2) (part 0 0 (vhPass exact i j h w f))) (omega arith)
-
   -- only the first bands count
   pub idwtH-left : (bs ts : List Band) (n : ℕ) → n < length bs → idwtH i (bs ++ ts) n ≡ idwtH i bs n
   unfolding idwtH
@@ -207,7 +208,7 @@ module _ (i j : ℕ) (hi : i ≤ 6) (hj : j ≤ 6) where
         let p = padded-across k h w s in
         let bs = dwtH exact i k h (w / 2) (partH 0 g) in
         let t : Band = record { high = h; wide = w / 2; plane = partH 1 g } in
-        let l = length-dwtH k h (w / 2) (partH 0 g) in
+        let l = length-dwtH exact i k h (w / 2) (partH 0 g) in
         ap (λ (q : Plane). q y x) (ap₂ (hSynthesis i) (idwtH-left bs (t ∷ []) k (omega arith)) (band-right bs (t ∷ []) 0 (1 + k) (omega arith)))
         ∙ h-back h w f (idwtH i bs k) (p .0) (idwtH-undoes-dwtH k h (w / 2) (partH 0 g) (p .1)) .same y x hy hx;
   }
@@ -225,7 +226,7 @@ module _ (i j : ℕ) (hi : i ≤ 6) (hj : j ≤ 6) where
         let t1 : Band = record { high = h / 2; wide = w / 2; plane = part 1 0 g } in
         let t2 : Band = record { high = h / 2; wide = w / 2; plane = part 1 1 g } in
         let ts = t0 ∷ t1 ∷ t2 ∷ [] in
-        let l = length-dwt k d (h / 2) (w / 2) (part 0 0 g) in
+        let l = length-dwt exact i j k d (h / 2) (w / 2) (part 0 0 g) in
         let e : idwt i j (bs ++ ts) k (suc d) ≡ vhSynthesis i j (idwt i j bs k d) t0 t1 t2 =
         rw (idwt-left bs ts k d (omega arith), band-right bs ts 0 (1 + k + 3 * d) (omega arith), band-right bs ts 1 (1 + (1 + k + 3 * d)) (omega arith), band-right bs ts 2 (2 + (1 + k + 3 * d)) (omega arith)) in
         ap (λ (q : Plane). q y x) e ∙ vh-back h w f (idwt i j bs k d) (p .0) (p .1 .0) (idwt-undoes-dwt k d (h / 2) (w / 2) (part 0 0 g) (p .1 .1)) .same y x hy hx;
