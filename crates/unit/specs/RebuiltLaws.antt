@@ -164,7 +164,7 @@ module _ (n : ℕ) (room : n < 2 ^ 51) where
   step-room : (c p : ℤ) → natAbs c ≤ n → natAbs p ≤ 3 * n + 2 → natAbs (c -ℤ p) < 2 ^ 53
   step-room c p hc hp = omega (arith, abs-sub c p)
 
-  step-most : (c p : ℤ) (i : ℕ) → natAbs c ≤ n → natAbs p ≤ 3 * n + 2 → natAbs (rebuiltAt i c p) ≤ 3 * n + 2
+  pub step-most : (c p : ℤ) (i : ℕ) → natAbs c ≤ n → natAbs p ≤ 3 * n + 2 → natAbs (rebuiltAt i c p) ≤ 3 * n + 2
   step-most c p i hc hp =
       let r = quantised (c -ℤ p) i (step-room c p hc hp) in
       rw (r .is) (over (c -ℤ p) c p (r .size) n refl hc hp (r .most))

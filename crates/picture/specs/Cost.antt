@@ -1,0 +1,58 @@
+-- What a run of numbers costs, added up number by number. Assumes nothing.
+use mathlib.Core.Path.{_≡_}
+use mathlib.Core.Bool.{Bool, true, false, cond}
+use mathlib.Core.List.{List, [], _∷_}
+use Prim.Native.Nat.{ℕ, zero, suc, _+_, _*_, _≤_, _<_, _^_}
+use lib.Dec.{leb}
+use lib.IntN.{ℤ, pos, negsuc}
+use lib.ListN.{length}
+use Rattle.codewords.specs.Code.{codeS}
+use Rattle.picture.specs.declared.cost.Cost.{Cost}
+
+abbrev pub isZero : ℤ → Bool
+isZero (pos zero) = true
+isZero (pos (suc n)) = false
+isZero (negsuc n) = false
+
+-- the run that fits, with all numbers so far where these do
+unfoldable pub fitted : Cost → Cost
+fitted c = record {
+  room = c .room;
+  bits = c .bits;
+  count = c .count;
+  «kept_bits» = c .«kept_bits»;
+  keep = c .keep;
+  «fit_bits» = cond (leb (c .bits) (c .room)) (c .bits) (c .«fit_bits»);
+  fit = cond (leb (c .bits) (c .room)) (c .count) (c .fit);
+}
+
+-- one number more, which ends at n bits: one that is not 0 ends the kept run
+unfoldable pub kept : Cost → Bool → ℕ → Cost
+kept c none n = record {
+  room = c .room;
+  bits = n;
+  count = c .count + 1;
+  «kept_bits» = cond none (c .«kept_bits») n;
+  keep = cond none (c .keep) (c .count + 1);
+  «fit_bits» = c .«fit_bits»;
+  fit = c .fit;
+}
+
+pub record Kept (c : Cost) (none : Bool) (n : ℕ) (r : Cost) : Type 0 where
+  pub is : r ≡ kept c none n
+
+abbrev pub add1 : Cost → ℤ → Cost
+add1 c z = fitted (kept c (isZero z) (c .bits + length (codeS z)))
+
+unfoldable pub addAll : Cost → List ℤ → Cost
+addAll c [] = c
+addAll c (z ∷ zs) = addAll (add1 c z) zs
+
+-- nothing yet
+abbrev pub noCost : ℕ → Cost
+noCost room = record { room = room; bits = 0; count = 0; «kept_bits» = 0; keep = 0; «fit_bits» = 0; fit = 0 }
+
+-- n more numbers can be added
+pub record Countable (c : Cost) (n : ℕ) : Type 0 where
+  pub bits : c .bits ≤ 128 * c .count
+  pub count : c .count + n ≤ 2 ^ 40

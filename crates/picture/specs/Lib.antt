@@ -1,0 +1,9 @@
+pub mod Sides
+pub mod SidesLaws
+pub mod RefusalLaws
+pub mod Run
+pub mod Cost
+pub mod Put
+pub mod RunLaws
+pub mod CostLaws
+pub mod PutLaws

@@ -1,0 +1,142 @@
+-- Laws of intlog2 as a loop finds it, of padded sides and areas, and of a matrix's values in 25 places. Assumes nothing.
+use mathlib.Core.Path.{_≡_, refl, sym, _∙_}
+use mathlib.Core.Bool.{Bool, true, false, not}
+use mathlib.Core.List.{List}
+use mathlib.Core.Option.{Option, none, some}
+use Prim.Native.Nat.{ℕ, zero, suc, _+_, _-_, _*_, _^_, _≤_, _<_}
+use native.Mathlib.Nat.{le-antisymm, le-trans, zero-add, mul-le-mul}
+use native.Mathlib.Numerals.{add-one}
+use native.Mathlib.Decide.{decLe}
+use native.Mathlib.Omega.{arith}
+use lib.ListN.{length, getD, drop, set, replicate}
+use lib.Pow.{pow-pos, pow-mono}
+use lib.Seq.{paste, paste-suc, take-all}
+use Rattle.quantiser.specs.AnnexD.{defaultMatrix}
+use Rattle.quantiser.specs.Default as default
+use Rattle.quantiser.specs.Default.{places, handed}
+use Rattle.wavelet.specs.Pad.{paddedSide}
+use Rattle.unit.specs.declared.Settings.{Settings}
+use Rattle.unit.specs.Sizes.{Size, lumaSize, colourSize, intlog2}
+use Rattle.unit.specs.Subbands.{paddedSize}
+use Rattle.unit.specs.Matrix.{defaultOf, orNone, matrixValues}
+use Rattle.unit.specs.Refusal.{isNone, paddedArea}
+use Rattle.unit.specs.Valid.{MatrixFits}
+use Rattle.unit.specs.TestLaws.{no-truth}
+use Rattle.unit.specs.Intlog2Laws.{intlog2-least}
+use Rattle.unit.specs.PaddedLaws.{rounded, padded-wide, padded-high}
+use Rattle.unit.specs.ValidLaws.{luma-fits, colour-fits}
+
+-- ---- intlog2
+pub log-more : (n m : ℕ) → 2 ^ m < n → m < intlog2 n
+log-more n m h = by (decLe (intlog2 n) m)
+  where
+    by : Dec (intlog2 n ≤ m) → m < intlog2 n
+    by (yes l) =
+        let e = intlog2-least n .enough in
+        let p = pow-mono {i = intlog2 n} {j = m} l in
+        absurd (omega arith)
+    by (no l) = omega arith
+
+pub log-few : (n : ℕ) → n < 2 ^ 31 → intlog2 n < 32
+log-few n h = let l = intlog2-least n .least 31 (omega arith) in omega arith
+
+pub log-is : (n m : ℕ) → n ≤ 2 ^ m → m ≤ intlog2 n → m ≡ intlog2 n
+log-is n m h l = le-antisymm l (intlog2-least n .least m h)
+
+-- ---- products and padded sides in the code's widths
+pub product-fits : (a b : ℕ) → a < 2 ^ 32 → b < 2 ^ 32 → a * b < 2 ^ 64
+product-fits a b p q =
+    let h : a * b ≤ 4294967295 * 4294967295 = mul-le-mul {n₁ = a} {m₁ = b} {n₂ = 4294967295} {m₂ = 4294967295} (omega arith) (omega arith) in
+    omega arith
+
+pub padded-few : (n side : ℕ) → n ≤ 10 → side ≤ 65535 → paddedSide n side < 2 ^ 32
+unfolding paddedSide
+padded-few n side h l =
+    let p = pow-mono {i = n} {j = 10} h in
+    omega (arith, rounded (2 ^ n) side (pow-pos n) .close)
+
+-- ---- areas
+-- the depths and the frame are small enough for padded areas to be worked out
+pub record Measured (s : Settings) : Type 0 where
+  pub depths : s .«dwt_depth» + s .«dwt_depth_ho» ≤ 5
+  pub width : s .«frame_width» ≤ 65535
+  pub height : s .«frame_height» ≤ 65535
+
+-- z is no larger than the frame
+pub record Within (s : Settings) (z : Size) : Type 0 where
+  pub width : z .width ≤ s .«frame_width»
+  pub height : z .height ≤ s .«frame_height»
+
+pub luma-within : (s : Settings) (z : Size) → z ≡ lumaSize s → Within s z
+luma-within s z e = let f = luma-fits s in rw e (record { width = f .0; height = f .1 })
+
+pub colour-within : (s : Settings) (z : Size) → z ≡ colourSize s → Within s z
+colour-within s z e =
+    let f = luma-fits s in
+    let c = colour-fits s in
+    rw e (record { width = le-trans (c .0) (f .0); height = le-trans (c .1) (f .1) })
+
+pub padded-area-few : (s : Settings) (z : Size) → Measured s → Within s z → paddedArea s z ≤ 17179869184
+padded-area-few s z m w =
+    let k = s .«dwt_depth_ho» in
+    let d = s .«dwt_depth» in
+    let p = pow-mono {i = k + d} {j = 5} (omega (arith, m .depths)) in
+    let q = pow-mono {i = d} {j = 5} (omega (arith, m .depths)) in
+    let h : paddedArea s z ≤ 131072 * 131072 =
+    mul-le-mul {n₁ = paddedSize k d z .width} {m₁ = paddedSize k d z .height} {n₂ = 131072} {m₂ = 131072}
+    (omega (arith, padded-wide k d z .close, m .width, w .width)) (omega (arith, padded-high k d z .close, m .height, w .height)) in
+    omega arith
+
+-- ---- the places, the first i of them filled
+abbrev pub filledTo : List ℕ → ℕ → List ℕ
+filledTo vs i = paste (replicate 25 0) 0 vs i
+
+pub filled-next : (vs xs : List ℕ) (i : ℕ) → length vs ≤ 25 → i < length vs → xs ≡ filledTo vs i → set xs i (getD vs i 0) ≡ filledTo vs (i + 1)
+filled-next vs xs i l h p =
+    let m : 0 + i < 25 = omega arith in
+    rw (p, add-one i, ← paste-suc (replicate 25 0) 0 vs i 0 m h, zero-add i)
+
+drop-zeros : (n i : ℕ) → drop {A = ℕ} i (replicate n 0) ≡ replicate (n - i) 0
+drop-zeros n zero = let e : n - 0 ≡ n = omega arith in rw e
+drop-zeros zero (suc i) = let e : 0 - suc i ≡ 0 = omega arith in rw e
+drop-zeros (suc n) (suc i) = let e : suc n - suc i ≡ n - i = omega arith in rw e (drop-zeros n i)
+
+pub filled-places : (vs xs : List ℕ) (i : ℕ) → i ≡ length vs → xs ≡ filledTo vs i → xs ≡ places vs
+filled-places vs xs i e p =
+    let z : 0 + i ≡ length vs = omega arith in
+    p ∙ rw (z, e, drop-zeros 25 (length vs), take-all (length vs) vs (omega arith))
+
+-- ---- the lent matrix
+module _ (s : Settings) (m : List ℕ) where
+  pub custom-few : s .«custom_matrix» ≡ true → s .«dwt_depth» + s .«dwt_depth_ho» ≤ 5 → MatrixFits s m (s .«custom_matrix») (defaultOf s) → length m ≤ 25
+  custom-few e d f = by (s .«custom_matrix») e f
+    where
+      by : (b : Bool) → b ≡ true → MatrixFits s m b (defaultOf s) → length m ≤ 25
+      by true p g = omega (arith, g .0)
+      by false p g = no-truth (sym p)
+
+  pub custom-values : s .«custom_matrix» ≡ true → matrixValues s m ≡ m
+  unfolding matrixValues
+  custom-values e = rw e refl
+
+  pub by-default : s .«custom_matrix» ≡ false → matrixValues s m ≡ orNone (defaultOf s)
+  unfolding matrixValues
+  by-default e = rw e refl
+
+-- ---- the default
+module _ (w h d k : ℕ) where
+  pub default-missing : not (default.defaultOf w h d k .found) ≡ isNone (defaultMatrix w h d k)
+  unfolding default.defaultOf
+  default-missing = by (defaultMatrix w h d k)
+    where
+      by : (o : Option (List ℕ)) → not (handed o .found) ≡ isNone o
+      by none = refl
+      by (some vs) = refl
+
+  pub default-values : default.defaultOf w h d k .values ≡ places (orNone (defaultMatrix w h d k))
+  unfolding default.defaultOf
+  default-values = by (defaultMatrix w h d k)
+    where
+      by : (o : Option (List ℕ)) → handed o .values ≡ places (orNone o)
+      by none = refl
+      by (some vs) = refl

@@ -1,0 +1,8 @@
+// Towards the picture call, the port of encoder.rs: what a call is refused for, and the numbers of a slice in the work slice.
+pub mod cost;
+pub mod matrix;
+pub mod put;
+pub mod rebuild;
+pub mod refusal;
+pub mod sizes;
+pub mod strip;

@@ -1,0 +1,99 @@
+// A slice's kept numbers, written.
+use crate::strip::Strip;
+use codewords::writer::BitWriter;
+ghost use mathlib.Core.Path.{_≡_};
+ghost use mathlib.Core.List.{[], _∷_};
+ghost use Prim.Native.Nat.{ℕ, _-_, _≤_, _<_};
+ghost use Rattle.picture.specs.Run.{secondNumber, placeNumbers, rowNumbers, stripNumbers, Small, Within, Inside};
+ghost use Rattle.picture.specs.Put.{RoomFor, Puts};
+
+// The bit writer, and how many numbers are still to be kept.
+pub struct Put {
+    pub writer: BitWriter,
+    pub left: usize,
+}
+
+// One number, if it is to be kept.
+pub fn put_number(out: &mut [u8], p: Put, z: i64) -> Put
+    requires { ⌜ RoomFor (now out) p (z ∷ []) ⌝ }
+    ensures { λ r. ⌜ Puts (now (out .entry)) p (z ∷ []) (now (out .exit)) r ⌝ }
+{
+    if p.left == 0 {
+        return p;
+    }
+    let w = p.writer;
+    let writer = codewords::writer::put_sint(out, w, z);
+    Put {
+        writer,
+        left: p.left - 1,
+    }
+}
+
+// The second colour's number of a place, where there is one.
+fn put_second(
+    out: &mut [u8],
+    p: Put,
+    work: &[i64],
+    a: usize,
+    n: usize,
+    s: Strip,
+    y: usize,
+    x: usize,
+) -> Put
+    requires { ⌜ RoomFor (now out) p (secondNumber (now work) s y x) × (Small a n (now work) × (Within a n s × Inside s y x)) ⌝ }
+    ensures { λ r. ⌜ Puts (now (out .entry)) p (secondNumber (now (work .entry)) s y x) (now (out .exit)) r ⌝ }
+{
+    if s.pair {
+        let z = crate::strip::number_at(work, s, s.coefs2, s.rebuilt2, y, x);
+        put_number(out, p, z)
+    } else {
+        p
+    }
+}
+
+// The numbers of a place.
+fn put_place(
+    out: &mut [u8],
+    p: Put,
+    work: &[i64],
+    a: usize,
+    n: usize,
+    s: Strip,
+    y: usize,
+    x: usize,
+) -> Put
+    requires { ⌜ RoomFor (now out) p (placeNumbers (now work) s y x) × (Small a n (now work) × (Within a n s × Inside s y x)) ⌝ }
+    ensures { λ r. ⌜ Puts (now (out .entry)) p (placeNumbers (now (work .entry)) s y x) (now (out .exit)) r ⌝ }
+{
+    let z = crate::strip::number_at(work, s, s.coefs, s.rebuilt, y, x);
+    let q = put_number(out, p, z);
+    put_second(out, q, work, a, n, s, y, x)
+}
+
+// Those of a row of the strip.
+fn put_row(out: &mut [u8], p: Put, work: &[i64], a: usize, n: usize, s: Strip, y: usize) -> Put
+    requires { ⌜ RoomFor (now out) p (rowNumbers (now work) s y (s .left) (s .right - s .left)) × (Small a n (now work) × (Within a n s × ((s .top ≤ y) × (y < s .bottom)))) ⌝ }
+    ensures { λ r. ⌜ Puts (now (out .entry)) p (rowNumbers (now (work .entry)) s y (s .left) (s .right - s .left)) (now (out .exit)) r ⌝ }
+{
+    let mut t = p;
+    let mut x = s.left;
+    while x < s.right {
+        t = put_place(out, t, work, a, n, s, y, x);
+        x += 1;
+    }
+    t
+}
+
+// Those of the strip.
+pub fn put_strip(out: &mut [u8], p: Put, work: &[i64], a: usize, n: usize, s: Strip) -> Put
+    requires { ⌜ RoomFor (now out) p (stripNumbers (now work) s) × (Small a n (now work) × Within a n s) ⌝ }
+    ensures { λ r. ⌜ Puts (now (out .entry)) p (stripNumbers (now (work .entry)) s) (now (out .exit)) r ⌝ }
+{
+    let mut t = p;
+    let mut y = s.top;
+    while y < s.bottom {
+        t = put_row(out, t, work, a, n, s, y);
+        y += 1;
+    }
+    t
+}
