@@ -1,7 +1,7 @@
 -- Demand 3: what the reader gives back of an accepted picture's unit. One statement about a call and the whole reading. Assumes nothing.
 use mathlib.Core.Path.{_≡_}
 use mathlib.Core.List.{List, [], _∷_, map}
-use Prim.Native.Nat.{ℕ, zero, suc, _+_, _*_, _-_, _/_, _<_}
+use Prim.Native.Nat.{ℕ, zero, suc, _+_, _*_, _-_, _/_, _≤_, _<_}
 use lib.IntN.{ℤ, pos, natAbs, _-ℤ_}
 use lib.ListN.{length, getD}
 use Rattle.codewords.specs.Read.{Read, got}
@@ -10,12 +10,15 @@ use Rattle.laws.specs.Rows.{span}
 use Rattle.quantiser.specs.Quant.{quantFactor, bandIndex}
 use Rattle.wavelet.specs.Planes.{Band}
 use Rattle.unit.specs.declared.Settings.{Settings}
+use Rattle.unit.specs.declared.PictureKind.{PictureKind}
+use Rattle.unit.specs.declared.PictureKind.the-variants.{LowDelay, HighQuality}
 use Rattle.unit.specs.Three.{Three}
 use Rattle.unit.specs.Sizes.{Size, sizesOf, depthsOf}
 use Rattle.unit.specs.Slices.{Grid, count, sliceOf}
 use Rattle.unit.specs.Matrix.{matrixValues}
 use Rattle.unit.specs.Parameters.{SliceParameters, lowDelay, highQuality, Parameters, parameterBytes}
-use Rattle.unit.specs.LowDelay.{sliceBytes}
+use Rattle.unit.specs.LowDelay.{sliceBytes, roomOf, alternated}
+use Rattle.unit.specs.Trim.{trimmedCost}
 use Rattle.unit.specs.Coefficients.{coefficientsOf}
 use Rattle.unit.specs.Quantised.{sizeOf}
 use Rattle.unit.specs.Plan.{SlicePlan, Plan}
@@ -62,6 +65,20 @@ Undropped a = All (λ (s : SlicePlan). s .kept ≡ s .numbers) (a .slices)
 abbrev pub AllZero : Plan → Type 0
 AllZero a = All (λ (s : SlicePlan). s .index ≡ 0) (a .slices)
 
+-- a low-delay slice fits if what is written of all its numbers takes at most the bits that its bytes leave
+abbrev pub FitsIn : SlicePlan → Type 0
+FitsIn a = trimmedCost (a .numbers .y) + trimmedCost (alternated (a .numbers .c1) (a .numbers .c2)) ≤ roomOf (bytesOf a)
+
+-- a slice that fits drops nothing, and every slice of an index below 127 fits
+pub record LowDrops (a : SlicePlan) : Type 0 where
+  pub whole : FitsIn a → a .kept ≡ a .numbers
+  pub fits : a .index < 127 → FitsIn a
+
+-- which slices can drop numbers: none of high quality
+abbrev pub Drops : PictureKind → SlicePlan → Type 0
+Drops LowDelay a = LowDrops a
+Drops HighQuality a = a .kept ≡ a .numbers
+
 abbrev pub planIndex : Plan → ℕ → ℕ
 planIndex a k = getD (map (λ (s : SlicePlan). s .index) (a .slices)) k 0
 
@@ -89,6 +106,8 @@ pub record Demand3 (s : Settings) (m : List ℕ) (p : Three (List ℕ)) (unit : 
   pub number : reading .number ≡ s .«picture_number»
   pub parameters : reading .parameters ≡ planOf s m p .parameters
   pub slices : SameSlices (planOf s m p .slices) (reading .slices)
+  -- what is kept of a slice's numbers is all of them, unless it is of low delay, carries index 127 and does not fit
+  pub drops : All (Drops (s .kind)) (planOf s m p .slices)
   pub places : Follow (17 + parameterBytes (majorVersion s) (reading .parameters)) (reading .slices) (length unit)
   pub bytes : Bytes (reading .parameters .slice) (reading .slices)
   pub near : Undropped (planOf s m p)

@@ -1,12 +1,15 @@
 -- Demand 3 holds of the unit of every accepted call. Assumes nothing.
 use mathlib.Core.Path.{_≡_, refl, sym, ap, ap₂, _∙_}
-use mathlib.Core.Bool.{Bool, true, false}
-use mathlib.Core.List.{List, [], _∷_, map}
+use mathlib.Core.Bool.{Bool, true, false, _||_}
+use mathlib.Core.List.{List, [], _∷_, _++_, map}
 use mathlib.Core.Option.{Option, none, some}
 use Prim.Native.Nat.{ℕ, zero, suc, _+_, _*_, _-_, _^_, _≤_, _<_, min}
 use native.Mathlib.Omega.{arith}
 use lib.IntN.{ℤ, pos, natAbs, _+ℤ_}
-use lib.ListN.{length, getD}
+use lib.Dec.{eqb, ltb}
+use lib.ListN.{length, getD, take, drop, replicate}
+use lib.Seq.{take-at}
+use borrow.Author.Tests.{eqb-true, ltb-false}
 use Rattle.codewords.specs.Read.{Read, got}
 use Rattle.laws.specs.Integer.{sub-add}
 use Rattle.laws.specs.Plane.{Plane, Agree}
@@ -16,6 +19,9 @@ use Rattle.wavelet.specs.Pad.{padded}
 use Rattle.wavelet.specs.PlaneBound.{AllSmall}
 use Rattle.wavelet.specs.Theorems.{AllBelow, component-exact}
 use Rattle.unit.specs.declared.Settings.{Settings}
+use Rattle.unit.specs.declared.Coded.{Coded}
+use Rattle.unit.specs.declared.Answer.{Answer}
+use Rattle.unit.specs.declared.Answer.the-variants.{Accepted, Refused}
 use Rattle.unit.specs.declared.PictureKind.{PictureKind}
 use Rattle.unit.specs.declared.PictureKind.the-variants.{LowDelay, HighQuality}
 use Rattle.unit.specs.Three.{Three}
@@ -29,6 +35,7 @@ use Rattle.unit.specs.Coefficients.{bandsOf, coefficientsOf}
 use Rattle.unit.specs.Quantised.{sizeOf}
 use Rattle.unit.specs.Plan.{SlicePlan, Plan}
 use Rattle.unit.specs.Unit.{majorVersion, gridOf, parametersBy, planBy, planOf, lengthOf, unitOf, joined, sliceRuns}
+use Rattle.unit.specs.Outcome.{codedOf, Outcome, zeroed, outcomeOf}
 use Rattle.unit.specs.Reader.{Reading, readUnit, gridIn, bandSizesIn, valuesBy, valuesIn, readBands, readSamplesOf, readSamples}
 use Rattle.unit.specs.Demand.{SameSlices, Follow, Bytes, Undropped, AllZero, planIndex, NearBands, SameSamples, Demand3}
 use Rattle.unit.specs.Valid.{Between, Valid}
@@ -41,6 +48,8 @@ use Rattle.unit.specs.SynthesisLaws.{idwt-back}
 use Rattle.unit.specs.PlannedLaws.{Component, Y, C1, C2, pick, ReadAs, Planned, call-planned, planned-near, planned-equal}
 use Rattle.unit.specs.Intlog2Laws.{offset-range}
 use Rattle.unit.specs.PaddedLaws.{padded-wide, padded-high, padded-is}
+use Rattle.unit.specs.DropLaws.{drops-of}
+use Rattle.unit.specs.TestLaws.{no-truth, or-none}
 use Rattle.unit.specs.ValidLaws.{valid, sample-depths}
 
 -- a call's numbers as its types have them: samples of 16 bits, picture number and previous length of 32
@@ -189,6 +198,7 @@ module _ (s : Settings) (m : List ℕ) (p : Three (List ℕ)) (work : List ℤ) 
       number = unfold readingOf in refl;
       parameters = unfold readingOf in refl;
       slices = same;
+      drops = drops-of s m p work v;
       places = unfold readingOf in placed;
       bytes = unfold readingOf in bytes-of s m p work v (reading .slices) same;
       near = λ u. (near-all u Y, near-all u C1, near-all u C2);
@@ -200,3 +210,49 @@ module _ (s : Settings) (m : List ℕ) (p : Three (List ℕ)) (work : List ℤ) 
 pub demand : (s : Settings) (m : List ℕ) (p : Three (List ℕ)) (work : List ℤ) → Typed s p → refusalOf s m p work ≡ 0 → lengthOf s (planOf s m p) < 2 ^ 32
     → Demand3 s m p (unitOf s (planOf s m p))
 demand s m p work t e long = holds s m p work (valid s m p work e) t long
+
+-- ---- the outcome of a call
+abbrev isAccepted : Answer → Bool
+isAccepted (Accepted c) = true
+isAccepted (Refused n) = false
+
+abbrev lengthIn : Answer → ℕ
+lengthIn (Accepted c) = c .length
+lengthIn (Refused n) = 0
+
+module _ (s : Settings) (m : List ℕ) (p : Three (List ℕ)) (out : List ℕ) (work : List ℤ) where
+  abbrev n : ℕ
+  n = lengthOf s (planOf s m p)
+
+  abbrev tooLong : Bool
+  tooLong = ltb (length out) n || ltb 4294967295 n
+
+  -- the outcome, with what is tested put in its place
+  abbrev codedIf : Bool → Outcome
+  codedIf b =
+      elim b [
+        | true ↦ zeroed out work
+        | false ↦ record { answer = Accepted (codedOf s (planOf s m p)); output = unitOf s (planOf s m p) ++ drop n out; work = replicate (length work) (pos 0) }
+      ]
+
+  abbrev outcomeIf : Bool → Outcome
+  outcomeIf b = elim b [ true ↦ codedIf tooLong | false ↦ record { answer = Refused (refusalOf s m p work); output = out; work = work } ]
+
+  module _ (t : Typed s p) (c : Coded) where
+    coded-by : (b : Bool) → tooLong ≡ b → refusalOf s m p work ≡ 0 → codedIf b .answer ≡ Accepted c → Demand3 s m p (take (c .length) (codedIf b .output))
+    unfolding codedOf
+    coded-by true e r a = no-truth (sym (ap isAccepted a))
+    coded-by false e r a =
+        let h = or-none (ltb (length out) n) (ltb 4294967295 n) .0 e in
+        let long : n < 2 ^ 32 = omega (arith, ltb-false 4294967295 n (h .1)) in
+        let q : n ≡ c .length = ap lengthIn a in
+        rw (← q, take-at (unitOf s (planOf s m p)) (drop n out) n (length-unit s (planOf s m p))) (demand s m p work t r long)
+
+    outcome-by : (b : Bool) → eqb (refusalOf s m p work) 0 ≡ b → outcomeIf b .answer ≡ Accepted c → Demand3 s m p (take (c .length) (outcomeIf b .output))
+    outcome-by true e a = coded-by tooLong refl (eqb-true (refusalOf s m p work) 0 e) a
+    outcome-by false e a = no-truth (sym (ap isAccepted a))
+
+    -- of an accepted call demand 3 holds, for the bytes of the output that its answer counts
+    pub accepted : outcomeOf s m p out work .answer ≡ Accepted c → Demand3 s m p (take (c .length) (outcomeOf s m p out work .output))
+    unfolding outcomeOf
+    accepted a = outcome-by (eqb (refusalOf s m p work) 0) refl a

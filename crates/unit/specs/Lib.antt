@@ -40,5 +40,6 @@ pub mod RebuiltLaws
 pub mod NearLaws
 pub mod SynthesisLaws
 pub mod PlannedLaws
+pub mod DropLaws
 pub mod DemandLaws
 pub mod Examples

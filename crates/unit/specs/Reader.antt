@@ -1,6 +1,7 @@
 -- How a unit is read: ST 2042-1, and document 01, "How demand 3 reads a unit". The reader is fed the unit, the component sizes, the sample
--- depths and the major version. Of the encoder's definitions it shares the subbands' sizes, the slices' windows and bytes, and the form of the
--- parameters. Assumes nothing.
+-- depths and the major version. With the encoder's definitions it shares rules of the standard alone: the form of the parameters and Annex D,
+-- the subbands' sizes, the slices' windows and bytes, the bits of the luma length, the order of the colours, the prediction, the factor without
+-- caps, the filters and the offset. Assumes nothing.
 use mathlib.Core.Bool.{Bool, true, false, not, cond, _||_, _&&_}
 use mathlib.Core.List.{List, [], _∷_, _++_}
 use mathlib.Core.Option.{Option, none, some}
