@@ -1,6 +1,8 @@
 pub mod Sides
 pub mod SidesLaws
 pub mod RefusalLaws
+pub mod Head
+pub mod HeadLaws
 pub mod Run
 pub mod Cost
 pub mod Put
