@@ -6,6 +6,9 @@ pub mod HeadLaws
 pub mod Run
 pub mod Cost
 pub mod Put
+pub mod Layout
 pub mod RunLaws
 pub mod CostLaws
 pub mod PutLaws
+pub mod StripLaws
+pub mod NumberLaws
