@@ -10,5 +10,6 @@ pub mod Layout
 pub mod RunLaws
 pub mod CostLaws
 pub mod PutLaws
+pub mod LayoutLaws
 pub mod StripLaws
 pub mod NumberLaws

@@ -25,6 +25,7 @@ use Rattle.unit.specs.Predict.{predict}
 use Rattle.unit.specs.Quantised.{sizeOf, numbersFrom, numbersHQ, numberAt, rebuilt, numbersLD, leftLD}
 use Rattle.unit.specs.LowDelay.{alternated}
 use Rattle.unit.specs.SliceLaws.{bound-rises, bound-most}
+use Rattle.picture.specs.LayoutLaws.{run-chunks}
 use Rattle.picture.specs.declared.strip.Strip.{Strip}
 use Rattle.picture.specs.declared.layout.Component.{Component}
 use Rattle.picture.specs.declared.layout.Layout.{Layout}
@@ -161,13 +162,6 @@ module _ (g : Grid) (z : Size) (k : ℕ) (h : k < count g) where
   right-most = bound-most (g .across) (z .width) (suc (k % g .across)) (column-lt (g .down) (g .across) k h)
 
 -- ---- runs, band by band
-pub run-chunks : (w : List ℤ) (l : Layout) (c second : Component) (pair : Bool) (k q n : ℕ)
-    → runNumbers w l c second pair k q n ≡ chunks (λ j. stripNumbers w (stripOf l c second pair j (startOf l c j) k q)) n
-unfolding runNumbers chunks
-run-chunks w l c second pair k q zero = refl
-run-chunks w l c second pair k q (suc n) =
-    ap (λ (r : List ℤ). r ++ stripNumbers w (stripOf l c second pair n (startOf l c n) k q)) (run-chunks w l c second pair k q n)
-
 pub chunks-front : (F : ℕ → List ℤ) (n : ℕ) → chunks F (suc n) ≡ F 0 ++ chunks (λ j. F (suc j)) n
 unfolding chunks
 chunks-front F zero = sym (append-nil (F 0))

@@ -1,5 +1,15 @@
 // Where the subbands of a component stand in the work slice, and what a slice has of each: subband_layout, subband_width, subband_height,
 // slice_bounds and slice_quantizers of transform.rs. All of it is for the picture call.
+use crate::sizes::Sides;
+use crate::strip::Strip;
+ghost use mathlib.Core.Path.{_≡_};
+ghost use mathlib.Core.Bool.{cond, _&&_};
+ghost use Prim.Native.Nat.{ℕ, _+_, _*_, _-_, _/_, _^_, _≤_, _<_};
+ghost use lib.Dec.{eqb, leb};
+ghost use Rattle.quantiser.specs.Quant.{bandIndex};
+ghost use Rattle.unit.specs.Slices.{bound};
+ghost use Rattle.picture.specs.Sides.{sizeIn};
+ghost use Rattle.picture.specs.Layout.{levelOf, bandSize, stripOf, LayoutIn, StripIn};
 
 // A component: where its coefficients begin, where its rebuilt level-0 plane begins, and its padded sides.
 pub struct Component {
@@ -17,4 +27,112 @@ pub struct Layout {
     pub down: u32,
     pub values: [u32; 25],
     pub predicted: bool,
+}
+
+// The level of the n-th subband.
+fn level_of(depth_ho: u32, n: u32) -> u32
+    requires { ⌜ («depth_ho» ≤ 5) × (n < 25) ⌝ }
+    ensures { λ r. ⌜ r ≡ levelOf «depth_ho» n ⌝ }
+{
+    if n <= depth_ho {
+        n
+    } else {
+        depth_ho + 1 + (n - 1 - depth_ho) / 3
+    }
+}
+
+// The width of the subbands of a level, by the padded width w and the depths t.
+fn band_width(w: u32, t: u32, level: u32) -> u32
+    requires { ⌜ (t ≤ 5) × (level ≤ t) ⌝ }
+    ensures { λ r. ⌜ r ≡ cond (eqb level 0) (w / 2 ^ t) (w / 2 ^ (t - level + 1)) ⌝ }
+{
+    if level == 0 {
+        w >> t
+    } else {
+        w >> (t - level + 1)
+    }
+}
+
+// Their height.
+fn band_height(h: u32, depth_ho: u32, depth: u32, level: u32) -> u32
+    requires { ⌜ («depth_ho» + depth ≤ 5) × (level ≤ «depth_ho» + depth) ⌝ }
+    ensures { λ r. ⌜ r ≡ cond (leb level «depth_ho») (h / 2 ^ depth) (h / 2 ^ («depth_ho» + depth - level + 1)) ⌝ }
+{
+    if level <= depth_ho {
+        h >> depth
+    } else {
+        h >> (depth_ho + depth - level + 1)
+    }
+}
+
+// The sides of the n-th subband.
+pub fn band_size(l: Layout, c: Component, n: u32) -> Sides
+    requires { ⌜ LayoutIn l × (n < 1 + l .«depth_ho» + 3 * l .depth) ⌝ }
+    ensures { λ r. ⌜ sizeIn r ≡ bandSize l c n ⌝ }
+{
+    let level = level_of(l.depth_ho, n);
+    Sides {
+        width: band_width(c.width, l.depth_ho + l.depth, level),
+        height: band_height(c.height, l.depth_ho, l.depth, level),
+    }
+}
+
+// Where part i of a side w cut into n parts begins.
+fn bound(n: u32, w: u32, i: u32) -> usize
+    requires { ⌜ (1 ≤ n) × ((w ≤ 65536) × (i ≤ 65536)) ⌝ }
+    ensures { λ r. ⌜ r ≡ bound n w i ⌝ }
+{
+    w as usize * i as usize / n as usize
+}
+
+// The index q less the matrix value v, not below 0.
+fn band_index(q: u32, v: u32) -> u32
+    requires { ⌜ q ≤ 255 ⌝ }
+    ensures { λ r. ⌜ (r ≡ bandIndex q v) × (r ≤ 255) ⌝ }
+{
+    if v < q { q - v } else { 0 }
+}
+
+// Whether the n-th subband is the first, and this is asked for.
+fn first_of(asked: bool, n: u32) -> bool
+    ensures { λ r. ⌜ r ≡ (asked && eqb n 0) ⌝ }
+{
+    if asked { n == 0 } else { false }
+}
+
+// What slice k has at index q of the n-th subband, whose coefficients begin start places behind those of its component.
+pub fn strip_at(
+    l: Layout,
+    c: Component,
+    second: Component,
+    pair: bool,
+    n: u32,
+    start: usize,
+    k: u32,
+    q: u32,
+) -> Strip
+    requires { ⌜ StripIn l c second n start k q ⌝ }
+    ensures { λ r. ⌜ r ≡ stripOf l c second pair n start k q ⌝ }
+{
+    let z = band_size(l, c, n);
+    let y = k / l.across;
+    let x = k % l.across;
+    let i = band_index(q, l.values[n as usize]);
+    Strip {
+        coefs: c.coefs + start,
+        rebuilt: c.rebuilt,
+        coefs2: second.coefs + start,
+        rebuilt2: second.rebuilt,
+        width: z.width as usize,
+        height: z.height as usize,
+        top: bound(l.down, z.height, y),
+        bottom: bound(l.down, z.height, y + 1),
+        left: bound(l.across, z.width, x),
+        right: bound(l.across, z.width, x + 1),
+        index: i,
+        factor: quantiser::factors::factor_at(i),
+        offset: quantiser::factors::offset_at(i),
+        predicted: first_of(l.predicted, n),
+        pair,
+    }
 }

@@ -6,5 +6,6 @@ pub mod matrix;
 pub mod put;
 pub mod rebuild;
 pub mod refusal;
+pub mod run;
 pub mod sizes;
 pub mod strip;

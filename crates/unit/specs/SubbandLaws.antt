@@ -142,13 +142,13 @@ areas-append : (xs ys : List Size) → areas (xs ++ ys) ≡ areas xs + areas ys
 areas-append [] ys = omega arith
 areas-append (x ∷ xs) ys = omega (arith, areas-append xs ys)
 
-quarter : (h w : ℕ) → 4 * (w / 2 * (h / 2)) ≤ w * h
+pub quarter : (h w : ℕ) → 4 * (w / 2 * (h / 2)) ≤ w * h
 quarter h w =
     let a : w / 2 * 2 ≤ w = omega arith in
     let b : h / 2 * 2 ≤ h = omega arith in
     omega (arith, mul-le-mul a b, mul-mul-mul-comm (w / 2) 2 (h / 2) 2)
 
-half : (h w : ℕ) → 2 * (w / 2 * h) ≤ w * h
+pub half : (h w : ℕ) → 2 * (w / 2 * h) ≤ w * h
 half h w =
     let a : w / 2 * 2 ≤ w = omega arith in
     omega (arith, mul-le-mul-right h a, mul-right-comm (w / 2) 2 h)

@@ -1,0 +1,339 @@
+-- Laws of layouts: the bands of a component follow one another within its padded area, a slice's strips lie within, and its numbers band by
+-- band. Assumes nothing.
+use mathlib.Core.Path.{_≡_, refl, sym, ap, ap₂, _∙_}
+use mathlib.Core.Bool.{Bool, true, false, cond, _&&_}
+use mathlib.Core.List.{List, [], _++_}
+use Prim.Native.Nat.{ℕ, zero, suc, _+_, _*_, _-_, _/_, _%_, _^_, _≤_, _<_}
+use native.Mathlib.Nat.{div-div-eq-div-mul, pow-suc, div-one, div-le-self, div-lt-iff-lt-mul, mod-lt, mul-comm, mul-assoc}
+use native.Mathlib.Numerals.{add-one}
+use native.Mathlib.Omega.{arith}
+use native.Mathlib.Decide.{decLe}
+use borrow.Author.Tests.{ne-eqb, le-leb, lt-leb}
+use lib.Dec.{eqb, leb}
+use lib.IntN.{ℤ}
+use lib.ListN.{length, getD, length-append}
+use Rattle.laws.specs.Chunks.{chunks}
+use Rattle.quantiser.specs.Quant.{quantFactor, quantOffset, bandIndex}
+use Rattle.codewords.specs.Writer.{Sound, Room}
+use Rattle.unit.specs.Sizes.{Size, area}
+use Rattle.unit.specs.Slices.{bound, count, partSize}
+use Rattle.unit.specs.SubbandLaws.{half, quarter}
+use Rattle.unit.specs.SliceLaws.{bound-rises, bound-most, partSize-most}
+use Rattle.unit.specs.TrimLaws.{small-append}
+use Rattle.unit.specs.TrimLaws as trim
+use Rattle.picture.specs.declared.strip.Strip.{Strip}
+use Rattle.picture.specs.declared.cost.Cost.{Cost}
+use Rattle.picture.specs.declared.put.Put.{Put}
+use Rattle.picture.specs.declared.layout.Component.{Component}
+use Rattle.picture.specs.declared.layout.Layout.{Layout}
+use Rattle.picture.specs.Run.{stripNumbers, Small, Within}
+use Rattle.picture.specs.RunLaws.{rows-small, rows-length}
+use Rattle.picture.specs.Cost.{addAll, Countable}
+use Rattle.picture.specs.CostLaws.{added-none, added-append, countable-after}
+use Rattle.picture.specs.Put.{RoomFor, Puts}
+use Rattle.picture.specs.PutLaws.{puts-none, puts-same, puts-then, room-same, part-room}
+use Rattle.picture.specs.Layout.{levelOf, bandCount, gridIn, bandSize, startOf, stripOf, runNumbers, LayoutIn, StripIn, RunIn}
+
+-- ---- levels
+pub level-low : (k n : ℕ) → n ≤ k → levelOf k n ≡ n
+unfolding levelOf
+level-low k n h = rw (le-leb n k h)
+
+pub level-high : (k n : ℕ) → k < n → levelOf k n ≡ k + 1 + (n - 1 - k) / 3
+unfolding levelOf
+level-high k n h = rw (lt-leb n k h)
+
+pub level-most : (k d n : ℕ) → n < 1 + k + 3 * d → levelOf k n ≤ k + d
+level-most k d n h = by (decLe n k)
+  where
+    by : Dec (n ≤ k) → levelOf k n ≤ k + d
+    by (yes l) = omega (arith, level-low k n l)
+    by (no l) = let g : k < n = omega arith in omega (arith, level-high k n g)
+
+-- ---- sizes
+narrower : (b : Bool) (w x y : ℕ) → cond b (w / x) (w / y) ≤ w
+narrower true w x y = div-le-self w x
+narrower false w x y = div-le-self w y
+
+-- halved once more
+halves : (w m : ℕ) → w / 2 ^ suc m ≡ w / 2 ^ m / 2
+halves w m = ap (λ (x : ℕ). w / x) (pow-suc 2 m) ∙ sym (div-div-eq-div-mul w (2 ^ m) 2)
+
+module _ (l : Layout) (c : Component) where
+  pub band-narrow : (n : ℕ) → bandSize l c n .width ≤ c .width
+  unfolding bandSize
+  band-narrow n =
+      let t = l .«depth_ho» + l .depth in
+      let level = levelOf (l .«depth_ho») n in
+      narrower (eqb level 0) (c .width) (2 ^ t) (2 ^ (t - level + 1))
+
+  pub band-low : (n : ℕ) → bandSize l c n .height ≤ c .height
+  unfolding bandSize
+  band-low n =
+      let level = levelOf (l .«depth_ho») n in
+      narrower (leb level (l .«depth_ho»)) (c .height) (2 ^ l .depth) (2 ^ (l .«depth_ho» + l .depth - level + 1))
+
+  -- so many times halved
+  abbrev cut : ℕ → ℕ → ℕ
+  cut i j = c .width / 2 ^ i * (c .height / 2 ^ j)
+
+  size-first : area (bandSize l c 0) ≡ cut (l .«depth_ho» + l .depth) (l .depth)
+  unfolding bandSize
+  size-first = rw (level-low (l .«depth_ho») 0 (omega arith), le-leb 0 (l .«depth_ho») (omega arith))
+
+  size-wide : (n : ℕ) → n < l .«depth_ho» → area (bandSize l c (suc n)) ≡ cut (l .«depth_ho» + l .depth - n) (l .depth)
+  unfolding bandSize
+  size-wide n h =
+      let b : l .«depth_ho» + l .depth - suc n + 1 ≡ l .«depth_ho» + l .depth - n = omega arith in
+      rw (level-low (l .«depth_ho») (suc n) h, ne-eqb (suc n) 0 (omega arith), le-leb (suc n) (l .«depth_ho») h, b)
+
+  size-deep : (m n : ℕ) → m < l .depth → l .«depth_ho» + 3 * m < n → n ≤ l .«depth_ho» + 3 * m + 3 → area (bandSize l c n) ≡ cut (l .depth - m) (l .depth - m)
+  unfolding bandSize
+  size-deep m n h a b =
+      let k : ℕ = l .«depth_ho» in
+      let g : k < n = omega arith in
+      let i : k + 1 + (n - 1 - k) / 3 ≡ k + 1 + m = omega arith in
+      let j : k + l .depth - (k + 1 + m) + 1 ≡ l .depth - m = omega arith in
+      rw (level-high k n g ∙ i, ne-eqb (k + 1 + m) 0 (omega arith), lt-leb (k + 1 + m) k (omega arith), j)
+
+  -- ---- where bands begin
+  pub start-next : (n : ℕ) → startOf l c (suc n) ≡ startOf l c n + area (bandSize l c n)
+  unfolding startOf
+  start-next n = refl
+
+  pub start-first : startOf l c 0 ≡ 0
+  unfolding startOf
+  start-first = refl
+
+  start-rises : (m n : ℕ) → startOf l c n ≤ startOf l c (m + n)
+  start-rises zero n = let e : 0 + n ≡ n = omega arith in omega (arith, ap (startOf l c) e)
+  start-rises (suc m) n =
+      let e : suc m + n ≡ suc (m + n) = omega arith in
+      omega (arith, ap (startOf l c) e, start-next (m + n), start-rises m n)
+
+  wide-start : (n : ℕ) → n ≤ l .«depth_ho» → startOf l c (suc n) ≤ cut (l .«depth_ho» + l .depth - n) (l .depth)
+  wide-start zero h =
+      let e : l .«depth_ho» + l .depth ≡ l .«depth_ho» + l .depth - 0 = omega arith in
+      omega (arith, start-next 0, start-first, size-first, ap (λ (x : ℕ). cut x (l .depth)) e)
+  wide-start (suc n) h =
+      let t : ℕ = l .«depth_ho» + l .depth in
+      let e : t - n ≡ suc (t - suc n) = omega arith in
+      let y : ℕ = c .height / 2 ^ l .depth in
+      let x : ℕ = c .width / 2 ^ (t - suc n) in
+      let f : cut (t - n) (l .depth) ≡ x / 2 * y = ap (λ (x : ℕ). cut x (l .depth)) e ∙ ap (λ (x : ℕ). x * y) (halves (c .width) (t - suc n)) in
+      omega (arith, start-next (suc n), wide-start n (omega arith), size-wide n h, f, half y x)
+
+  deep-start : (m : ℕ) → m ≤ l .depth → startOf l c (1 + l .«depth_ho» + 3 * m) ≤ cut (l .depth - m) (l .depth - m)
+  deep-start zero h =
+      let k : ℕ = l .«depth_ho» in
+      let e : 1 + k + 3 * 0 ≡ suc k = omega arith in
+      let f : k + l .depth - k ≡ l .depth - 0 = omega arith in
+      let g : l .depth ≡ l .depth - 0 = omega arith in
+      omega (arith, ap (startOf l c) e, wide-start k (omega arith), ap₂ cut f g)
+  deep-start (suc m) h =
+      let n : ℕ = 1 + l .«depth_ho» + 3 * m in
+      let i : ℕ = l .depth - suc m in
+      let e : 1 + l .«depth_ho» + 3 * suc m ≡ suc (suc (suc n)) = omega arith in
+      let d : l .depth - m ≡ suc i = omega arith in
+      let x : ℕ = c .width / 2 ^ i in
+      let y : ℕ = c .height / 2 ^ i in
+      let f : cut (l .depth - m) (l .depth - m) ≡ x / 2 * (y / 2) = ap₂ cut d d ∙ ap₂ _*_ (halves (c .width) i) (halves (c .height) i) in
+      omega (arith, ap (startOf l c) e, start-next n, start-next (suc n), start-next (suc (suc n)), deep-start m (omega arith), size-deep m n h (omega arith) (omega arith), size-deep m (suc n) h (omega arith) (omega arith), size-deep m (suc (suc n)) h (omega arith) (omega arith), f, quarter y x)
+
+  -- every band lies within the padded area
+  pub band-fits : (n : ℕ) → n < bandCount l → startOf l c n + area (bandSize l c n) ≤ c .width * c .height
+  band-fits n h =
+      let m : ℕ = bandCount l - suc n in
+      let e : m + suc n ≡ bandCount l = omega arith in
+      let d : l .depth - l .depth ≡ 0 = omega arith in
+      let f : cut (l .depth - l .depth) (l .depth - l .depth) ≡ c .width * c .height = ap₂ cut d d ∙ ap₂ _*_ (div-one (c .width)) (div-one (c .height)) in
+      omega (arith, start-next n, start-rises m (suc n), ap (startOf l c) e, deep-start (l .depth) (omega arith), f)
+
+-- ---- slices
+module _ {l : Layout} {k : ℕ} (i : LayoutIn l) (h : k < count (gridIn l)) where
+  pub row-of : k / l .across < l .down
+  row-of = div-lt-iff-lt-mul {k = l .across} {x = k} {y = l .down} (i .across .0) .1 h
+
+  pub column-of : k % l .across < l .across
+  column-of = mod-lt k (i .across .0)
+
+-- ---- strips
+module _ {l : Layout} {c second : Component} {a e k q : ℕ} {w : List ℤ} (h : RunIn l c second a e k q w) where
+  pub strip-within : (pair : Bool) (n : ℕ) → n < bandCount l → Within a e (stripOf l c second pair n (startOf l c n) k q)
+  unfolding stripOf
+  strip-within pair n b =
+      let z = bandSize l c n in
+      let f = band-fits l c n b in
+      let m = mul-comm (z .width) (z .height) in
+      record {
+        rows = bound-rises (l .down) (z .height) (omega arith);
+        columns = bound-rises (l .across) (z .width) (omega arith);
+        wide = bound-most (l .across) (z .width) (suc (k % l .across)) (column-of (h .layout) (h .slice));
+        high = bound-most (l .down) (z .height) (suc (k / l .across)) (row-of (h .layout) (h .slice));
+        rebuilt = omega (arith, f, m, h .rebuilt);
+        rebuilt2 = omega (arith, f, m, h .rebuilt2);
+        behind = omega (arith, h .coefs);
+        behind2 = omega (arith, h .coefs2);
+        coefs = omega (arith, f, m, h .coefs);
+        coefs2 = omega (arith, f, m, h .coefs2);
+        factor = refl;
+        offset = refl;
+        index = omega (arith, h .index);
+      }
+
+  -- what a strip asks
+  pub strip-in : (n start : ℕ) → n < bandCount l → start ≡ startOf l c n → StripIn l c second n start k q
+  strip-in n start b s = record {
+    layout = h .layout;
+    first = h .first;
+    other = h .other;
+    band = b;
+    start = omega (arith, s, band-fits l c n b, h .coefs, h .small .few);
+    slice = h .slice;
+    index = h .index;
+  }
+
+-- ---- numbers, band by band
+-- what slice k has of the n-th subband, which stands behind those before it
+abbrev pub bandStrip : Layout → Component → Component → Bool → ℕ → ℕ → ℕ → Strip
+bandStrip l c second pair k q n = stripOf l c second pair n (startOf l c n) k q
+
+module _ (w : List ℤ) (l : Layout) (c second : Component) (pair : Bool) (k q : ℕ) where
+  abbrev pub bandNumbers : ℕ → List ℤ
+  bandNumbers n = stripNumbers w (bandStrip l c second pair k q n)
+
+  pub run-chunks : (n : ℕ) → runNumbers w l c second pair k q n ≡ chunks bandNumbers n
+  unfolding runNumbers chunks
+  run-chunks zero = refl
+  run-chunks (suc n) = ap (λ (r : List ℤ). r ++ bandNumbers n) (run-chunks n)
+
+  pub run-none : runNumbers w l c second pair k q 0 ≡ []
+  unfolding runNumbers
+  run-none = refl
+
+  pub run-next : (n : ℕ) → runNumbers w l c second pair k q (suc n) ≡ runNumbers w l c second pair k q n ++ bandNumbers n
+  unfolding runNumbers
+  run-next n = refl
+
+  run-small : (n : ℕ) → trim.Small (runNumbers w l c second pair k q n)
+  unfolding runNumbers
+  run-small zero = tt
+  run-small (suc n) = small-append (runNumbers w l c second pair k q n) (bandNumbers n) (run-small n) (rows-small w (bandStrip l c second pair k q n) _ _)
+
+  -- how many numbers a slice has of a band
+  abbrev bandPart : ℕ → ℕ
+  bandPart n = partSize (gridIn l) (bandSize l c n) k
+
+  band-length : (n : ℕ) → length (bandNumbers n) ≤ 2 * bandPart n
+  unfolding stripOf
+  band-length n =
+      let s = bandStrip l c second pair k q n in
+      let x : ℕ = s .right - s .left in
+      let y : ℕ = s .bottom - s .top in
+      omega (arith, rows-length w s (s .top) y, mul-assoc y x 2)
+
+  run-length : (n : ℕ) → length (runNumbers w l c second pair k q n) ≤ 2 * startOf l c n
+  run-length zero = omega (arith, ap length run-none)
+  run-length (suc n) =
+      omega (arith, ap length (run-next n), length-append (runNumbers w l c second pair k q n) (bandNumbers n), run-length n, band-length n, partSize-most (gridIn l) (bandSize l c n) k, start-next l c n)
+
+  -- the next band can be counted
+  pub run-countable : (t : Cost) (n : ℕ) → n < bandCount l → Countable t (2 * (c .width * c .height))
+      → let s = bandStrip l c second pair k q n in Countable (addAll t (runNumbers w l c second pair k q n)) (2 * ((s .bottom - s .top) * (s .right - s .left)))
+  unfolding stripOf
+  run-countable t n h u =
+      countable-after t (runNumbers w l c second pair k q n) _ _ u (run-small n)
+      (omega (arith, run-length n, partSize-most (gridIn l) (bandSize l c n) k, band-fits l c n h))
+
+-- a strip as the code puts it together
+pub strip-is : (l : Layout) (c second : Component) (pair : Bool) (n start k q : ℕ) (z : Size) (t b x y i f o : ℕ) (p : Bool)
+    → z ≡ bandSize l c n
+    → i ≡ bandIndex q (getD (l .values) n 0)
+    → t ≡ bound (l .down) (z .height) (k / l .across)
+    → b ≡ bound (l .down) (z .height) (k / l .across + 1)
+    → x ≡ bound (l .across) (z .width) (k % l .across)
+    → y ≡ bound (l .across) (z .width) (k % l .across + 1)
+    → f ≡ quantFactor i
+    → o ≡ quantOffset i
+    → p ≡ (l .predicted && eqb n 0)
+    → record {
+      coefs = c .coefs + start;
+      rebuilt = c .rebuilt;
+      coefs2 = second .coefs + start;
+      rebuilt2 = second .rebuilt;
+      width = z .width;
+      height = z .height;
+      top = t;
+      bottom = b;
+      left = x;
+      right = y;
+      index = i;
+      factor = f;
+      offset = o;
+      predicted = p;
+      pair = pair;
+    } ≡ stripOf l c second pair n start k q
+unfolding stripOf
+strip-is l c second pair n start k q z t b x y i f o p ez ei et eb ex ey ef eo ep =
+    rw (ep, ef, eo, et, eb, ex, ey, ei, ez, add-one (k / l .across), add-one (k % l .across))
+
+-- ---- turns of the loops over the bands
+module _ (l : Layout) (c second : Component) (pair : Bool) (k q : ℕ) where
+  -- the strip that the code makes
+  pub strip-from : (s : Strip) (n start : ℕ) → s ≡ stripOf l c second pair n start k q → start ≡ startOf l c n → s ≡ bandStrip l c second pair k q n
+  strip-from s n start e d = e ∙ ap (λ (x : ℕ). stripOf l c second pair n x k q) d
+
+  pub start-turn : (s : Strip) (n start : ℕ) → s ≡ stripOf l c second pair n start k q → start ≡ startOf l c n → start + s .width * s .height ≡ startOf l c (n + 1)
+  unfolding stripOf
+  start-turn s n start e d =
+      let f : suc n ≡ n + 1 = omega arith in
+      ap₂ (λ (x : ℕ) (s : Strip). x + s .width * s .height) d e ∙ sym (start-next l c n) ∙ ap (startOf l c) f
+
+module _ (w : List ℤ) (l : Layout) (c second : Component) (pair : Bool) (k q : ℕ) where
+  pub run-turn : (n : ℕ) → runNumbers w l c second pair k q n ++ bandNumbers w l c second pair k q n ≡ runNumbers w l c second pair k q (n + 1)
+  run-turn n = let f : suc n ≡ n + 1 = omega arith in sym (run-next w l c second pair k q n) ∙ ap (runNumbers w l c second pair k q) f
+
+  -- costs
+  pub cost-none : (t : Cost) → t ≡ addAll t (runNumbers w l c second pair k q 0)
+  cost-none t = sym (ap (addAll t) (run-none w l c second pair k q) ∙ added-none t)
+
+  pub cost-turn : (t r u : Cost) (s : Strip) (n : ℕ) → s ≡ bandStrip l c second pair k q n → r ≡ addAll t (runNumbers w l c second pair k q n)
+      → u ≡ addAll r (stripNumbers w s) → u ≡ addAll t (runNumbers w l c second pair k q (n + 1))
+  cost-turn t r u s n e d f =
+      f ∙ ap₂ (λ (r : Cost) (s : Strip). addAll r (stripNumbers w s)) d e
+      ∙ sym (added-append t (runNumbers w l c second pair k q n) (bandNumbers w l c second pair k q n)) ∙ ap (addAll t) (run-turn n)
+
+  -- what is written
+  pub put-none : {o : List ℕ} {p : Put} {n : ℕ} → Room o (p .writer) n → Puts o p (runNumbers w l c second pair k q 0) o p
+  put-none r = puts-same (sym (run-none w l c second pair k q)) (puts-none r)
+
+  pub put-turn : {o o′ o″ : List ℕ} {p p′ p″ : Put} (s : Strip) (n : ℕ) → s ≡ bandStrip l c second pair k q n → Sound (p .writer)
+      → Puts o p (runNumbers w l c second pair k q n) o′ p′ → Puts o′ p′ (stripNumbers w s) o″ p″ → Puts o p (runNumbers w l c second pair k q (n + 1)) o″ p″
+  put-turn s n e sound a b = puts-same (run-turn n) (puts-then sound a (puts-same (ap (stripNumbers w) e) b))
+
+  module _ {a e : ℕ} (h : RunIn l c second a e k q w) (s : Strip) (n : ℕ) (b : n < bandCount l) where
+    -- starts and areas are small
+    pub start-small : (start : ℕ) → s ≡ stripOf l c second pair n start k q → start ≡ startOf l c n → start + s .width * s .height < 2 ^ 30
+    start-small start d f =
+        let g : start + s .width * s .height ≡ startOf l c (n + 1) = start-turn l c second pair k q s n start d f in
+        let i : n + 1 ≡ suc n = omega arith in
+        omega (arith, g, ap (startOf l c) i, start-next l c n, band-fits l c n b, h .coefs, h .small .few)
+
+    pub cost-ready : (t r : Cost) → s ≡ bandStrip l c second pair k q n → r ≡ addAll t (runNumbers w l c second pair k q n)
+        → Countable t (2 * (c .width * c .height))
+        → Small a e w × (Within a e s × Countable r (2 * ((s .bottom - s .top) * (s .right - s .left))))
+    cost-ready t r d f u = rw (f, d) (h .small, (strip-within h pair n b, run-countable w l c second pair k q t n b u))
+
+    pub put-ready : {o o′ : List ℕ} {p p′ : Put} → s ≡ bandStrip l c second pair k q n → RoomFor o p (runNumbers w l c second pair k q (bandCount l))
+        → Puts o p (runNumbers w l c second pair k q n) o′ p′ → RoomFor o′ p′ (stripNumbers w s) × (Small a e w × Within a e s)
+    put-ready {p = p} d r u =
+        rw d (
+          part-room (bandNumbers w l c second pair k q) (bandCount l) n b (room-same p _ _ (run-chunks w l c second pair k q (bandCount l)) r)
+              (puts-same (run-chunks w l c second pair k q n) u),
+          (h .small, strip-within h pair n b),
+        )
+
+-- the strip of level 0
+pub first-within : {l : Layout} {c second : Component} {a e k q : ℕ} {w : List ℤ} → RunIn l c second a e k q w → (pair : Bool) (s : Strip) → s ≡ stripOf l c second pair 0 0 k q → Within a e s
+unfolding startOf
+first-within h pair s e = rw e (strip-within h pair 0 (omega arith))
