@@ -7,7 +7,7 @@ use native.Mathlib.Numerals.{add-one}
 use native.Mathlib.Decide.{decLt}
 use mathlib.Core.List.{List, [], _∷_, _++_, append-assoc, append-nil}
 use lib.ListN.{length, getD, set, take, drop, length-append, length-take, length-drop, take-append-drop, List·getD-append}
-use lib.Seq.{take-at, drop-at, drop-drop, take-add, take-take, drop-append-le, take-append-le, getD-append-add, getD-take, getD-drop, length-take-le, drop-cons, set-at, append-snoc, ext-getD}
+use lib.Seq.{take-at, drop-at, drop-drop, take-add, take-take, drop-append-le, take-append-le, getD-append-add, getD-take, getD-drop, length-take-le, drop-cons, set-at, append-snoc, ext-getD, take-set-le, drop-set-add, take-set-lt, drop-set-lt}
 use lib.IntN.{ℤ, pos}
 use Rattle.laws.specs.Rows.{at, row, length-span, row-at, row-ext, row-more}
 use Rattle.laws.specs.Chunks.{chunks, length-chunks, chunk-room, next-place}
@@ -240,3 +240,11 @@ pub each-next : (f : List ℤ → List ℤ) (l : List ℤ) (to count len : ℕ) 
     → Parts (eachOf f to len l) l to count len (take p now ++ (ys ++ drop (p + len - p) (drop p now))) (n + 1) (p + len)
 each-next f l to count len now n p long q fits h ys e =
     lent-next (eachOf f to len l) l to count len now n p long q fits h ys (e ∙ ap f (each-piece (eachOf f to len l) l to count len now n p long q fits h))
+
+-- a value set in a part of m places that was lent from p on
+pub set-lent : (p m i : ℕ) (v : ℤ) (l : List ℤ) → i < m → take p l ++ (set (take m (drop p l)) i v ++ drop m (drop p l)) ≡ set l (p + i) v
+set-lent p m i v l h =
+    let d = drop p l in
+    ap₂ _++_ (sym (take-set-le p l (p + i) v (omega arith)))
+    (ap₂ _++_ (sym (take-set-lt m d i v h)) (sym (drop-set-lt m d i v h)) ∙ take-append-drop m (set d i v) ∙ sym (drop-set-add p l i v))
+    ∙ take-append-drop p (set l (p + i) v)

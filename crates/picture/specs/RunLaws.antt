@@ -9,8 +9,8 @@ use native.Mathlib.Omega.{arith}
 use native.Mathlib.Decide.{ℕ-discrete}
 use lib.Arith.{digits-lt}
 use lib.IntN.{ℤ, pos, natAbs, _+ℤ_, _-ℤ_}
-use lib.ListN.{length, set, take, drop, length-append, length-set, take-append-drop}
-use lib.Seq.{getD-set-same, getD-set-other, take-set-le, take-set-lt, drop-set-lt, drop-set-add}
+use lib.ListN.{length, set, length-append, length-set}
+use lib.Seq.{getD-set-same, getD-set-other}
 use mir.Syntax.{w64}
 use mir.Val.{toZ, ofZ}
 use mir.Facts.{toZ-ofZ}
@@ -134,14 +134,6 @@ module _ {a n : ℕ} {l : List ℤ} {s : Strip} {y x : ℕ} (m : Small a n l) (w
       (value-by (s .index) c p
       (m .coefficients (s .coefs + (y * s .width + x)) (omega (arith, w .behind)) (omega (arith, w .coefs)))
       (prediction-reach l s (s .rebuilt) y x (readable (s .rebuilt) (omega (arith, w .rebuilt, m .order)))))
-
--- a value set in a part of m places that was lent from p on
-pub set-lent : (p m i : ℕ) (v : ℤ) (l : List ℤ) → i < m → take p l ++ (set (take m (drop p l)) i v ++ drop m (drop p l)) ≡ set l (p + i) v
-set-lent p m i v l h =
-    let d = drop p l in
-    ap₂ _++_ (sym (take-set-le p l (p + i) v (omega arith)))
-    (ap₂ _++_ (sym (take-set-lt m d i v h)) (sym (drop-set-lt m d i v h)) ∙ take-append-drop m (set d i v) ∙ sym (drop-set-add p l i v))
-    ∙ take-append-drop p (set l (p + i) v)
 
 -- a value within reach put into the rebuilt planes
 pub small-set : {a n : ℕ} {l : List ℤ} (i : ℕ) (v : ℤ) → Small a n l → i < a → natAbs v ≤ reach → Small a n (set l i v)

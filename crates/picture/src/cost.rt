@@ -1,4 +1,4 @@
-// What a slice's numbers cost.
+// What a slice's numbers cost. All of it is for the picture call.
 use crate::strip::Strip;
 ghost use mathlib.Core.Path.{_≡_};
 ghost use Prim.Native.Nat.{ℕ, _+_, _*_, _-_, _≤_, _<_, _^_};

@@ -1,4 +1,4 @@
-// A slice's kept numbers, written.
+// A slice's kept numbers, written. All of it is for the picture call.
 use crate::strip::Strip;
 use codewords::writer::BitWriter;
 ghost use mathlib.Core.Path.{_≡_};

@@ -1,4 +1,4 @@
-// What a slice has of a subband, read from the work slice: coefficients, predictions from rebuilt neighbours, and numbers.
+// What a slice has of a subband, read from the work slice: coefficients, predictions from rebuilt neighbours, and numbers. All of it is for the picture call.
 ghost use mathlib.Core.Path.{_≡_};
 ghost use Prim.Native.Nat.{ℕ, _+_, _*_, _-_, _≤_, _<_, _^_};
 ghost use lib.IntN.{ℤ, natAbs};

@@ -5,7 +5,7 @@ use Rattle.wavelet.specs.Lifting.{exact}
 use Rattle.wavelet.specs.Planes.{Band, dwt}
 use Rattle.wavelet.specs.Pad.{padded}
 use Rattle.unit.specs.declared.Settings.{Settings}
-use Rattle.unit.specs.Three.{Three, zip3}
+use Rattle.unit.specs.Three.{Three}
 use Rattle.unit.specs.Sizes.{Size, sizesOf, depthsOf, offsetOf}
 use Rattle.unit.specs.Subbands.{paddedSize}
 

@@ -9,7 +9,7 @@ use Rattle.codewords.specs.Bit.{Bits, lit, ones}
 use Rattle.codewords.specs.Code.{codes, zeroFilled}
 use Rattle.laws.specs.Plane.{Plane}
 use Rattle.wavelet.specs.Planes.{Band}
-use Rattle.unit.specs.Three.{Three, map3, zip3}
+use Rattle.unit.specs.Three.{Three}
 use Rattle.unit.specs.Sizes.{intlog2}
 use Rattle.unit.specs.Slices.{Grid, count}
 use Rattle.unit.specs.Parameters.{SliceParameters, lowDelay, Parameters, parameterBytes}

@@ -11,10 +11,10 @@ use Rattle.laws.specs.Integer.{by-parts, var, times, _⊞_}
 use Rattle.laws.specs.Wrap.{wrap}
 use Rattle.laws.specs.Rows.{at, row, row-ext, length-span}
 use Rattle.laws.specs.Chunks.{chunks, chunks-ext}
-use Rattle.laws.specs.Window.{put, put-out, put-turn, Parts, parts-first, parts-room, parts-next, parts-same, parts-all}
+use Rattle.laws.specs.Window.{put, put-out, put-turn, Parts, parts-first, parts-room, parts-next, parts-same, parts-all, set-lent}
 use Rattle.laws.specs.Plane.{Plane, asList, length-asList}
 use Rattle.wavelet.specs.Planes.{raise}
-use Rattle.wavelet.specs.PlaneLists.{rows-list, set-lent}
+use Rattle.wavelet.specs.PlaneLists.{rows-list}
 
 -- ---- what the functions ask and leave
 -- len numbers of l, from on, each step after the other, with b accuracy bits added
@@ -70,7 +70,7 @@ pub copy-turn : (b : ℕ) (l xs ys : List ℤ) (v : ℤ) (a e to len from step k
     → v ≡ raise wrap b (at l (from + step * k)) → ys ≡ set (take (e - a) (drop a xs)) (to + k) v
     → take a xs ++ (ys ++ drop (e - a) (drop a xs)) ≡ put (a + to) (k + 1) (copied b l from step (k + 1)) l
 copy-turn b l xs ys v a e to len from step k q h f ev ey =
-    ap (λ (z : List ℤ). take a xs ++ (z ++ drop (e - a) (drop a xs))) ey ∙ set-lent xs a e (to + k) v (omega (arith, q .fits))
+    ap (λ (z : List ℤ). take a xs ++ (z ++ drop (e - a) (drop a xs))) ey ∙ set-lent a (e - a) (to + k) v xs (omega (arith, q .fits))
     ∙ ap₂ (λ (i : ℕ) (z : ℤ). set xs i z) (sym (add-assoc a to k)) ev
     ∙ put-turn (λ j. raise wrap b (at l (from + step * j))) l xs (a + to) k (omega (arith, q .fits, q .part)) f
 

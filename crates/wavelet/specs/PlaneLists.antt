@@ -1,10 +1,8 @@
--- Planes as lists, and a number stored into a lent part of a list. Assumes nothing.
-use mathlib.Core.Path.{_≡_, sym, ap, ap₂, _∙_}
-use Prim.Native.Nat.{ℕ, _+_, _*_, _-_, _<_}
-use native.Mathlib.Omega.{arith}
-use mathlib.Core.List.{List, _++_}
-use lib.ListN.{length, set, take, drop, take-append-drop}
-use lib.Seq.{take-set-le, drop-set-add, take-set-lt, drop-set-lt}
+-- Planes as lists. Assumes nothing.
+use mathlib.Core.Path.{_≡_, sym, _∙_}
+use Prim.Native.Nat.{ℕ, _*_}
+use mathlib.Core.List.{List}
+use lib.ListN.{length}
 use lib.IntN.{ℤ}
 use Rattle.laws.specs.Rows.{row, at-row, length-span}
 use Rattle.laws.specs.Chunks.{chunks, length-chunks, at-chunks}
@@ -26,12 +24,3 @@ rows-list h w f = list-is h w (chunks F h) f (length-chunks F w long h) (record 
 
     long : (y : ℕ) → length (F y) ≡ w
     long y = length-span (f y) 0 w
-
--- a part a .. e was lent, and comes back with v at its place t
-pub set-lent : (l : List ℤ) (a e t : ℕ) (v : ℤ) → t < e - a → take a l ++ (set (take (e - a) (drop a l)) t v ++ drop (e - a) (drop a l)) ≡ set l (a + t) v
-set-lent l a e t v h =
-    let m : ℕ = e - a in
-    let r = drop a l in
-    let inner : set (take m r) t v ++ drop m r ≡ set r t v =
-    ap₂ _++_ (sym (take-set-lt m r t v h)) (sym (drop-set-lt m r t v h)) ∙ take-append-drop m (set r t v) in
-    ap (λ (z : List ℤ). take a l ++ z) inner ∙ ap₂ _++_ (sym (take-set-le a l (a + t) v (omega arith))) (sym (drop-set-add a l t v)) ∙ take-append-drop a (set l (a + t) v)

@@ -9,7 +9,8 @@ use mathlib.Core.List.{List, _++_}
 use lib.IntN.{ℤ}
 use lib.ListN.{set, take, drop}
 use Rattle.laws.specs.Window.{length-lent}
-use Rattle.picture.specs.RunLaws.{place-lt, set-lent}
+use Rattle.laws.specs.Window.{set-lent}
+use Rattle.picture.specs.RunLaws.{place-lt}
 use native.Mathlib.Omega.{arith}
 use Rattle.picture.proofs.rebuild.rebuild_place.Statement.{statement}
 use Rattle.picture.proofs.rebuild.rebuild_place.Tie as tie
