@@ -15,6 +15,7 @@ pub mod LowDelay
 pub mod HighQuality
 pub mod Unit
 pub mod Outcome
+pub mod Words
 pub mod Reader
 pub mod Demand
 pub mod Valid

@@ -22,6 +22,11 @@ abbrev pub numberOf : Answer → ℕ
 numberOf (Accepted c) = 0
 numberOf (Refused n) = n
 
+-- its number and, for an accepted call, its values: length, cut slices and final scaler
+abbrev pub tells : Answer → List ℕ
+tells (Accepted c) = 0 ∷ c .length ∷ c .«cut_slices» ∷ c .«slice_size_scaler» ∷ []
+tells (Refused n) = n ∷ []
+
 -- the low-delay slices that carry index 127
 abbrev pub lastIndices : List SlicePlan → ℕ
 lastIndices [] = 0
