@@ -215,7 +215,7 @@ module _ (w : List ℤ) (l : Layout) (c second : Component) (pair : Bool) (k q :
   unfolding runNumbers
   run-next n = refl
 
-  run-small : (n : ℕ) → trim.Small (runNumbers w l c second pair k q n)
+  pub run-small : (n : ℕ) → trim.Small (runNumbers w l c second pair k q n)
   unfolding runNumbers
   run-small zero = tt
   run-small (suc n) = small-append (runNumbers w l c second pair k q n) (bandNumbers n) (run-small n) (rows-small w (bandStrip l c second pair k q n) _ _)
@@ -232,7 +232,7 @@ module _ (w : List ℤ) (l : Layout) (c second : Component) (pair : Bool) (k q :
       let y : ℕ = s .bottom - s .top in
       omega (arith, rows-length w s (s .top) y, mul-assoc y x 2)
 
-  run-length : (n : ℕ) → length (runNumbers w l c second pair k q n) ≤ 2 * startOf l c n
+  pub run-length : (n : ℕ) → length (runNumbers w l c second pair k q n) ≤ 2 * startOf l c n
   run-length zero = omega (arith, ap length run-none)
   run-length (suc n) =
       omega (arith, ap length (run-next n), length-append (runNumbers w l c second pair k q n) (bandNumbers n), run-length n, band-length n, partSize-most (gridIn l) (bandSize l c n) k, start-next l c n)

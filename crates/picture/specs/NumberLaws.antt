@@ -218,7 +218,7 @@ module _ (w : List ℤ) (l : Layout) (c second : Component) (m : List ℕ) (bs :
       ∙ sym (from-chunks (gridIn l) m 0 bs q k)
 
 -- ---- the two colours together
-length-region : (f : Plane) (t b l r : ℕ) → length (region f t b l r) ≡ (b - t) * (r - l)
+pub length-region : (f : Plane) (t b l r : ℕ) → length (region f t b l r) ≡ (b - t) * (r - l)
 unfolding region
 length-region f t b l r = length-span _ 0 ((b - t) * (r - l))
 

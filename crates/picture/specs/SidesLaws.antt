@@ -37,8 +37,8 @@ log-more n m h = by (decLe (intlog2 n) m)
         absurd (omega arith)
     by (no l) = omega arith
 
-pub log-few : (n : ℕ) → n < 2 ^ 31 → intlog2 n < 32
-log-few n h = let l = intlog2-least n .least 31 (omega arith) in omega arith
+pub log-few : (n : ℕ) → n < 2 ^ 62 → intlog2 n < 63
+log-few n h = let l = intlog2-least n .least 62 (omega arith) in omega arith
 
 pub log-is : (n m : ℕ) → n ≤ 2 ^ m → m ≤ intlog2 n → m ≡ intlog2 n
 log-is n m h l = le-antisymm l (intlog2-least n .least m h)

@@ -140,10 +140,10 @@ before P w (suc y) zero h f = f y zero (omega (arith, suc-mul y w))
 before P w (suc y) (suc x) h f = (f (suc y) x (omega arith), f y x (omega (arith, suc-mul y w)), f y (suc x) (omega (arith, suc-mul y w)))
 
 -- a place of a plane w wide by its number
-same-row : (w y x b a : ℕ) → x < w → a < w → y * w + x ≡ b * w + a → y ≡ b
+pub same-row : (w y x b a : ℕ) → x < w → a < w → y * w + x ≡ b * w + a → y ≡ b
 same-row w y x b a hx ha e = sym (digits-div y hx) ∙ ap (λ (k : ℕ). k / w) e ∙ digits-div b ha
 
-same-column : (w y x b a : ℕ) → x < w → a < w → y * w + x ≡ b * w + a → x ≡ a
+pub same-column : (w y x b a : ℕ) → x < w → a < w → y * w + x ≡ b * w + a → x ≡ a
 same-column w y x b a hx ha e = sym (digits-mod y hx) ∙ ap (λ (k : ℕ). k % w) e ∙ digits-mod b ha
 
 -- the rebuilt plane is in l, and not behind where the coefficients begin
@@ -182,7 +182,7 @@ record Done (l : List ℤ) (s : Strip) (m : List ℤ) (n : ℕ) : Type 0 where
   other : (i : ℕ) → ((y x : ℕ) → Inside s y x → y * s .width + x < n → i ≡ s .rebuilt + (y * s .width + x) → ⊥) → at m i ≡ at l i
 
 module _ (l : List ℤ) (s : Strip) (fits : Apart l s) where
-  number-lt : (y x : ℕ) → Inside s y x → y * s .width + x < s .height * s .width
+  pub number-lt : (y x : ℕ) → Inside s y x → y * s .width + x < s .height * s .width
   number-lt y x i = digits-lt {q = y} {m = s .height} {r = x} {c = s .width} (omega (arith, i .above, fits .high)) (omega (arith, i .left-of, fits .wide))
 
   -- one more place

@@ -6,7 +6,7 @@ use unit::RateControl;
 use unit::Settings;
 ghost use mathlib.Core.Path.{_≡_};
 ghost use mathlib.Core.List.{_++_};
-ghost use Prim.Native.Nat.{ℕ, _+_, _≤_, _<_, _^_};
+ghost use Prim.Native.Nat.{ℕ, _+_, _-_, _≤_, _<_, _^_};
 ghost use lib.ListN.{length, drop};
 ghost use Rattle.codewords.specs.Bytes.{toBytes};
 ghost use Rattle.codewords.specs.Bit.{lit};
@@ -117,8 +117,15 @@ pub fn overhead(s: Settings, matrix: &[u32], p: SliceParameters) -> u64
     17 + (bits as u64 + 7) / 8
 }
 
+// a less b, not below 0.
+pub fn less(a: u64, b: u64) -> u64
+    ensures { λ r. ⌜ r ≡ a - b ⌝ }
+{
+    if a < b { 0 } else { a - b }
+}
+
 // A picture's bytes, 0 for other rates.
-fn target_of(rate: RateControl) -> u32
+pub fn target_of(rate: RateControl) -> u32
     ensures { λ r. ⌜ r ≡ targetOf rate ⌝ }
 {
     match rate {

@@ -29,6 +29,16 @@ pub struct Layout {
     pub predicted: bool,
 }
 
+// A picture in the work slice: its layout and its components. Rebuilt level-0 planes stand before front, coefficients from there to end.
+pub struct Picture {
+    pub layout: Layout,
+    pub y: Component,
+    pub c1: Component,
+    pub c2: Component,
+    pub front: usize,
+    pub end: usize,
+}
+
 // The level of the n-th subband.
 fn level_of(depth_ho: u32, n: u32) -> u32
     requires { ⌜ («depth_ho» ≤ 5) × (n < 25) ⌝ }

@@ -1,11 +1,20 @@
-// Towards the picture call, the port of encoder.rs: what a call is refused for, the header, and the numbers of a slice in the work slice.
+// The picture call, the port of encoder.rs: `encoder::encode_picture`. The other modules are its parts.
+pub mod analysis;
 pub mod cost;
+pub mod encoder;
 pub mod header;
+pub mod high_index;
+pub mod high_plan;
+pub mod high_slice;
 pub mod layout;
+pub mod low_index;
+pub mod low_slice;
 pub mod matrix;
 pub mod put;
 pub mod rebuild;
 pub mod refusal;
 pub mod run;
 pub mod sizes;
+pub mod slice_coder;
 pub mod strip;
+pub mod words;

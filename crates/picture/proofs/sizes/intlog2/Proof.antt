@@ -17,7 +17,7 @@ Inv-loop n m₀ power₀ m power = (power ≡ 2 ^ m) × (m ≤ intlog2 n)
 abbrev μ-loop : tie.MeasureT-loop
 μ-loop n m₀ power₀ m power = intlog2 n - m
 
-few : (c : tie.Start Inv-loop μ-loop) → intlog2 (c .args .n) < 32
+few : (c : tie.Start Inv-loop μ-loop) → intlog2 (c .args .n) < 63
 few c = log-few (c .args .n) (c .pre)
 
 -- below the answer once more

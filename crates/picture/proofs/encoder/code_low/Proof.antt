@@ -1,0 +1,109 @@
+-- `picture::encoder::code_low` meets its contract. Assumes nothing.
+use mathlib.Core.Path.{_≡_, refl, sym, ap, _∙_}
+use mathlib.Core.Bool.{false}
+use Prim.Native.Nat.{ℕ, _+_, _≤_}
+use native.Mathlib.Omega.{arith}
+use lib.ListN.{length}
+use Rattle.picture.specs.AnalysedLaws.{called-arranged, called-carry}
+use Rattle.picture.specs.LowLinkLaws.{not-long, Worked, low-refused, low-ready, low-written}
+use borrow.Author.Needs.{needs}
+use Rattle.picture.proofs.encoder.code_low.Statement.{statement}
+use Rattle.picture.proofs.encoder.code_low.Tie as tie
+
+-- the unit's length, as it is worked out
+abbrev long : tie.After-too-long → ℕ
+long c = c .before .overhead .result + c .before .before .before .numerator .result
+
+worked : (c : tie.After-too-long) → let a = c .before .before .before .before .before .before .args in
+    Worked (a .s) (a .matrix .now) (a .p) (a .work .now) (c .before .before .before .numerator .result) (c .before .before .slice-count .result) (long c)
+worked c =
+    let n = c .before .before .before .numerator in
+    record {
+      coding = c .before .before .before .before .before .before .pre;
+      numerator = n .ensures;
+      slices = c .before .before .slice-count .ensures .0;
+      long = ap (λ (k : ℕ). k + n .result) (c .before .overhead .ensures .0);
+    }
+
+-- it fits the output, and 32 bits
+fits : (c : tie.After-too-long) → c .too-long .result ≡ false → (long c ≤ length (c .before .before .before .before .before .before .args .out .now)) × (long c ≤ 4294967295)
+fits c e = not-long (length (c .before .before .before .before .before .before .args .out .now)) (long c) (sym (c .too-long .ensures) ∙ e)
+
+numerator-requires : tie.Need-numerator-requires
+numerator-requires c κs = called-carry (c .before .before .pre .called)
+
+slice-count-requires : tie.Need-slice-count-requires
+slice-count-requires c κs = let h = c .before .before .before .pre in rw (h .picture) (called-arranged (h .called))
+
+overhead-requires : tie.Need-overhead-requires
+overhead-requires c κs = called-carry (c .before .before .before .before .pre .called)
+
+cast-length : tie.Need-cast-length
+cast-length c = search needs
+
+add-length : tie.Need-add-length
+add-length c = search needs
+
+too-long-requires : tie.Need-too-long-requires
+too-long-requires c κs = search needs
+
+returns : tie.Need-returns
+returns c =
+    let t = c .before in
+    (low-refused (worked t) (t .before .before .before .before .before .before .args .out .now) (sym (t .too-long .ensures) ∙ c .if1 .taken), refl)
+
+cast-put-header : tie.Need-cast-put-header
+cast-put-header c = let f = fits (c .before .before) (c .before .if1 .left) in omega arith
+
+put-header-requires : tie.Need-put-header-requires
+put-header-requires c κs =
+    let f = fits (c .before .before) (c .before .if1 .left) in
+    (called-carry (c .before .before .before .before .before .before .before .before .pre .called), omega (arith, c .before .before .before .overhead .ensures .0, f .0))
+
+put-ld-slices-requires : tie.Need-put-ld-slices-requires
+put-ld-slices-requires c κs =
+    let t = c .before .before .before .before .before .before .before in
+    let f = fits t (c .before .before .before .before .before .before .if1 .left) in
+    (low-ready (worked t), omega (arith, t .before .overhead .ensures .0, c .before .before .before .before .put-header .ensures .0, f .0, c .before .before .before .out .given))
+
+cast-t11 : tie.Need-cast-t11
+cast-t11 c =
+    let e = c .before .before .before .before .before .before .before .before .before .before in
+    let f = fits (e .before) (e .if1 .left) in
+    omega arith
+
+same-length : tie.Need-same-length
+same-length c = search needs
+
+same-length-2 : tie.Need-same-length-2
+same-length-2 c = search needs
+
+returns-2 : tie.Need-returns-2
+returns-2 c =
+    let e = c .before .before .before .before .before .before .before .before .before .before in
+    let t = e .before in
+    let h = c .before .before .before .before .before .before .before .before .put-header in
+    let r = c .before .before .before .put-ld-slices in (
+      low-written (worked t) (t .before .before .before .before .before .before .args .out .now) (h .last .0) (r .last .0) (h .result) (r .result .at) (r .result .«cut_slices»)
+          (sym (t .too-long .ensures) ∙ e .if1 .left) (h .ensures .0) (h .ensures .1) (r .ensures .0) (r .ensures .1 .0),
+      c .work .given,
+    )
+
+pub code-low-spec : {M : Type 1} → statement M
+code-low-spec =
+    tie.close
+    (tie.spec
+    numerator-requires
+    slice-count-requires
+    overhead-requires
+    cast-length
+    add-length
+    too-long-requires
+    returns
+    cast-put-header
+    put-header-requires
+    put-ld-slices-requires
+    cast-t11
+    same-length
+    same-length-2
+    returns-2)

@@ -1,0 +1,84 @@
+-- `encoder::encode_picture` meets its contract. Assumes nothing.
+use mathlib.Core.Path.{_≡_, sym, _∙_}
+use native.Mathlib.Omega.{arith}
+use Rattle.unit.specs.Refusal.{refusalOf}
+use Rattle.unit.specs.ValidLaws.{valid}
+use Rattle.unit.specs.DemandLaws.{Typed}
+use Rattle.picture.specs.Sides.{planes}
+use Rattle.picture.specs.EncodedLaws.{typed-by, encodes-refused, encodes-coded}
+use borrow.Author.Needs.{needs}
+use Rattle.picture.proofs.encoder.encode_picture.Statement.{statement}
+use Rattle.picture.proofs.encoder.encode_picture.Tie as tie
+use Rattle.picture.proofs.encoder.encode_picture.Reads as reads
+use Rattle.picture.proofs.encoder.encode_picture.Lts as lts
+use Rattle.picture.proofs.analysis.clear.Reads as clear-reads
+use Rattle.picture.proofs.encoder.clear_refused.Reads as clear-refused-reads
+use Rattle.picture.proofs.encoder.code_picture.Reads as code-picture-reads
+use Rattle.picture.proofs.refusal.refusal.Reads as refusal-reads
+
+-- settings and samples by their types
+typed : (c : tie.After-shared-slice-known4) → let a = c .before .before .before .before .args in Typed (a .s) (planes (a .y .now) (a .c1 .now) (a .c2 .now))
+typed c =
+    let st = c .before .before .before .before in
+    let a = st .args in
+    typed-by (a .s) (planes (a .y .now) (a .c1 .now) (a .c2 .now)) (omega (arith, st .good)) (omega (arith, st .good))
+    (λ n. omega (arith, c .before .before .shared-slice-known2 .given n)) (λ n. omega (arith, c .before .shared-slice-known3 .given n))
+    (λ n. omega (arith, c .shared-slice-known4 .given n))
+
+refusal-requires : tie.Need-refusal-requires
+refusal-requires c κs = search needs
+
+same-length : tie.Need-same-length
+same-length c = search needs
+
+returns : tie.Need-returns
+returns c =
+    let a = c .before .before .before .before .before .before .before .before .args in
+    let n = c .before .refusal in
+    encodes-refused (a .s) (a .matrix .now) (planes (a .y .now) (a .c1 .now) (a .c2 .now)) (a .out .now) (a .work .now) (n .result) (typed (c .before .before .before .before)) (n .ensures)
+    (λ e. omega (arith, c .if1 .taken))
+
+code-picture-requires : tie.Need-code-picture-requires
+code-picture-requires c κs =
+    let a = c .before .before .before .before .before .before .before .before .before .before .args in
+    let p = planes (a .y .now) (a .c1 .now) (a .c2 .now) in
+    let n = c .before .before .before .refusal in
+    let e : n .result ≡ 0 = omega (arith, c .before .before .if1 .left) in
+    valid (a .s) (a .matrix .now) p (a .work .now) (sym (n .ensures) ∙ e)
+
+clear-requires : tie.Need-clear-requires
+clear-requires c κs = search needs
+
+clear-refused-requires : tie.Need-clear-refused-requires
+clear-refused-requires c κs = search needs
+
+same-length-2 : tie.Need-same-length-2
+same-length-2 c = search needs
+
+same-length-3 : tie.Need-same-length-3
+same-length-3 c = search needs
+
+returns-2 : tie.Need-returns-2
+returns-2 c =
+    let a = c .before .before .before .before .before .before .before .before .before .before .before .before .before .before .before .before .before .before .before .before .before .args in
+    let p = planes (a .y .now) (a .c1 .now) (a .c2 .now) in
+    let n = c .before .before .before .before .before .before .before .before .before .before .before .before .before .before .refusal in
+    let e : n .result ≡ 0 = omega (arith, c .before .before .before .before .before .before .before .before .before .before .before .before .before .if1 .left) in
+    let r = c .before .before .before .before .before .before .before .before .before .before .code-picture in
+    encodes-coded (a .s) (a .matrix .now) p (a .out .now) (a .work .now) (r .last .1 .1 .1 .1 .1 .1 .0) (c .before .before .clear-refused .last .0)
+    (r .last .1 .1 .1 .1 .1 .0) (c .before .before .before .before .before .clear .last .0) (r .result) (typed (c .before .before .before .before .before .before .before .before .before .before .before .before .before .before .before .before .before)) (sym (n .ensures) ∙ e) (r .ensures .0) (r .ensures .1)
+    (c .before .before .before .before .before .clear .ensures) (c .before .before .clear-refused .ensures)
+
+pub encode-picture-spec : {M : Type 1} → statement M
+encode-picture-spec =
+    tie.close
+    (tie.spec
+    refusal-requires
+    same-length
+    returns
+    code-picture-requires
+    clear-requires
+    clear-refused-requires
+    same-length-2
+    same-length-3
+    returns-2)

@@ -1,0 +1,36 @@
+-- `high_plan::plan_picture` meets its contract. Assumes nothing.
+use Rattle.picture.specs.Picture.{slicesIn}
+use Rattle.picture.specs.High.{termsOf}
+use Rattle.picture.specs.HighPlanLaws.{plan-in, plans-same, slicesFrom}
+use borrow.Author.Needs.{needs}
+use Rattle.picture.proofs.high_plan.plan_picture.Statement.{statement}
+use Rattle.picture.proofs.high_plan.plan_picture.Tie as tie
+use Rattle.picture.proofs.high_plan.plan_picture.Reads as reads
+use Rattle.picture.proofs.high_plan.plan_picture.Lts as lts
+use Rattle.picture.proofs.header.overhead.Reads as overhead-reads
+use Rattle.picture.proofs.high_plan.plan_slices.Reads as plan-slices-reads
+use Rattle.picture.proofs.high_plan.terms_of.Reads as terms-of-reads
+
+terms-of-requires : tie.Need-terms-of-requires
+terms-of-requires c κs = search needs
+
+overhead-requires : tie.Need-overhead-requires
+overhead-requires c κs = search needs
+
+plan-slices-requires : tie.Need-plan-slices-requires
+plan-slices-requires c κs =
+    let st = c .before .before .before in
+    let t = c .before .terms-of in
+    (plan-in (st .args .matrix .now) (st .args .c) (st .pre .0) (st .pre .1 .1 .0) (st .pre .1 .1 .1) (t .result) (t .ensures), c .overhead .ensures .1)
+
+returns : tie.Need-returns
+returns c =
+    let a = c .before .before .before .before .args in
+    let t = c .before .before .terms-of in
+    let o = c .before .overhead in
+    plans-same (a .work .now) (a .p) (t .result) (termsOf (a .s) (a .matrix .now) (a .c)) (o .result) (slicesFrom (a .s) (a .matrix .now) (a .c)) (slicesIn (a .p))
+    (c .plan-slices .result) (t .ensures) (o .ensures .0) (c .plan-slices .ensures)
+
+pub plan-picture-spec : {M : Type 1} → statement M
+plan-picture-spec =
+    tie.close (tie.spec terms-of-requires overhead-requires plan-slices-requires returns)

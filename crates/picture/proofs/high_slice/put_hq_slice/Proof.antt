@@ -1,0 +1,43 @@
+-- `high_slice::put_hq_slice` meets its contract. Assumes nothing.
+use native.Mathlib.Omega.{arith}
+use borrow.Author.Needs.{needs}
+use Rattle.picture.specs.Picture.{numbersIn}
+use Rattle.picture.specs.HighSliceLaws.{prefix-room, index-room, components-room, slice-laid}
+use Rattle.picture.proofs.high_slice.put_hq_slice.Statement.{statement}
+use Rattle.picture.proofs.high_slice.put_hq_slice.Tie as tie
+
+put-prefix-requires : tie.Need-put-prefix-requires
+put-prefix-requires c κs =
+    let st = c .before .before in
+    let a = st .args in
+    let t = st .pre .1 .0 in
+    (prefix-room (a .t .prefix) (a .t .scaler) (a .q) (numbersIn (a .work .now) (a .p) (a .k) (a .q)) (a .at) (t .scaler .0) (st .pre .1 .1 .1), t .prefix)
+
+put-nbits-requires : tie.Need-put-nbits-requires
+put-nbits-requires c κs =
+    let st = c .before .before .before .before .before .before in
+    let a = st .args in
+    let t = st .pre .1 .0 in
+    (index-room (a .t .prefix) (a .t .scaler) (a .q) (numbersIn (a .work .now) (a .p) (a .k) (a .q)) (a .at) (t .scaler .0) (st .pre .1 .1 .1) (c .before .before .before .put-prefix .ensures), omega arith)
+
+put-components-requires : tie.Need-put-components-requires
+put-components-requires c κs =
+    let st = c .before .before .before .before .before .before .before .before .before .before in
+    let a = st .args in
+    let t = st .pre .1 .0 in
+    (st .pre .0, (t .scaler, components-room (a .t .prefix) (a .t .scaler) (a .q) (numbersIn (a .work .now) (a .p) (a .k) (a .q)) (a .at) (t .scaler .0) (st .pre .1 .1 .1) (c .before .before .before .before .before .before .before .put-prefix .ensures) (c .before .before .before .put-nbits .ensures)))
+
+same-length : tie.Need-same-length
+same-length c = search needs
+
+returns : tie.Need-returns
+returns c =
+    let st = c .before .before .before .before .before .before .before .before .before .before .before .before .before in
+    let a = st .args in
+    let t = st .pre .1 .0 in
+    slice-laid (a .t .prefix) (a .t .scaler) (a .q) (numbersIn (a .work .now) (a .p) (a .k) (a .q)) (a .at) (t .scaler .0) (st .pre .1 .1 .1) (c .before .before .before .before .before .before .before .before .before .before .put-prefix .ensures) (c .before .before .before .before .before .before .put-nbits .ensures) (c .before .before .put-components .ensures)
+
+pub put-hq-slice-spec : {M : Type 1} → statement M
+put-hq-slice-spec =
+    tie.close
+    (tie.spec put-prefix-requires put-nbits-requires put-components-requires same-length returns)

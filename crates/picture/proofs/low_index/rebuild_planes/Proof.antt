@@ -1,0 +1,40 @@
+-- `low_index::rebuild_planes` meets its contract. Assumes nothing.
+use Rattle.picture.specs.PictureLaws.{run-y, run-c1, run-c2}
+use Rattle.picture.specs.LowIndexLaws.{planes-rebuilt}
+use borrow.Author.Needs.{needs}
+use Rattle.picture.proofs.low_index.rebuild_planes.Statement.{statement}
+use Rattle.picture.proofs.low_index.rebuild_planes.Tie as tie
+
+rebuild-run-requires : tie.Need-rebuild-run-requires
+rebuild-run-requires c κs = run-y (c .before .before .before .before .before .pre)
+
+rebuild-run-requires-2 : tie.Need-rebuild-run-requires-2
+rebuild-run-requires-2 c κs =
+    let h = c .before .before .before .before .before .before .before .before .pre in
+    run-c1 (record { arranged = h .arranged; small = c .before .before .rebuild-run .ensures .1; slice = h .slice; index = h .index })
+
+rebuild-run-requires-3 : tie.Need-rebuild-run-requires-3
+rebuild-run-requires-3 c κs =
+    let h = c .before .before .before .before .before .before .before .before .before .before .before .pre in
+    run-c2 (record { arranged = h .arranged; small = c .before .before .rebuild-run2 .ensures .1; slice = h .slice; index = h .index })
+
+same-length : tie.Need-same-length
+same-length c = search needs
+
+returns : tie.Need-returns
+returns c =
+    let a = c .before .before .before .before .before .before .before .before .before .before .before .before .before .args in
+    let y = c .before .before .before .before .before .before .before .rebuild-run in
+    let c1 = c .before .before .before .before .rebuild-run2 in
+    let c2 = c .before .rebuild-run3 in
+    (planes-rebuilt (a .work .now) (y .last .0) (c1 .last .0) (c2 .last .0) (a .p) (a .k) (a .q) (y .ensures .0) (c1 .ensures .0) (c2 .ensures .0), c2 .ensures .1)
+
+pub rebuild-planes-spec : {M : Type 1} → statement M
+rebuild-planes-spec =
+    tie.close
+    (tie.spec
+    rebuild-run-requires
+    rebuild-run-requires-2
+    rebuild-run-requires-3
+    same-length
+    returns)

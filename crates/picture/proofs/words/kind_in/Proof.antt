@@ -1,0 +1,16 @@
+-- `words::kind_in` meets its contract. Assumes nothing.
+use Rattle.picture.specs.WordsLaws.{kind-high}
+use borrow.Author.Needs.{needs}
+use Rattle.picture.proofs.words.kind_in.Statement.{statement}
+use Rattle.picture.proofs.words.kind_in.Tie as tie
+use Rattle.picture.proofs.words.kind_in.Reads as reads
+use Rattle.picture.proofs.words.kind_in.Lts as lts
+
+returns : tie.Need-returns
+returns c = search needs
+
+returns-2 : tie.Need-returns-2
+returns-2 c = kind-high (c .before .args .v) (c .if1 .left)
+
+pub kind-in-spec : {M : Type 1} → statement M
+kind-in-spec = tie.close (tie.spec returns returns-2)

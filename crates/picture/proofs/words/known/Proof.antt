@@ -1,0 +1,36 @@
+-- `words::known` meets its contract. Assumes nothing.
+use Rattle.picture.specs.WordsLaws.{known-short, known-by}
+use borrow.Author.Needs.{needs}
+use Rattle.picture.proofs.words.known.Statement.{statement}
+use Rattle.picture.proofs.words.known.Tie as tie
+use Rattle.picture.proofs.words.known.Reads as reads
+use Rattle.picture.proofs.words.known.Lts as lts
+
+returns : tie.Need-returns
+returns c = known-short (c .before .args .words .now) (c .if1 .taken)
+
+shared-slice-read-result : tie.Need-shared-slice-read-result
+shared-slice-read-result c = search needs
+
+shared-slice-read-result-2 : tie.Need-shared-slice-read-result-2
+shared-slice-read-result-2 c = search needs
+
+shared-slice-read-result-3 : tie.Need-shared-slice-read-result-3
+shared-slice-read-result-3 c = search needs
+
+shared-slice-read-result-4 : tie.Need-shared-slice-read-result-4
+shared-slice-read-result-4 c = search needs
+
+returns-2 : tie.Need-returns-2
+returns-2 c = known-by (c .before .before .before .before .before .args .words .now) (c .before .before .before .before .if1 .left)
+
+pub known-spec : {M : Type 1} → statement M
+known-spec =
+    tie.close
+    (tie.spec
+    returns
+    shared-slice-read-result
+    shared-slice-read-result-2
+    shared-slice-read-result-3
+    shared-slice-read-result-4
+    returns-2)

@@ -1,0 +1,65 @@
+-- What the picture call leaves: answer, output and work slice as the definition's outcome has them, and demand 3. Assumes nothing.
+use mathlib.Core.Path.{_≡_}
+use mathlib.Core.Bool.{Bool, true, false, _||_}
+use mathlib.Core.List.{List, [], _∷_, _++_}
+use Prim.Native.Nat.{ℕ, _+_, _≤_, _<_}
+use lib.Dec.{ltb}
+use lib.IntN.{ℤ}
+use lib.ListN.{length, take, drop, replicate}
+use Rattle.unit.specs.declared.Settings.{Settings}
+use Rattle.unit.specs.declared.PictureKind.{PictureKind}
+use Rattle.unit.specs.declared.Coded.{Coded}
+use Rattle.unit.specs.declared.Answer.{Answer}
+use Rattle.unit.specs.declared.Answer.the-variants.{Accepted, Refused}
+use Rattle.unit.specs.Three.{Three}
+use Rattle.unit.specs.Plan.{Plan}
+use Rattle.unit.specs.Unit.{planOf, lengthOf, unitOf}
+use Rattle.unit.specs.Outcome.{numberOf, tells, codedOf, outcomeOf}
+use Rattle.unit.specs.Demand.{Demand3}
+use Rattle.picture.specs.declared.layout.Picture.{Picture}
+use Rattle.picture.specs.Run.{Small}
+use Rattle.picture.specs.Analysed.{pictureOf, frontOf, Called, Analysed}
+
+-- settings s, lent matrix m, planes p, output and work slice as they came and as they are left, and the answer
+pub record Encodes (s : Settings) (m : List ℕ) (p : Three (List ℕ)) (out : List ℕ) (work : List ℤ) (out′ : List ℕ) (work′ : List ℤ) (r : Answer) : Type 0 where
+  pub answer : r ≡ outcomeOf s m p out work .answer
+  pub number : numberOf r ≡ numberOf (outcomeOf s m p out work .answer)
+  pub told : tells r ≡ tells (outcomeOf s m p out work .answer)
+  pub output : out′ ≡ outcomeOf s m p out work .output
+  pub work-left : work′ ≡ outcomeOf s m p out work .work
+  -- an accepted call: demand 3 of the bytes that the answer counts, as they now stand in the output
+  pub demand : (c : Coded) → r ≡ Accepted c → Demand3 s m p (take (c .length) out′)
+
+-- ---- before the work slice is cleared
+-- the unit does not fit the output, or a length of 32 bits
+abbrev pub tooLong : ℕ → ℕ → Bool
+tooLong len n = ltb len n || ltb 4294967295 n
+
+abbrev pub answerBy : Settings → Plan → Bool → Answer
+answerBy s a true = Refused 14
+answerBy s a false = Accepted (codedOf s a)
+
+abbrev pub outputBy : Settings → Plan → List ℕ → Bool → List ℕ
+outputBy s a out true = out
+outputBy s a out false = unitOf s a ++ drop (lengthOf s a) out
+
+-- answer and output of a plan
+pub record Codes (s : Settings) (a : Plan) (out out′ : List ℕ) (r : Answer) : Type 0 where
+  pub answer : r ≡ answerBy s a (tooLong (length out) (lengthOf s a))
+  pub output : out′ ≡ outputBy s a out (tooLong (length out) (lengthOf s a))
+
+-- what coding asks: the call's picture, and a work slice with its numbers
+pub record Coding (s : Settings) (m : List ℕ) (kind : PictureKind) (p : Picture) (w : List ℤ) : Type 0 where
+  pub called : Called s m
+  pub same : s .kind ≡ kind
+  pub picture : p ≡ pictureOf s m
+  pub small : Small (frontOf s) (frontOf s + frontOf s) w
+
+-- whatever planes the work slice has been analysed from
+pub record CodesAny (s : Settings) (m : List ℕ) (w : List ℤ) (out out′ : List ℕ) (r : Answer) : Type 0 where
+  pub codes : (p : Three (List ℕ)) → Analysed s p w → Codes s (planOf s m p) out out′ r
+
+-- the output behind a call that codes: cleared where it is refused
+abbrev pub clearedBy : Answer → List ℕ → List ℕ
+clearedBy (Accepted c) out = out
+clearedBy (Refused n) out = replicate (length out) 0

@@ -1,0 +1,115 @@
+-- The picture call's outcome from what its parts leave. Assumes nothing.
+use mathlib.Core.Path.{_≡_, refl, sym, ap, ap₂, _∙_}
+use mathlib.Core.Bool.{Bool, true, false, _||_}
+use mathlib.Core.List.{List, [], _∷_, _++_, append-nil}
+use Prim.Native.Nat.{ℕ, zero, suc, _+_, _^_, _<_}
+use native.Mathlib.Numerals.{add-one}
+use native.Mathlib.Omega.{arith}
+use borrow.Author.Tests.{eq-eqb, ne-eqb}
+use lib.Dec.{eqb, ltb}
+use lib.IntN.{ℤ, pos}
+use lib.ListN.{length, drop, set, replicate, getD, length-replicate}
+use lib.Seq.{set-at, drop-cons, append-snoc, drop-length}
+use Rattle.unit.specs.declared.Settings.{Settings}
+use Rattle.unit.specs.declared.Coded.{Coded}
+use Rattle.unit.specs.declared.Answer.{Answer}
+use Rattle.unit.specs.declared.Answer.the-variants.{Accepted, Refused}
+use Rattle.unit.specs.Three.{Three}
+use Rattle.unit.specs.Refusal.{refusalOf}
+use Rattle.unit.specs.Plan.{Plan}
+use Rattle.unit.specs.Unit.{planOf, lengthOf, unitOf}
+use Rattle.unit.specs.Outcome.{numberOf, tells, codedOf, Outcome, coded, outcomeOf}
+use Rattle.unit.specs.PlannedLaws.{Component, Y, C1, C2, pick}
+use Rattle.unit.specs.DemandLaws.{Typed, accepted}
+use Rattle.picture.specs.Encoded.{Encodes, tooLong, answerBy, outputBy, Codes, clearedBy}
+
+-- ---- zeros over a list
+zeros-more : (n : ℕ) → _++_ {A = ℕ} (replicate n 0) (0 ∷ []) ≡ replicate (suc n) 0
+zeros-more zero = refl
+zeros-more (suc n) = ap (λ (l : List ℕ). 0 ∷ l) (zeros-more n)
+
+pub zeros-turn : (l xs : List ℕ) (n : ℕ) → n < length l → xs ≡ replicate n 0 ++ drop n l → set xs n 0 ≡ replicate (n + 1) 0 ++ drop (n + 1) l
+zeros-turn l xs n h e =
+    rw (e, drop-cons l n 0 h, set-at (replicate n 0) (getD l n 0) (drop (suc n) l) 0 n (length-replicate n 0), add-one n)
+    (sym (append-snoc (replicate n 0) 0 (drop (suc n) l)) ∙ ap (λ (k : List ℕ). k ++ drop (suc n) l) (zeros-more n))
+
+pub zeros-all : (l : List ℕ) (n : ℕ) → n ≡ length l → replicate n 0 ++ drop n l ≡ replicate (length l) 0
+zeros-all l n e = rw (e, drop-length l) (append-nil (replicate (length l) 0))
+
+-- ---- the call
+-- numbers of 32 bits and samples of 16
+pub typed-by : (s : Settings) (p : Three (List ℕ)) → s .«picture_number» < 2 ^ 32 → s .«prev_unit_len» < 2 ^ 32 → ((n : ℕ) → getD (p .y) n 0 < 2 ^ 16)
+    → ((n : ℕ) → getD (p .c1) n 0 < 2 ^ 16) → ((n : ℕ) → getD (p .c2) n 0 < 2 ^ 16) → Typed s p
+typed-by s p n m y c1 c2 = record { number = n; previous = m; samples = by }
+  where
+    by : (c : Component) (n : ℕ) → getD (pick c p) n 0 < 2 ^ 16
+    by Y n = y n
+    by C1 n = c1 n
+    by C2 n = c2 n
+
+pub cleared-refused : (r : Answer) (n : ℕ) (out o : List ℕ) → r ≡ Refused n → o ≡ replicate (length out) 0 → o ≡ clearedBy r out
+cleared-refused r n out o e f = f ∙ ap (λ (r : Answer). clearedBy r out) (sym e)
+
+module _ (s : Settings) (m : List ℕ) (p : Three (List ℕ)) (out : List ℕ) (work : List ℤ) where
+  -- answer, output and work slice are the outcome's
+  encodes : (out′ : List ℕ) (work′ : List ℤ) (r : Answer) → Typed s p → r ≡ outcomeOf s m p out work .answer → out′ ≡ outcomeOf s m p out work .output
+      → work′ ≡ outcomeOf s m p out work .work → Encodes s m p out work out′ work′ r
+  encodes out′ work′ r t a o w = record {
+    answer = a;
+    number = ap numberOf a;
+    told = ap tells a;
+    output = o;
+    work-left = w;
+    demand = λ c e. rw o (accepted s m p out work t c (sym a ∙ e));
+  }
+
+  -- the outcome by whether no refusal of 1 to 13 turns the call away
+  abbrev outcomeIf : Bool → Outcome
+  outcomeIf b =
+      elim b [ true ↦ coded s (planOf s m p) out work | false ↦ record { answer = Refused (refusalOf s m p work); output = out; work = work } ]
+
+  outcome-if : outcomeOf s m p out work ≡ outcomeIf (eqb (refusalOf s m p work) 0)
+  unfolding outcomeOf
+  outcome-if = refl
+
+  pub encodes-refused : (n : ℕ) → Typed s p → n ≡ refusalOf s m p work → (n ≡ 0 → ⊥) → Encodes s m p out work out work (Refused n)
+  encodes-refused n t e ne =
+      let f = outcome-if ∙ ap outcomeIf (ne-eqb (refusalOf s m p work) 0 (λ z. ne (e ∙ z))) in
+      encodes out work (Refused n) t (ap Refused e ∙ sym (ap (λ (o : Outcome). o .answer) f)) (sym (ap (λ (o : Outcome). o .output) f)) (sym (ap (λ (o : Outcome). o .work) f))
+
+  -- and behind coding
+  coded-outcome : refusalOf s m p work ≡ 0 → outcomeOf s m p out work ≡ coded s (planOf s m p) out work
+  coded-outcome e = outcome-if ∙ ap outcomeIf (eq-eqb (refusalOf s m p work) 0 e)
+
+  abbrev a : Plan
+  a = planOf s m p
+
+  -- what is left of the output and the work slice, by whether the unit is too long
+  abbrev codedBy : Bool → Outcome
+  codedBy b =
+      elim b [
+        | true ↦ record { answer = Refused 14; output = replicate (length out) 0; work = replicate (length work) (pos 0) }
+        | false ↦ record { answer = Accepted (codedOf s a); output = unitOf s a ++ drop (lengthOf s a) out; work = replicate (length work) (pos 0) }
+      ]
+
+  answer-by : (b : Bool) → answerBy s a b ≡ codedBy b .answer
+  answer-by true = refl
+  answer-by false = refl
+
+  cleared-by : (b : Bool) → clearedBy (answerBy s a b) (outputBy s a out b) ≡ codedBy b .output
+  cleared-by true = refl
+  cleared-by false = refl
+
+  work-by : (b : Bool) → replicate (length work) (pos 0) ≡ codedBy b .work
+  work-by true = refl
+  work-by false = refl
+
+  pub encodes-coded : (o out′ : List ℕ) (w work′ : List ℤ) (r : Answer) → Typed s p → refusalOf s m p work ≡ 0 → Codes s (planOf s m p) out o r
+      → length w ≡ length work → work′ ≡ replicate (length w) (pos 0) → out′ ≡ clearedBy r o → Encodes s m p out work out′ work′ r
+  encodes-coded o out′ w work′ r t e c lw ew eo =
+      let b : Bool = tooLong (length out) (lengthOf s a) in
+      let f = coded-outcome e in
+      encodes out′ work′ r t
+      (c .answer ∙ answer-by b ∙ sym (ap (λ (o : Outcome). o .answer) f))
+      (eo ∙ ap₂ clearedBy (c .answer) (c .output) ∙ cleared-by b ∙ sym (ap (λ (o : Outcome). o .output) f))
+      (ew ∙ ap (λ (n : ℕ). replicate n (pos 0)) lw ∙ work-by b ∙ sym (ap (λ (o : Outcome). o .work) f))

@@ -1,0 +1,128 @@
+-- High quality as the code has it: needs, index and bits of a slice by its numbers in the work slice. Assumes nothing.
+use mathlib.Core.Path.{_≡_}
+use mathlib.Core.Bool.{Bool, true, false}
+use mathlib.Core.List.{List, _++_}
+use Prim.Native.Nat.{ℕ, _+_, _*_, _^_, _≤_, _<_, max}
+use lib.Dec.{leb}
+use lib.IntN.{ℤ}
+use lib.ListN.{length}
+use Rattle.laws.specs.Rows.{span}
+use Rattle.laws.specs.Chunks.{chunks}
+use Rattle.codewords.specs.Bit.{Bits}
+use Rattle.codewords.specs.Bytes.{toBytes}
+use Rattle.unit.specs.declared.Settings.{Settings}
+use Rattle.unit.specs.declared.PictureKind.the-variants.{HighQuality}
+use Rattle.unit.specs.declared.RateControl.{RateControl}
+use Rattle.unit.specs.declared.RateControl.the-variants.{Lossless, FixedQuantIndex, PictureBytes}
+use Rattle.unit.specs.Three.{Three}
+use Rattle.unit.specs.Elect.{elect}
+use Rattle.unit.specs.Plan.{SlicePlan}
+use Rattle.unit.specs.Valid.{RateFits}
+use Rattle.unit.specs.Parameters.{parameterBytes}
+use Rattle.unit.specs.HighQuality.{needOf, sliceSize, componentBits, highBits, shareOf, largestNeed, scalerFrom}
+use Rattle.unit.specs.Unit.{majorVersion, highParameters, highBytes}
+use Rattle.picture.specs.declared.layout.Picture.{Picture}
+use Rattle.picture.specs.declared.high_index.Needs.{Needs}
+use Rattle.picture.specs.declared.high_index.Terms.{Terms}
+use Rattle.picture.specs.declared.high_index.Range.{Range}
+use Rattle.picture.specs.declared.slice_coder.SliceCoder.{SliceCoder}
+use Rattle.picture.specs.declared.high_plan.Settled.{Settled}
+use Rattle.picture.specs.Run.{Small}
+use Rattle.picture.specs.Picture.{slicesIn, numbersIn, Arranged}
+
+-- whether a slice of prefix p and scaler c whose numbers at index q are z q fits its share
+abbrev pub fitsBy : ℕ → ℕ → ℕ → (ℕ → Three (List ℤ)) → ℕ → Bool
+fitsBy p c share z q = leb (sliceSize p c (z q)) share
+
+-- the index of a slice
+unfoldable pub indexBy : RateControl → ℕ → ℕ → ℕ → (ℕ → Three (List ℤ)) → ℕ
+indexBy Lossless p c share z = 0
+indexBy (FixedQuantIndex q) p c share z = q
+indexBy (PictureBytes t) p c share z = elect 0 255 (fitsBy p c share z)
+
+-- a slice's plan by its index and its numbers
+abbrev pub planBy : ℕ → ℕ → ℕ → Three (List ℤ) → SlicePlan
+planBy p c q z = record { index = q; numbers = z; kept = z; bits = highBits p c q z }
+
+-- of slice k
+unfoldable pub indexIn : List ℤ → Picture → Terms → ℕ → ℕ
+indexIn w p t k = indexBy (t .rate) (t .prefix) (t .scaler) (shareOf (t .bytes) (slicesIn p) k) (numbersIn w p k)
+
+unfoldable pub planIn : List ℤ → Picture → Terms → ℕ → SlicePlan
+planIn w p t k = let q = indexIn w p t k in planBy (t .prefix) (t .scaler) q (numbersIn w p k q)
+
+-- of the first n slices, and their bytes
+abbrev pub plansIn : List ℤ → Picture → Terms → ℕ → List SlicePlan
+plansIn w p t n = span (planIn w p t) 0 n
+
+abbrev pub highRuns : List ℤ → Picture → Terms → ℕ → List ℕ
+highRuns w p t n = chunks (λ k. toBytes (planIn w p t k .bits)) n
+
+-- the terms of a call with scaler c
+abbrev pub termsOf : Settings → List ℕ → ℕ → Terms
+termsOf s m c = record { rate = s .rate; prefix = s .«slice_prefix_bytes»; scaler = c; bytes = highBytes s m c }
+
+abbrev pub slicesBy : List ℤ → Picture → Settings → List ℕ → ℕ → List SlicePlan
+slicesBy w p s m c = plansIn w p (termsOf s m c) (slicesIn p)
+
+-- the three components' bits
+abbrev pub threeBits : ℕ → Three (List ℤ) → Bits
+threeBits c z = componentBits c (z .y) ++ (componentBits c (z .c1) ++ componentBits c (z .c2))
+
+-- the half of a range that the search goes on in
+abbrev pub halfOf : Range → ℕ → Bool → Range
+halfOf r mid true = record { lo = r .lo; hi = mid }
+halfOf r mid false = record { lo = mid + 1; hi = r .hi }
+
+-- ---- conditions and outcomes
+pub record TermsIn (t : Terms) : Type 0 where
+  pub rate : RateFits HighQuality (t .rate)
+  pub prefix : t .prefix ≤ 255
+  pub scaler : (1 ≤ t .scaler) × (t .scaler ≤ 2 ^ 24)
+  pub bytes : t .bytes ≤ 2 ^ 30
+
+-- slices can be planned
+pub record PlanIn (p : Picture) (t : Terms) (w : List ℤ) : Type 0 where
+  pub arranged : Arranged p
+  pub small : Small (p .front) (p .end) w
+  pub terms : TermsIn t
+
+-- the needs of numbers z
+pub record NeedsOf (z : Three (List ℤ)) (n : Needs) : Type 0 where
+  pub y : n .y ≡ needOf (z .y)
+  pub c1 : n .c1 ≡ needOf (z .c1)
+  pub c2 : n .c2 ≡ needOf (z .c2)
+  pub few : (n .y ≤ 2 ^ 30) × ((n .c1 ≤ 2 ^ 30) × (n .c2 ≤ 2 ^ 30))
+
+-- a slice planned behind others: its place, and the largest component
+pub record PlansOn (p c : ℕ) (a : SlicePlan) (b r : SliceCoder) : Type 0 where
+  pub at : r .at ≡ b .at + length (toBytes (a .bits))
+  pub near : r .at ≤ b .at + 2 ^ 34
+  pub cut : r .«cut_slices» ≡ b .«cut_slices»
+  pub largest : r .largest ≡ max (max (needOf (a .numbers .y)) (max (needOf (a .numbers .c1)) (needOf (a .numbers .c2)))) (b .largest)
+  pub few : b .largest ≤ 2 ^ 30 → r .largest ≤ 2 ^ 30
+
+-- the first n slices planned from place at on
+pub record PlansTo (w : List ℤ) (p : Picture) (t : Terms) (from n : ℕ) (r : SliceCoder) : Type 0 where
+  pub at : r .at ≡ from + length (highRuns w p t n)
+  pub near : r .at ≤ from + n * 2 ^ 34
+  pub cut : r .«cut_slices» ≡ 0
+  pub largest : r .largest ≡ largestNeed (plansIn w p t n)
+  pub few : r .largest ≤ 2 ^ 30
+
+-- what a call's settings ask of the planning
+pub record HighIn (s : Settings) (p : Picture) (w : List ℤ) : Type 0 where
+  pub arranged : Arranged p
+  pub small : Small (p .front) (p .end) w
+  pub rate : RateFits HighQuality (s .rate)
+  pub prefix : s .«slice_prefix_bytes» ≤ 255
+  pub scaler : (1 ≤ s .«slice_size_scaler») × (s .«slice_size_scaler» ≤ 65535)
+
+-- the scaler that is settled on, by any bound on the turns that suffices, and where the unit ends
+pub record Settles (w : List ℤ) (p : Picture) (s : Settings) (m : List ℕ) (r : Settled) : Type 0 where
+  pub scaler : (most f : ℕ) → ((c : ℕ) → largestNeed (slicesBy w p s m c) ≤ most) → most ≤ 255 * (s .«slice_size_scaler» + f)
+      → r .scaler ≡ scalerFrom (slicesBy w p s m) f (s .«slice_size_scaler»)
+  pub some : 1 ≤ r .scaler
+  pub few : r .scaler ≤ 2 ^ 24
+  pub fits : largestNeed (slicesBy w p s m (r .scaler)) ≤ 255 * r .scaler
+  pub end : r .end ≡ 17 + parameterBytes (majorVersion s) (highParameters s m (r .scaler)) + length (highRuns w p (termsOf s m (r .scaler)) (slicesIn p))

@@ -1,0 +1,132 @@
+-- Laws of a low-delay slice's index: its bytes and bits, its candidates in the work slice, what they cost, and the election. Assumes nothing.
+use mathlib.Core.Path.{_≡_, ap, ap₂, _∙_}
+use mathlib.Core.Bool.{Bool}
+use mathlib.Core.List.{List}
+use Prim.Native.Nat.{ℕ, suc, _+_, _*_, _-_, _/_, _^_, _≤_, _<_}
+use native.Mathlib.Nat.{suc-mul, mul-le-mul-left, mul-le-mul-right, mul-one, add-mul-div-right}
+use native.Mathlib.Numerals.{add-one}
+use native.Mathlib.Omega.{arith}
+use borrow.Author.Tests.{eq-eqb, ne-eqb}
+use lib.Dec.{leb}
+use lib.IntN.{ℤ}
+use lib.ListN.{length}
+use Rattle.unit.specs.Trim.{trimmedCost}
+use Rattle.unit.specs.TrimLaws.{cost-most}
+use Rattle.unit.specs.SliceLaws.{div-rises}
+use Rattle.unit.specs.Intlog2Laws.{intlog2-least, intlog2-most}
+use Rattle.unit.specs.LowDelay.{sliceBytes, lengthBits}
+use Rattle.unit.specs.LowDelayLaws.{bytes-some}
+use Rattle.picture.specs.declared.cost.Cost.{Cost}
+use Rattle.picture.specs.declared.layout.Component.{Component}
+use Rattle.picture.specs.declared.layout.Layout.{Layout}
+use Rattle.picture.specs.declared.layout.Picture.{Picture}
+use Rattle.picture.specs.Run.{rebuiltStrip}
+use Rattle.picture.specs.Cost.{addAll, noCost, Countable}
+use Rattle.picture.specs.CostLaws.{cost-of}
+use Rattle.picture.specs.Layout.{bandCount, startOf, runNumbers, RunIn}
+use Rattle.picture.specs.LayoutLaws.{band-fits, start-next, run-small, run-length}
+use Rattle.picture.specs.Picture.{SliceIn}
+use Rattle.picture.specs.PictureLaws.{run-y}
+use Rattle.picture.specs.Low.{strip0, rebuiltIn, lumaIn, colourIn, lowFitsIn, isLast}
+
+-- ---- bytes
+-- products of two numbers of 32 bits
+pub product-few : (a b : ℕ) → a ≤ 2 ^ 32 → b < 2 ^ 32 → a * b < 2 ^ 64
+product-few a b h g = omega (arith, mul-le-mul-right b h)
+
+module _ (n d k : ℕ) where
+  pub bytes-rise : k * n / d ≤ (k + 1) * n / d
+  bytes-rise = rw (add-one k) (div-rises d (omega (arith, suc-mul k n)))
+
+  -- a slice has at most all of them
+  bytes-most : 1 ≤ d → sliceBytes n d k ≤ n
+  unfolding sliceBytes
+  bytes-most h =
+      let g : suc k * n ≤ k * n + n * d = omega (arith, suc-mul k n, mul-le-mul-left n h, mul-one n) in
+      omega (arith, div-rises d g, add-mul-div-right (k * n) n h)
+
+  bytes-by : (k + 1) * n / d - k * n / d ≡ sliceBytes n d k
+  unfolding sliceBytes
+  bytes-by = rw (add-one k)
+
+  pub bytes-are : 1 ≤ d → d ≤ n → let r = (k + 1) * n / d - k * n / d in (r ≡ sliceBytes n d k) × ((1 ≤ r) × (r ≤ n))
+  bytes-are h g = (bytes-by, (omega (arith, bytes-by, bytes-some n d k h g), omega (arith, bytes-by, bytes-most h)))
+
+-- ---- bits
+pub length-few : (n : ℕ) → n ≤ 2 ^ 30 → lengthBits n ≤ 33
+length-few n h = intlog2-least (8 * n - 7) .least 33 (omega arith)
+
+-- the length field leaves the rest as room
+pub length-most : (n : ℕ) → lengthBits n ≤ 8 * n - 7
+length-most n = intlog2-most (8 * n - 7)
+
+-- ---- the last index
+pub last-yes : (q : ℕ) → q ≡ 127 → 1 ≡ isLast q
+last-yes q e = rw (eq-eqb q 127 e)
+
+pub last-no : (q : ℕ) → (q ≡ 127 → ⊥) → 0 ≡ isLast q
+last-no q e = rw (ne-eqb q 127 e)
+
+-- ---- rebuilt planes
+-- one component after the other
+pub planes-rebuilt : (w a b r : List ℤ) (p : Picture) (k q : ℕ) → a ≡ rebuiltStrip w (strip0 p (p .y) k q) → b ≡ rebuiltStrip a (strip0 p (p .c1) k q)
+    → r ≡ rebuiltStrip b (strip0 p (p .c2) k q) → r ≡ rebuiltIn w p k q
+unfolding rebuiltIn
+planes-rebuilt w a b r p k q e f g =
+    g ∙ ap (λ (b : List ℤ). rebuiltStrip b (strip0 p (p .c2) k q)) (f ∙ ap (λ (a : List ℤ). rebuiltStrip a (strip0 p (p .c1) k q)) e)
+
+-- ---- costs
+-- the two colours together
+pub run-pair : {p : Picture} {w : List ℤ} {k q : ℕ} → SliceIn p w k q → RunIn (p .layout) (p .c1) (p .c2) (p .front) (p .end) k q w
+run-pair {p = p} s =
+    let a = s .arranged in
+    let e : p .c2 .width * p .c2 .height ≡ p .c1 .width * p .c1 .height = ap₂ _*_ (a .wide) (a .high) in
+    record {
+      layout = a .layout;
+      first = a .c1 .fits;
+      other = a .c2 .fits;
+      slice = s .slice;
+      index = s .index;
+      small = s .small;
+      coefs = a .c1 .coefs;
+      coefs2 = (a .c2 .coefs .0, omega (arith, a .c2 .coefs .1));
+      rebuilt = a .c1 .rebuilt;
+      rebuilt2 = omega (arith, a .c2 .rebuilt);
+    }
+
+none-countable : (room n : ℕ) → n ≤ 67108864 → Countable (noCost room) (2 * n)
+none-countable room n h = record { bits = omega arith; count = omega arith }
+
+pub luma-ready : {p : Picture} {w : List ℤ} {k q : ℕ} (room : ℕ) → SliceIn p w k q
+    → RunIn (p .layout) (p .y) (p .y) (p .front) (p .end) k q w × Countable (noCost room) (2 * (p .y .width * p .y .height))
+luma-ready {p = p} room s = (run-y s, none-countable room (p .y .width * p .y .height) (s .arranged .y .area))
+
+pub colour-ready : {p : Picture} {w : List ℤ} {k q : ℕ} (room : ℕ) → SliceIn p w k q
+    → RunIn (p .layout) (p .c1) (p .c2) (p .front) (p .end) k q w × Countable (noCost room) (2 * (p .c1 .width * p .c1 .height))
+colour-ready {p = p} room s = (run-pair s, none-countable room (p .c1 .width * p .c1 .height) (s .arranged .c1 .area))
+
+-- the kept bits of a run are what it costs
+kept-is : (room : ℕ) (xs : List ℤ) (r : Cost) → r ≡ addAll (noCost room) xs → r .«kept_bits» ≡ trimmedCost xs
+kept-is room xs r e = ap (λ (r : Cost). r .«kept_bits») e ∙ cost-of room xs .kept-bits
+
+-- and they are few
+module _ (w : List ℤ) (l : Layout) (c second : Component) (pair : Bool) (k q : ℕ) where
+  starts-most : startOf l c (bandCount l) ≤ c .width * c .height
+  starts-most =
+      let n : ℕ = l .«depth_ho» + 3 * l .depth in
+      let e : bandCount l ≡ suc n = omega arith in
+      rw e (omega (arith, start-next l c n, band-fits l c n (omega arith)))
+
+  pub kept-few : (room : ℕ) (r : Cost) → c .width * c .height ≤ 67108864 → r ≡ addAll (noCost room) (runNumbers w l c second pair k q (bandCount l)) → r .«kept_bits» ≤ 2 ^ 40
+  kept-few room r h e =
+      let n : ℕ = bandCount l in
+      let xs = runNumbers w l c second pair k q n in
+      omega (arith, kept-is room xs r e, cost-most xs (run-small w l c second pair k q n), run-length w l c second pair k q n, starts-most)
+
+-- ---- whether a slice fits
+pub fits-is : (w v : List ℤ) (p : Picture) (room k q : ℕ) (y c : Cost) → v ≡ rebuiltIn w p k q → y ≡ addAll (noCost room) (lumaIn v p k q)
+    → c ≡ addAll (noCost room) (colourIn v p k q) → leb (y .«kept_bits» + c .«kept_bits») room ≡ lowFitsIn w p room k q
+unfolding lowFitsIn
+fits-is w v p room k q y c e f g =
+    ap₂ (λ (a b : ℕ). leb (a + b) room) (kept-is room (lumaIn v p k q) y f) (kept-is room (colourIn v p k q) c g)
+    ∙ ap (λ (v : List ℤ). leb (trimmedCost (lumaIn v p k q) + trimmedCost (colourIn v p k q)) room) e

@@ -1,0 +1,33 @@
+-- Laws of a picture in the work slice: the runs of a slice can be read. Assumes nothing.
+use mathlib.Core.List.{List}
+use Prim.Native.Nat.{ℕ}
+use lib.IntN.{ℤ}
+use Rattle.picture.specs.declared.layout.Component.{Component}
+use Rattle.picture.specs.declared.layout.Picture.{Picture}
+use Rattle.picture.specs.Layout.{RunIn}
+use Rattle.picture.specs.Picture.{Placed, SliceIn}
+
+-- the runs of single components
+module _ {p : Picture} {w : List ℤ} {k q : ℕ} (h : SliceIn p w k q) where
+  run-placed : (c : Component) → Placed p c → RunIn (p .layout) c c (p .front) (p .end) k q w
+  run-placed c d = record {
+    layout = h .arranged .layout;
+    first = d .fits;
+    other = d .fits;
+    slice = h .slice;
+    index = h .index;
+    small = h .small;
+    coefs = d .coefs;
+    coefs2 = d .coefs;
+    rebuilt = d .rebuilt;
+    rebuilt2 = d .rebuilt;
+  }
+
+  pub run-y : RunIn (p .layout) (p .y) (p .y) (p .front) (p .end) k q w
+  run-y = run-placed (p .y) (h .arranged .y)
+
+  pub run-c1 : RunIn (p .layout) (p .c1) (p .c1) (p .front) (p .end) k q w
+  run-c1 = run-placed (p .c1) (h .arranged .c1)
+
+  pub run-c2 : RunIn (p .layout) (p .c2) (p .c2) (p .front) (p .end) k q w
+  run-c2 = run-placed (p .c2) (h .arranged .c2)

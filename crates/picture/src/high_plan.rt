@@ -1,0 +1,87 @@
+// The planning pass of high quality, and the scaler that it settles on. All of it is for the picture call.
+use crate::header::SliceParameters;
+use crate::high_index::Terms;
+use crate::layout::Picture;
+use crate::slice_coder::SliceCoder;
+use unit::Settings;
+ghost use mathlib.Core.Path.{_≡_};
+ghost use Prim.Native.Nat.{ℕ, _+_, _*_, _^_, _≤_, _<_};
+ghost use lib.ListN.{length};
+ghost use Rattle.unit.specs.Parameters.{parameterBytes};
+ghost use Rattle.unit.specs.Unit.{majorVersion, highParameters, highBytes};
+ghost use Rattle.picture.specs.Head.{CanCarry};
+ghost use Rattle.picture.specs.Picture.{slicesIn};
+ghost use Rattle.picture.specs.High.{termsOf, PlanIn, PlansTo, HighIn, Settles};
+
+// The scaler, and where the unit ends.
+pub struct Settled {
+    pub scaler: u32,
+    pub end: usize,
+}
+
+// All slices, planned from place at on.
+fn plan_slices(work: &[i64], p: Picture, t: Terms, at: usize) -> SliceCoder
+    requires { ⌜ PlanIn p t (now work) × (at < 2 ^ 16) ⌝ }
+    ensures { λ r. ⌜ PlansTo (now (work .entry)) p t at (slicesIn p) r ⌝ }
+{
+    let slices = crate::low_index::slice_count(p);
+    let mut c = SliceCoder::new(at);
+    let mut k = 0;
+    while k < slices {
+        c = c.plan_hq_slice(work, p, t, k);
+        k += 1;
+    }
+    c
+}
+
+// The terms of a call with scaler c: the bytes for all slices are the target less overhead, or 0 below that.
+pub fn terms_of(s: Settings, matrix: &[u32], c: u32) -> Terms
+    requires { ⌜ CanCarry s (now matrix) ⌝ }
+    ensures { λ r. ⌜ r ≡ termsOf s (now (matrix .entry)) c ⌝ }
+{
+    let rate = s.rate;
+    let taken = crate::header::overhead(
+        s,
+        matrix,
+        SliceParameters::HighQuality(s.slice_prefix_bytes, c),
+    );
+    let target = crate::header::target_of(rate) as u64;
+    Terms {
+        rate,
+        prefix: s.slice_prefix_bytes,
+        scaler: c,
+        bytes: crate::header::less(target, taken),
+    }
+}
+
+// The pass with scaler c.
+fn plan_picture(s: Settings, matrix: &[u32], work: &[i64], p: Picture, c: u32) -> SliceCoder
+    requires { ⌜ HighIn s p (now work) × (CanCarry s (now matrix) × ((1 ≤ c) × (c ≤ 2 ^ 24))) ⌝ }
+    ensures { λ r. ⌜ PlansTo (now (work .entry)) p (termsOf s (now (matrix .entry)) c)
+        (17 + parameterBytes (majorVersion s) (highParameters s (now (matrix .entry)) c)) (slicesIn p) r ⌝ }
+{
+    let t = terms_of(s, matrix, c);
+    let at = crate::header::overhead(
+        s,
+        matrix,
+        SliceParameters::HighQuality(s.slice_prefix_bytes, c),
+    );
+    plan_slices(work, p, t, at as usize)
+}
+
+// While a component needs more than 255 scalers the scaler becomes the largest need over 255, rounded up.
+pub fn settle(s: Settings, matrix: &[u32], work: &[i64], p: Picture) -> Settled
+    requires { ⌜ HighIn s p (now work) × CanCarry s (now matrix) ⌝ }
+    ensures { λ r. ⌜ Settles (now (work .entry)) p s (now (matrix .entry)) r ⌝ }
+{
+    let mut c = s.slice_size_scaler;
+    let mut r = plan_picture(s, matrix, work, p, c);
+    while r.largest > 255 * c as u64 {
+        c = ((r.largest + 254) / 255) as u32;
+        r = plan_picture(s, matrix, work, p, c);
+    }
+    Settled {
+        scaler: c,
+        end: r.at,
+    }
+}

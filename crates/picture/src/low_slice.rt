@@ -1,0 +1,177 @@
+// A low-delay slice, cut where it does not fit, and written. All of it is for the picture call.
+use crate::cost::Cost;
+use crate::layout::Picture;
+use crate::put::Put;
+use crate::slice_coder::SliceCoder;
+use codewords::writer::BitWriter;
+ghost use mathlib.Core.Path.{_≡_};
+ghost use Prim.Native.Nat.{ℕ, _+_, _*_, _^_, _≤_, _<_};
+ghost use lib.ListN.{length};
+ghost use Rattle.laws.specs.Laid.{Lays};
+ghost use Rattle.codewords.specs.Bytes.{toBytes};
+ghost use Rattle.codewords.specs.Writer.{Room, Wrote};
+ghost use Rattle.unit.specs.LowDelay.{roomOf, lowBits, keptRuns};
+ghost use Rattle.picture.specs.Run.{Small};
+ghost use Rattle.picture.specs.Picture.{slicesIn, SliceIn};
+ghost use Rattle.picture.specs.Low.{lumaIn, colourIn, runBits, lowBitsBy, lowRuns, workAt, cutsIn, KeptOf, LowIn, Shorter, CutIn};
+
+// How many numbers are written of luma and of the colours, and their bits.
+pub struct Kept {
+    pub luma: usize,
+    pub luma_bits: u64,
+    pub colour: usize,
+    pub colour_bits: u64,
+}
+
+// How many numbers, and their bits.
+pub struct Run {
+    pub count: usize,
+    pub bits: u64,
+}
+
+// The shorter one of the kept run and the longest run that fits.
+fn shorter(c: Cost) -> Run
+    ensures { λ r. ⌜ Shorter c r ⌝ }
+{
+    if c.fit <= c.keep {
+        Run {
+            count: c.fit,
+            bits: c.fit_bits,
+        }
+    } else {
+        Run {
+            count: c.keep,
+            bits: c.kept_bits,
+        }
+    }
+}
+
+// The cut: the longest luma run that fits, then the longest colour run in the bits left.
+fn cut(work: &[i64], p: Picture, room: u64, k: u32, q: u32, y: Cost) -> Kept
+    requires { ⌜ SliceIn p (now work) k q × CutIn (now work) p room k q y ⌝ }
+    ensures { λ r. ⌜ KeptOf room (lumaIn (now (work .entry)) p k q) (colourIn (now (work .entry)) p k q) r ⌝ }
+{
+    let l = shorter(y);
+    let left = room - l.bits;
+    let c = shorter(crate::low_index::colour_cost(work, p, k, q, left));
+    Kept {
+        luma: l.count,
+        luma_bits: l.bits,
+        colour: c.count,
+        colour_bits: c.bits,
+    }
+}
+
+// The runs that are written in room bits: all but trailing zeros where that fits, else a cut.
+fn kept_runs(work: &[i64], p: Picture, room: u64, k: u32, q: u32) -> Kept
+    requires { ⌜ SliceIn p (now work) k q ⌝ }
+    ensures { λ r. ⌜ KeptOf room (lumaIn (now (work .entry)) p k q) (colourIn (now (work .entry)) p k q) r ⌝ }
+{
+    let y = crate::low_index::luma_cost(work, p, k, q, room);
+    let c = crate::low_index::colour_cost(work, p, k, q, room);
+    if y.kept_bits + c.kept_bits <= room {
+        return Kept {
+            luma: y.keep,
+            luma_bits: y.kept_bits,
+            colour: c.keep,
+            colour_bits: c.kept_bits,
+        };
+    }
+    cut(work, p, room, k, q, y)
+}
+
+// The numbers of the two runs.
+fn put_runs(
+    out: &mut [u8],
+    w: BitWriter,
+    work: &[i64],
+    p: Picture,
+    k: u32,
+    q: u32,
+    r: Kept,
+) -> BitWriter
+    requires { ⌜ SliceIn p (now work) k q × Room (now out) w (length (runBits (now work) p k q r)) ⌝ }
+    ensures { λ v. ⌜ Wrote (now (out .entry)) w (runBits (now (work .entry)) p k q r) (now (out .exit)) v ⌝ }
+{
+    let l = p.layout;
+    let y = p.y;
+    let c1 = p.c1;
+    let c2 = p.c2;
+    let a = crate::run::put_run(
+        out,
+        Put {
+            writer: w,
+            left: r.luma,
+        },
+        work,
+        p.front,
+        p.end,
+        l,
+        y,
+        y,
+        false,
+        k,
+        q,
+    );
+    let v = a.writer;
+    let b = crate::run::put_run(
+        out,
+        Put {
+            writer: v,
+            left: r.colour,
+        },
+        work,
+        p.front,
+        p.end,
+        l,
+        c1,
+        c2,
+        true,
+        k,
+        q,
+    );
+    b.writer
+}
+
+// Slice k of n bytes at index q from place at on: where it ends.
+pub fn put_ld_slice(
+    out: &mut [u8],
+    at: usize,
+    work: &[i64],
+    p: Picture,
+    n: u64,
+    k: u32,
+    q: u32,
+) -> usize
+    requires { ⌜ SliceIn p (now work) k q × (((1 ≤ n) × (n ≤ 2 ^ 30)) × (at + n ≤ length (now out))) ⌝ }
+    ensures { λ r. ⌜ Lays (now (out .entry)) at (toBytes (lowBitsBy (now (work .entry)) p n k q)) (now (out .exit)) r ⌝ }
+{
+    let room = crate::low_index::room_of(n);
+    let r = kept_runs(work, p, room, k, q);
+    let w = BitWriter {
+        at,
+        pending: 0,
+        pending_bits: 0,
+    };
+    let a = codewords::writer::put_nbits(out, w, q as u64, 7);
+    let b = codewords::writer::put_nbits(out, a, r.luma_bits, crate::low_index::length_bits(n));
+    let c = put_runs(out, b, work, p, k, q, r);
+    let d = codewords::writer::put_ones(out, c, room - r.luma_bits - r.colour_bits);
+    d.at
+}
+
+// All slices from place at on; n is the numerator.
+pub fn put_ld_slices(out: &mut [u8], at: usize, work: &mut [i64], p: Picture, n: u32) -> SliceCoder
+    requires { ⌜ LowIn p n (now work) × (at + n ≤ length (now out)) ⌝ }
+    ensures { λ r. ⌜ Lays (now (out .entry)) at (lowRuns p n (now (work .entry)) (slicesIn p)) (now (out .exit)) (r .at)
+        × ((r .«cut_slices» ≡ cutsIn p n (now (work .entry)) (slicesIn p)) × (now (work .exit) ≡ workAt p n (now (work .entry)) (slicesIn p))) ⌝ }
+{
+    let slices = crate::low_index::slice_count(p);
+    let mut c = SliceCoder::new(at);
+    let mut k = 0;
+    while k < slices {
+        c = c.code_ld_slice(out, work, p, n, k);
+        k += 1;
+    }
+    c
+}

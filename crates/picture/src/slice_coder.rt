@@ -1,0 +1,94 @@
+// The state that goes from slice to slice. All of it is for the picture call.
+use crate::high_index::Terms;
+use crate::layout::Picture;
+ghost use mathlib.Core.Path.{_≡_};
+ghost use Prim.Native.Nat.{ℕ, _+_, _*_, _^_, _≤_, _<_};
+ghost use lib.ListN.{length};
+ghost use Rattle.laws.specs.Laid.{Lays};
+ghost use Rattle.codewords.specs.Bytes.{toBytes};
+ghost use Rattle.unit.specs.HighQualityLaws.{Needs};
+ghost use Rattle.picture.specs.Run.{Small};
+ghost use Rattle.picture.specs.Picture.{slicesIn};
+ghost use Rattle.picture.specs.High.{planIn, PlanIn, PlansOn};
+ghost use Rattle.picture.specs.Low.{isLast, lowIndexIn, lowBitsIn, lowWorkIn, LowIn};
+
+// Where the next slice goes in the output, how many low-delay slices carry index 127, and the largest need of a component.
+pub struct SliceCoder {
+    pub at: usize,
+    pub cut_slices: u32,
+    pub largest: u64,
+}
+
+impl SliceCoder {
+    // No slice yet; the first one goes to at.
+    pub fn new(at: usize) -> SliceCoder
+        ensures { λ r. ⌜ (r .at ≡ at) × ((r .«cut_slices» ≡ 0) × (r .largest ≡ 0)) ⌝ }
+    {
+        SliceCoder {
+            at,
+            cut_slices: 0,
+            largest: 0,
+        }
+    }
+
+    // High-quality slice k, planned.
+    pub fn plan_hq_slice(self, work: &[i64], p: Picture, t: Terms, k: u32) -> SliceCoder
+        requires { ⌜ PlanIn p t (now work) × ((k < slicesIn p) × (self .at < 2 ^ 60)) ⌝ }
+        ensures { λ r. ⌜ PlansOn (t .prefix) (t .scaler) (planIn (now (work .entry)) p t k) self r ⌝ }
+    {
+        let q = crate::high_index::index_of(work, p, t, k);
+        let n = crate::high_index::needs_of(work, p, k, q);
+        SliceCoder {
+            at: self.at + crate::high_index::slice_size(n, t) as usize,
+            cut_slices: self.cut_slices,
+            largest: crate::high_index::largest(n, self.largest),
+        }
+    }
+
+    // High-quality slice k, written.
+    pub fn code_hq_slice(
+        self,
+        out: &mut [u8],
+        work: &[i64],
+        p: Picture,
+        t: Terms,
+        k: u32,
+    ) -> SliceCoder
+        requires { ⌜ PlanIn p t (now work) × ((k < slicesIn p) × (Needs (255 * t .scaler) (planIn (now work) p t k .numbers)
+            × (self .at + length (toBytes (planIn (now work) p t k .bits)) ≤ length (now out)))) ⌝ }
+        ensures { λ r. ⌜ Lays (now (out .entry)) (self .at) (toBytes (planIn (now (work .entry)) p t k .bits)) (now (out .exit)) (r .at)
+            × ((r .«cut_slices» ≡ self .«cut_slices») × (r .largest ≡ self .largest)) ⌝ }
+    {
+        let q = crate::high_index::index_of(work, p, t, k);
+        SliceCoder {
+            at: crate::high_slice::put_hq_slice(out, self.at, work, p, t, k, q),
+            cut_slices: self.cut_slices,
+            largest: self.largest,
+        }
+    }
+
+    // Low-delay slice k, written; n is the numerator.
+    pub fn code_ld_slice(
+        self,
+        out: &mut [u8],
+        work: &mut [i64],
+        p: Picture,
+        n: u32,
+        k: u32,
+    ) -> SliceCoder
+        requires { ⌜ LowIn p n (now work) × ((k < slicesIn p) × ((self .«cut_slices» ≤ k)
+            × (self .at + length (toBytes (lowBitsIn p n (now work) k)) ≤ length (now out)))) ⌝ }
+        ensures { λ r. ⌜ Lays (now (out .entry)) (self .at) (toBytes (lowBitsIn p n (now (work .entry)) k)) (now (out .exit)) (r .at)
+            × ((now (work .exit) ≡ lowWorkIn p n (now (work .entry)) k) × (Small (p .front) (p .end) (now (work .exit))
+            × ((r .«cut_slices» ≡ self .«cut_slices» + isLast (lowIndexIn p n (now (work .entry)) k)) × (r .largest ≡ self .largest)))) ⌝ }
+    {
+        let bytes = crate::low_index::slice_bytes(n, crate::low_index::slice_count(p), k);
+        let q = crate::low_index::elect_qindex(work, p, crate::low_index::room_of(bytes), k);
+        crate::low_index::rebuild_planes(work, p, k, q);
+        SliceCoder {
+            at: crate::low_slice::put_ld_slice(out, self.at, work, p, bytes, k, q),
+            cut_slices: self.cut_slices + crate::low_index::is_last(q),
+            largest: self.largest,
+        }
+    }
+}
