@@ -31,7 +31,7 @@ use Rattle.picture.specs.Low.{strip0, rebuiltIn, lowFitsIn, Tried}
 abbrev Outside : Strip → ℕ → Type 0
 Outside s i = (y x : ℕ) → Inside s y x → i ≡ s .rebuilt + (y * s .width + x) → ⊥
 
-length-strip : (l : List ℤ) (s : Strip) → length (rebuiltStrip l s) ≡ length l
+pub length-strip : (l : List ℤ) (s : Strip) → length (rebuiltStrip l s) ≡ length l
 length-strip l s = rebuilt-rows-length l s (s .top) (s .bottom - s .top)
 
 apart-same : (l m : List ℤ) (s : Strip) → length m ≡ length l → Apart l s → Apart m s

@@ -293,6 +293,10 @@ joined-span f (suc n) =
     ∙ ap₂ _++_ (joined-span f n) (ap (λ (k : ℕ). toBytes (f k .bits)) e)
 
 -- ---- a unit in the output
+-- the unit fits
+pub not-long : (len n : ℕ) → tooLong len n ≡ false → (n ≤ len) × (n ≤ 4294967295)
+not-long len n e = let o = or-none (ltb len n) (ltb 4294967295 n) .0 e in (at-most len n .0 (o .0), at-most 4294967295 n .0 (o .1))
+
 module _ (s : Settings) (a : Plan) where
   abbrev runs : List ℕ
   runs = joined (sliceRuns (a .slices))
@@ -310,12 +314,6 @@ module _ (s : Settings) (a : Plan) where
 
   head-long : length head ≡ 17 + parameterBytes (majorVersion s) (a .parameters)
   head-long = omega (arith, ap length unit-parts, length-unit s a, length-append head runs, length-parts)
-
-  -- the unit fits
-  pub fits-out : (n : ℕ) → tooLong n (lengthOf s a) ≡ false → (lengthOf s a ≤ n) × (lengthOf s a ≤ 4294967295)
-  fits-out n e =
-      let o = or-none (ltb n (lengthOf s a)) (ltb 4294967295 (lengthOf s a)) .0 e in
-      (at-most n (lengthOf s a) .0 (o .0), at-most 4294967295 (lengthOf s a) .0 (o .1))
 
   module _ (out : List ℕ) where
     -- the head at the output's start
@@ -359,5 +357,5 @@ module _ (s : Settings) (a : Plan) where
         → Lays o at (joined (sliceRuns (a .slices))) o′ r → c ≡ codedOf s a → Codes s a out o′ (Accepted c)
     codes-written n at r o o′ c e en ea eo l ec = record {
       answer = ap Accepted ec ∙ ap (answerBy s a) (sym e);
-      output = unit-laid n at o (fits-out (length out) e .0) en ea eo r o′ l ∙ ap (outputBy s a out) (sym e);
+      output = unit-laid n at o (not-long (length out) (lengthOf s a) e .0) en ea eo r o′ l ∙ ap (outputBy s a out) (sym e);
     }

@@ -42,7 +42,7 @@ use Rattle.picture.specs.Picture.{slicesIn, runOf, numbersIn}
 use Rattle.picture.specs.High.{indexBy, planBy, indexIn, planIn, plansIn, highRuns, termsOf, slicesBy, PlanIn, HighIn, Settles}
 use Rattle.picture.specs.Analysed.{isLow, layoutOf, pictureOf, Called, Analysed}
 use Rattle.picture.specs.Encoded.{tooLong, Codes, Coding, CodesAny}
-use Rattle.picture.specs.AnalysedLaws.{called-arranged, grid-is, slices-are, values-in, bands-y, bands-c1, bands-c2, small-by, holds-y, holds-c1, holds-c2, joined-span, length-parts, fits-out, slices-room, codes-refused, codes-written}
+use Rattle.picture.specs.AnalysedLaws.{called-arranged, grid-is, slices-are, values-in, bands-y, bands-c1, bands-c2, small-by, holds-y, holds-c1, holds-c2, joined-span, length-parts, not-long, slices-room, codes-refused, codes-written}
 
 -- ---- a slice's index and plan
 three : {A : Type 0} {t u : Three A} → t .y ≡ u .y → t .c1 ≡ u .c1 → t .c2 ≡ u .c2 → t ≡ u
@@ -212,7 +212,7 @@ module _ {w : List ℤ} {p : Picture} {s : Settings} {m : List ℕ} (k : Coding 
     -- where the unit is not too long
     module _ (out : List ℕ) (e : tooLong (length out) (r .end) ≡ false) where
       pub end-fits : (r .end ≤ length out) × (r .end ≤ 4294967295)
-      end-fits = rw (length-is w p s m r z) (fits-out s (codePlan w p s m (r .scaler)) (length out) (test-is k z out false e))
+      end-fits = rw (length-is w p s m r z) (not-long (length out) (lengthOf s (codePlan w p s m (r .scaler))) (test-is k z out false e))
 
       pub head-room : 17 + parameterBytes (majorVersion s) (highParameters s m (r .scaler)) ≤ length out
       head-room = omega (arith, end-fits .0, z .end)

@@ -26,7 +26,7 @@ use Rattle.picture.specs.CostLaws.{cost-of}
 use Rattle.picture.specs.Layout.{bandCount, startOf, runNumbers, RunIn}
 use Rattle.picture.specs.LayoutLaws.{band-fits, start-next, run-small, run-length}
 use Rattle.picture.specs.Picture.{SliceIn}
-use Rattle.picture.specs.PictureLaws.{run-y}
+use Rattle.picture.specs.PictureLaws.{run-y, run-pair}
 use Rattle.picture.specs.Low.{strip0, rebuiltIn, lumaIn, colourIn, lowFitsIn, isLast}
 
 -- ---- bytes
@@ -76,24 +76,6 @@ planes-rebuilt w a b r p k q e f g =
     g ∙ ap (λ (b : List ℤ). rebuiltStrip b (strip0 p (p .c2) k q)) (f ∙ ap (λ (a : List ℤ). rebuiltStrip a (strip0 p (p .c1) k q)) e)
 
 -- ---- costs
--- the two colours together
-pub run-pair : {p : Picture} {w : List ℤ} {k q : ℕ} → SliceIn p w k q → RunIn (p .layout) (p .c1) (p .c2) (p .front) (p .end) k q w
-run-pair {p = p} s =
-    let a = s .arranged in
-    let e : p .c2 .width * p .c2 .height ≡ p .c1 .width * p .c1 .height = ap₂ _*_ (a .wide) (a .high) in
-    record {
-      layout = a .layout;
-      first = a .c1 .fits;
-      other = a .c2 .fits;
-      slice = s .slice;
-      index = s .index;
-      small = s .small;
-      coefs = a .c1 .coefs;
-      coefs2 = (a .c2 .coefs .0, omega (arith, a .c2 .coefs .1));
-      rebuilt = a .c1 .rebuilt;
-      rebuilt2 = omega (arith, a .c2 .rebuilt);
-    }
-
 none-countable : (room n : ℕ) → n ≤ 67108864 → Countable (noCost room) (2 * n)
 none-countable room n h = record { bits = omega arith; count = omega arith }
 

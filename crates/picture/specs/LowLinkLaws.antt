@@ -57,6 +57,7 @@ use Rattle.picture.specs.Low.{strip0, rebuiltIn, lumaIn, colourIn, lowFi
 use Rattle.picture.specs.Analysed.{isLow, frontOf, layoutOf, pictureOf, Called, Analysed}
 use Rattle.picture.specs.Encoded.{tooLong, Coding, CodesAny}
 use Rattle.picture.specs.AnalysedLaws.{called-arranged, count-few, grid-is, slices-are, values-in, bands-y, bands-c1, bands-c2, small-by, holds-y, holds-c1, holds-c2, joined-span, codes-refused, codes-written}
+use Rattle.picture.specs.AgainLaws.{length-strip}
 
 -- one slice more
 last-more : (ps : List SlicePlan) (s : SlicePlan) → lastIndices (ps ++ (s ∷ [])) ≡ lastIndices ps + isLast (s .index)
@@ -102,10 +103,6 @@ level-fits : (p : Picture) (c : Component) → let z = bandSize (p .layout) c 0 
 level-fits p c =
     let z = bandSize (p .layout) c 0 in
     omega (arith, band-fits (p .layout) c 0 (omega arith), mul-comm (z .width) (z .height))
-
--- ---- one strip
-length-strip : (w : List ℤ) (s : Strip) → length (rebuiltStrip w s) ≡ length w
-length-strip w s = rebuilt-rows-length w s (s .top) (s .bottom - s .top)
 
 module _ (p : Picture) (k q : ℕ) (slice : k < slicesIn p) where
   abbrev grid : Grid
@@ -313,10 +310,6 @@ numerator-most version target slices t n a b = omega arith
 
 abbrev codedBy : ℕ → ℕ → ℕ → Coded
 codedBy l c z = record { length = l; «cut_slices» = c; «slice_size_scaler» = z }
-
--- the unit fits
-pub not-long : (len n : ℕ) → tooLong len n ≡ false → (n ≤ len) × (n ≤ 4294967295)
-not-long len n e = let o = or-none (ltb len n) (ltb 4294967295 n) .0 e in (at-most len n .0 (o .0), at-most 4294967295 n .0 (o .1))
 
 module _ {s : Settings} {m : List ℕ} (called : Called s m) (low : s .kind ≡ LowDelay) where
   predicted-in : pictureOf s m .layout .predicted ≡ true

@@ -41,6 +41,7 @@ use Rattle.picture.specs.HeadLaws.{room-first, room-rest}
 use Rattle.picture.specs.Layout.{RunIn}
 use Rattle.picture.specs.Picture.{slicesIn, SliceIn}
 use Rattle.picture.specs.Low.{strip0, rebuiltIn, lumaIn, colourIn, lowFitsIn, lowBitsBy, isLast, bytesAt, lowIndexIn, lowWorkIn, lowBitsIn, workAt, lowRuns, cutsIn, Tried, Shorter, CutIn, runBits, KeptOf, LowIn}
+use Rattle.picture.specs.AgainLaws.{length-rebuilt}
 
 -- ---- the runs that are kept
 module _ (room : ℕ) (xs : List ℤ) (c : Cost) (e : c ≡ addAll (noCost room) xs) where
@@ -118,24 +119,6 @@ not-whole w p room k q y c e d h = record {
   luma = e;
   over = omega (arith, cost room (lumaIn w p k q) y e .kept-bits, cost room (colourIn w p k q) c d .kept-bits);
 }
-
--- ---- the two colours of a slice can be read together
-pub run-pair : {p : Picture} {w : List ℤ} {k q : ℕ} → SliceIn p w k q → RunIn (p .layout) (p .c1) (p .c2) (p .front) (p .end) k q w
-run-pair {p} h =
-    let a = h .arranged in
-    let e : p .c1 .width * p .c1 .height ≡ p .c2 .width * p .c2 .height = ap₂ _*_ (sym (a .wide)) (sym (a .high)) in
-    record {
-      layout = a .layout;
-      first = a .c1 .fits;
-      other = a .c2 .fits;
-      slice = h .slice;
-      index = h .index;
-      small = h .small;
-      coefs = a .c1 .coefs;
-      coefs2 = (a .c2 .coefs .0, omega (arith, a .c2 .coefs .1));
-      rebuilt = a .c1 .rebuilt;
-      rebuilt2 = omega (arith, a .c2 .rebuilt);
-    }
 
 -- ---- the parts of a slice
 -- a writer at the start of a byte
@@ -279,22 +262,10 @@ module _ (p : Picture) (n : ℕ) (w : List ℤ) (k d bytes : ℕ) (ed : d ≡ sl
         bits = ap (λ (x : List ℤ). lowBitsBy x p bytes k q) f ∙ ap₂ (λ (b j : ℕ). lowBitsBy (lowWorkIn p n w k) p b k j) bytes-is i;
       }
 
--- ---- slice after slice
-strip-size : (l : List ℤ) (s : Strip) → length (rebuiltStrip l s) ≡ length l
-strip-size l s = rebuilt-rows-length l s (s .top) (s .bottom - s .top)
-
-rebuilt-size : (w : List ℤ) (p : Picture) (k q : ℕ) → length (rebuiltIn w p k q) ≡ length w
-unfolding rebuiltIn
-rebuilt-size w p k q =
-    let a = strip0 p (p .y) k q in
-    let b = strip0 p (p .c1) k q in
-    let c = strip0 p (p .c2) k q in
-    strip-size (rebuiltStrip (rebuiltStrip w a) b) c ∙ strip-size (rebuiltStrip w a) b ∙ strip-size w a
-
 pub work-size : (p : Picture) (n : ℕ) (w : List ℤ) (k : ℕ) → length (workAt p n w k) ≡ length w
 unfolding workAt
 work-size p n w zero = refl
-work-size p n w (suc k) = rebuilt-size (workAt p n w k) p k (lowIndexIn p n (workAt p n w k) k) ∙ work-size p n w k
+work-size p n w (suc k) = length-rebuilt (workAt p n w k) p k (lowIndexIn p n (workAt p n w k) k) ∙ work-size p n w k
 
 -- the bytes of the slices before the next one
 bytes-next : (n d j : ℕ) → j * n / d + sliceBytes n d j ≡ suc j * n / d

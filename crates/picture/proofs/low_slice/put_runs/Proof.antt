@@ -5,8 +5,7 @@ use Rattle.codewords.specs.Code.{codes}
 use Rattle.codewords.specs.WriterLaws.{wrote-then}
 use Rattle.picture.specs.HeadLaws.{room-first, room-rest}
 use Rattle.picture.specs.Low.{lumaIn, colourIn}
-use Rattle.picture.specs.PictureLaws.{run-y}
-use Rattle.picture.specs.LowSliceLaws.{run-pair}
+use Rattle.picture.specs.PictureLaws.{run-y, run-pair}
 use borrow.Author.Needs.{needs}
 use Rattle.picture.proofs.low_slice.put_runs.Statement.{statement}
 use Rattle.picture.proofs.low_slice.put_runs.Tie as tie
