@@ -1,0 +1,78 @@
+-- `parse::load_matrix` meets its contract. The invariant: the first i contents are laid. Assumes nothing.
+use mathlib.Core.Path.{_≡_, _∙_}
+use mathlib.Core.List.{map}
+use Prim.Native.Nat.{_-_, _≤_}
+use lib.ListN.{length, take}
+use Rattle.laws.specs.Laid.{Lays, lays-start}
+use Rattle.jobs.specs.Job.{contentOf}
+use Rattle.jobs.specs.ParseLaws.{fill-next, fill-all, contents-count, content-at}
+use native.Mathlib.Omega.{arith}
+use Rattle.jobs.proofs.parse.load_matrix.Statement.{statement}
+use Rattle.jobs.proofs.parse.load_matrix.Tie as tie
+use Rattle.jobs.proofs.parse.load_matrix.Reads as reads
+use Rattle.jobs.proofs.parse.load_matrix.Lts as lts
+use Rattle.jobs.proofs.parse.content_of.Reads as content-of-reads
+
+abbrev Inv-loop : tie.InvT-loop
+Inv-loop words matrix₀ n i₀ matrix i = (i ≤ length words) × Lays matrix₀ 0 (take i (map contentOf words)) matrix i
+
+abbrev μ-loop : tie.MeasureT-loop
+μ-loop words matrix₀ n i₀ matrix i = length words - i
+
+loop-holds : tie.Need-loop-holds Inv-loop μ-loop
+loop-holds c = (omega arith, lays-start (c .before .before .args .matrix .now) 0)
+
+mul-content-of : tie.Need-mul-content-of Inv-loop μ-loop
+mul-content-of c = omega arith
+
+shared-slice-read-content-of : tie.Need-shared-slice-read-content-of Inv-loop μ-loop
+shared-slice-read-content-of c = omega arith
+
+content-of-requires : tie.Need-content-of-requires Inv-loop μ-loop
+content-of-requires c κs = tt
+
+mul-matrix : tie.Need-mul-matrix Inv-loop μ-loop
+mul-matrix c = omega arith
+
+slice-write-matrix : tie.Need-slice-write-matrix Inv-loop μ-loop
+slice-write-matrix c = omega (arith, c .before .before .before .loop .inv .1 .size, c .before .before .before .before .before .before .pre)
+
+add-i : tie.Need-add-i Inv-loop μ-loop
+add-i c = omega arith
+
+loop-less : tie.Need-loop-less Inv-loop μ-loop
+loop-less c = omega arith
+
+loop-again : tie.Need-loop-again Inv-loop μ-loop
+loop-again c =
+    let ws = c .before .before .before .before .before .before .args .words .now in
+    let l = c .before .before .before .loop in
+    let t = c .before .before .loop-test .taken in
+    (omega arith, fill-next (map contentOf ws) (l .i) (c .content-of .result) (rw (contents-count ws) t) (c .content-of .ensures ∙ content-at ws (l .i)) (l .inv .1))
+
+same-length : tie.Need-same-length Inv-loop μ-loop
+same-length c = c .before .loop .inv .1 .size
+
+returns : tie.Need-returns Inv-loop μ-loop
+returns c =
+    let ws = c .before .before .before .before .args .words .now in
+    let l = c .before .loop in
+    fill-all (map contentOf ws) (l .i) (length ws) (contents-count ws) (omega (arith, l .inv .0, c .loop-test .left)) (l .inv .1)
+
+pub load-matrix-spec : {M : Type 1} → statement M
+load-matrix-spec =
+    tie.close
+    (tie.spec
+    Inv-loop
+    μ-loop
+    loop-holds
+    mul-content-of
+    shared-slice-read-content-of
+    content-of-requires
+    mul-matrix
+    slice-write-matrix
+    add-i
+    loop-less
+    loop-again
+    same-length
+    returns)

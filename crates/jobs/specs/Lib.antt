@@ -1,0 +1,4 @@
+pub mod Job
+pub mod PrintLaws
+pub mod ParseLaws
+pub mod JobLaws
