@@ -2,7 +2,7 @@
 use mathlib.Core.Path.{_≡_, refl, sym, ap, ap₂, _∙_}
 use mathlib.Core.Bool.{Bool, true, false, _&&_, _||_}
 use mathlib.Core.List.{List, [], _∷_, _++_, map, map-append, append-assoc}
-use Prim.Native.Nat.{ℕ, zero, suc, _+_, _*_, _-_, _%_, _≤_, _<_}
+use Prim.Native.Nat.{ℕ, _+_, _*_, _-_, _%_, _≤_}
 use native.Mathlib.Omega.{arith}
 use lib.Dec.{eqb, ltb}
 use lib.IntN.{ℤ, pos}
@@ -23,25 +23,10 @@ use Rattle.unit.specs.Outcome.{tells, codedOf, zeroed, coded, Outcome, outcomeO
 use Rattle.picture.specs.Sides.{planes}
 use Rattle.picture.specs.Encoded.{Encodes}
 use Rattle.jobs.specs.declared.parse.Ends.{Ends}
-use Rattle.jobs.specs.Job.{wordsOf, contentOf, partsOf, inOrder, wellFormed, lineOf, bytesFrom, unitIn, textOf, printed}
-use Rattle.jobs.specs.PrintLaws.{lays-same, lays-read, lengthIn}
-use Rattle.jobs.specs.ParseLaws.{endsOf, part, part-join, length-part, contents-count, Parted, parted, Ready, ready}
-
--- the outcome of the call of a job's words
-abbrev pub outcomeIn : List ℕ → List ℕ → List ℤ → Outcome
-outcomeIn ws out work =
-    let p = partsOf ws in
-    outcomeOf (settingsOf (p .settings)) (p .matrix) (record { y = p .y; c1 = p .c1; c2 = p .c2 }) out work
-
--- what the call of a job leaves
-pub record Called (ws out : List ℕ) (work : List ℤ) (out′ : List ℕ) (work′ : List ℤ) (r : Answer) : Type 0 where
-  pub answer : r ≡ outcomeIn ws out work .answer
-  pub output : out′ ≡ outcomeIn ws out work .output
-  pub work-left : work′ ≡ outcomeIn ws out work .work
-
--- what is printed of whole words
-unfoldable pub printedBy : List ℕ → List ℕ → List ℤ → List ℕ
-printedBy ws out work = elim (inOrder ws) [ true ↦ textOf (outcomeIn ws out work) | false ↦ 106 ∷ 111 ∷ 98 ∷ 10 ∷ [] ]
+use Rattle.jobs.specs.Job.{wordsOf, contentOf, partsOf, inOrder, lineOf, bytesFrom, unitIn, textOf, printed}
+use Rattle.jobs.specs.Steps.{lengthIn, endsOf, outcomeIn, Called, jobText, printedBy}
+use Rattle.jobs.specs.PrintLaws.{lays-same, lays-read}
+use Rattle.jobs.specs.ParseLaws.{part, part-long, part-join, length-part, contents-count, parted, ready}
 
 -- ---- the call
 -- what a well-formed job allows, where matrix and samples have m and k places
@@ -100,16 +85,6 @@ module _ (ws : List ℕ) (e : Ends) (ends : e ≡ endsOf ws) where
       ∙ map-append contentOf (part m y ws) (part y c2 ws)
       ∙ ap₂ _++_ (sym (q .y-is)) (ap (map contentOf) (part-join y c1 c2 ws (q .to-c1) (q .to-c2)) ∙ map-append contentOf (part y c1 ws) (part c1 c2 ws) ∙ ap₂ _++_ (sym (q .c1-is)) (sym (q .c2-is)))
 
-  y-long : length (partsOf ws .y) ≡ e .y - e .matrix
-  y-long =
-      let q = parted ws e ends in
-      ap length (q .y-is) ∙ contents-count (part (e .matrix) (e .y) ws) ∙ length-part (e .matrix) (e .y) ws (q .to-y) (omega (arith, q .to-c1, q .to-c2, q .within))
-
-  c1-long : length (partsOf ws .c1) ≡ e .c1 - e .y
-  c1-long =
-      let q = parted ws e ends in
-      ap length (q .c1-is) ∙ contents-count (part (e .y) (e .c1) ws) ∙ length-part (e .y) (e .c1) ws (q .to-c1) (omega (arith, q .to-c2, q .within))
-
   -- the planes that are lent from the samples
   planes-are : let p = partsOf ws in
       let y = e .y - e .matrix in
@@ -120,6 +95,8 @@ module _ (ws : List ℕ) (e : Ends) (ends : e ≡ endsOf ws) where
       let p = partsOf ws in
       let y = e .y - e .matrix in
       let c1 = e .c1 - e .matrix in
+      let y-long = part-long (p .y) ws (e .matrix) (e .y) (q .y-is) (q .to-y) (omega (arith, q .to-c1, q .to-c2, q .within)) in
+      let c1-long = part-long (p .c1) ws (e .y) (e .c1) (q .c1-is) (q .to-c1) (omega (arith, q .to-c2, q .within)) in
       let n : c1 - y ≡ e .c1 - e .y = omega (arith, q .to-y, q .to-c1) in
       let t = drop-at (p .y) (p .c1 ++ p .c2) y y-long in
       let a : take y samplesIn ≡ p .y = ap (take y) samples-are ∙ take-at (p .y) (p .c1 ++ p .c2) y y-long in
@@ -187,30 +164,31 @@ answer-room ws out work out′ work′ r n c k h l =
     (omega arith, omega arith)
 
 -- ---- the text
+-- of a job in order, and of another
 pub answer-laid : {t t′ : List ℕ} {e : ℕ} (ws out : List ℕ) (work : List ℤ) (out′ : List ℕ) (work′ : List ℤ) (r : Answer) → inOrder ws ≡ true → Called ws out work out′ work′ r
     → Lays t 0 (lineOf (tells r) ++ bytesFrom 0 (unitIn r out′)) t′ e → Lays t 0 (printedBy ws out work) t′ e
 unfolding printedBy textOf
 answer-laid ws out work out′ work′ r h c l =
     let o = outcomeIn ws out work in
     let same : lineOf (tells r) ++ bytesFrom 0 (unitIn r out′) ≡ textOf o = rw (c .answer, c .output) in
-    let as-true : textOf o ≡ printedBy ws out work = ap (λ (b : Bool). elim b [ true ↦ textOf o | false ↦ 106 ∷ 111 ∷ 98 ∷ 10 ∷ [] ]) (sym h) in
+    let as-true : textOf o ≡ printedBy ws out work = ap (λ (b : Bool). elim b [ true ↦ textOf o | false ↦ jobText ]) (sym h) in
     lays-same (same ∙ as-true) l
 
-pub job-laid : {t t′ : List ℕ} {e : ℕ} (ws out : List ℕ) (work : List ℤ) → inOrder ws ≡ false → Lays t 0 (106 ∷ 111 ∷ 98 ∷ 10 ∷ []) t′ e → Lays t 0 (printedBy ws out work) t′ e
+pub job-laid : {t t′ : List ℕ} {e : ℕ} (ws out : List ℕ) (work : List ℤ) → inOrder ws ≡ false → Lays t 0 jobText t′ e → Lays t 0 (printedBy ws out work) t′ e
 unfolding printedBy
-job-laid ws out work h l = lays-same (ap (λ (b : Bool). elim b [ true ↦ textOf (outcomeIn ws out work) | false ↦ 106 ∷ 111 ∷ 98 ∷ 10 ∷ [] ]) (sym h)) l
+job-laid ws out work h l = lays-same (ap (λ (b : Bool). elim b [ true ↦ textOf (outcomeIn ws out work) | false ↦ jobText ]) (sym h)) l
 
 -- whole words, and bytes that are none
 printed-whole : (bytes out : List ℕ) (work : List ℤ) → length bytes % 4 ≡ 0 → printedBy (wordsOf bytes) out work ≡ printed bytes out work
 unfolding printedBy printed
 printed-whole bytes out work h =
-    ap (λ (b : Bool). elim (b && inOrder (wordsOf bytes)) [ true ↦ textOf (outcomeIn (wordsOf bytes) out work) | false ↦ 106 ∷ 111 ∷ 98 ∷ 10 ∷ [] ])
+    ap (λ (b : Bool). elim (b && inOrder (wordsOf bytes)) [ true ↦ textOf (outcomeIn (wordsOf bytes) out work) | false ↦ jobText ])
     (sym (eq-eqb (length bytes % 4) 0 h))
 
-printed-odd : (bytes out : List ℕ) (work : List ℤ) → (length bytes % 4 ≡ 0 → ⊥) → 106 ∷ 111 ∷ 98 ∷ 10 ∷ [] ≡ printed bytes out work
+printed-odd : (bytes out : List ℕ) (work : List ℤ) → (length bytes % 4 ≡ 0 → ⊥) → jobText ≡ printed bytes out work
 unfolding printed
 printed-odd bytes out work h =
-    ap (λ (b : Bool). elim (b && inOrder (wordsOf bytes)) [ true ↦ textOf (outcomeIn (wordsOf bytes) out work) | false ↦ 106 ∷ 111 ∷ 98 ∷ 10 ∷ [] ])
+    ap (λ (b : Bool). elim (b && inOrder (wordsOf bytes)) [ true ↦ textOf (outcomeIn (wordsOf bytes) out work) | false ↦ jobText ])
     (sym (ne-eqb (length bytes % 4) 0 h))
 
 -- what stands at the text's start
@@ -219,6 +197,6 @@ pub whole-read : (bytes out : List ℕ) (work : List ℤ) (ws t t′ : List ℕ)
 whole-read bytes out work ws t t′ r h e l n =
     lays-read t (printedBy ws out work) t′ r l (omega (arith, l .next, l .size)) ∙ ap (λ (x : List ℕ). printedBy x out work) e ∙ printed-whole bytes out work h
 
-pub odd-read : (bytes out : List ℕ) (work : List ℤ) (t t′ : List ℕ) (r : ℕ) → (length bytes % 4 ≡ 0 → ⊥) → Lays t 0 (106 ∷ 111 ∷ 98 ∷ 10 ∷ []) t′ r → 4 ≤ length t
+pub odd-read : (bytes out : List ℕ) (work : List ℤ) (t t′ : List ℕ) (r : ℕ) → (length bytes % 4 ≡ 0 → ⊥) → Lays t 0 jobText t′ r → 4 ≤ length t
     → take r t′ ≡ printed bytes out work
-odd-read bytes out work t t′ r h l n = lays-read t (106 ∷ 111 ∷ 98 ∷ 10 ∷ []) t′ r l n ∙ printed-odd bytes out work h
+odd-read bytes out work t t′ r h l n = lays-read t jobText t′ r l n ∙ printed-odd bytes out work h

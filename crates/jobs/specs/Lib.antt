@@ -1,4 +1,5 @@
 pub mod Job
+pub mod Steps
 pub mod PrintLaws
 pub mod ParseLaws
 pub mod JobLaws

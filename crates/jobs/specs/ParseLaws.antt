@@ -2,21 +2,22 @@
 use mathlib.Core.Path.{_≡_, refl, sym, ap, ap₂, _∙_}
 use mathlib.Core.Bool.{Bool, true, false, not, _&&_, _||_, or-assoc}
 use mathlib.Core.List.{List, [], _∷_, _++_, map, map-append}
-use Prim.Native.Nat.{ℕ, zero, suc, _+_, _*_, _-_, _/_, _%_, _^_, _≤_, _<_}
+use Prim.Native.Nat.{ℕ, zero, suc, _+_, _*_, _-_, _/_, _^_, _≤_, _<_}
 use native.Mathlib.Nat.{add-sub-cancel-left, zero-add}
 use native.Mathlib.Numerals.{add-one}
 use native.Mathlib.Omega.{arith}
 use lib.Dec.{eqb, leb, ltb}
-use lib.ListN.{length, take, drop, getD, set, length-append, length-drop, length-map, drop-of-length-le, List·getD-map}
+use lib.ListN.{length, take, drop, getD, set, length-drop, length-map, drop-of-length-le, List·getD-map}
 use lib.Seq.{take-suc, take-all, take-add, drop-cons, drop-drop, getD-take, length-take-le}
-use borrow.Author.Tests.{eqb-true, eqb-false, eq-eqb, ne-eqb, lt-ltb, le-ltb, leb-true, not-true}
-use Rattle.laws.specs.Laid.{Lays, lays-start, lays-on}
+use borrow.Author.Tests.{eqb-true, eq-eqb, ne-eqb, leb-true, not-true}
+use Rattle.laws.specs.Laid.{Lays, lays-on}
 use Rattle.unit.specs.Refusal.{anyAbove}
 use Rattle.unit.specs.TestLaws.{or-none, all-most, most-at}
 use Rattle.unit.specs.Words.{wordAt, known}
 use Rattle.picture.specs.WordsLaws.{both-true, known-long}
 use Rattle.jobs.specs.declared.parse.Ends.{Ends}
 use Rattle.jobs.specs.Job.{wordsOf, kindOf, contentOf, ofKind, behind, partsOf, isEnd, inOrder}
+use Rattle.jobs.specs.Steps.{wordFrom, runEnd, endsOf, counted}
 use Rattle.jobs.specs.PrintLaws.{lays-same, lays-one}
 
 -- ---- a slice filled from its front: the first i of vs are laid
@@ -30,10 +31,7 @@ pub fill-all : {b b′ : List ℕ} (vs : List ℕ) (i n : ℕ) → length vs ≡
 fill-all vs i n h e p = rw e at (lays-same (take-all i vs (omega arith)) p)
 
 -- ---- words of bytes
--- the word whose bytes stand from i on
-abbrev pub wordFrom : List ℕ → ℕ → ℕ
-wordFrom bytes i = getD bytes i 0 * 2 ^ 24 + getD bytes (i + 1) 0 * 2 ^ 16 + getD bytes (i + 2) 0 * 2 ^ 8 + getD bytes (i + 3) 0
-
+-- how many there are
 pub words-count : (bytes : List ℕ) → length (wordsOf bytes) ≡ length bytes / 4
 unfolding wordsOf
 words-count [] = refl
@@ -42,6 +40,7 @@ words-count (a ∷ b ∷ []) = refl
 words-count (a ∷ b ∷ c ∷ []) = refl
 words-count (a ∷ b ∷ c ∷ d ∷ bytes) = let e = words-count bytes in omega arith
 
+-- the word at place i
 pub words-at : (bytes : List ℕ) (i : ℕ) → i < length bytes / 4 → wordFrom bytes (4 * i) ≡ getD (wordsOf bytes) i 0
 unfolding wordsOf
 words-at [] i h = absurd (omega arith)
@@ -61,6 +60,7 @@ words-at (a ∷ b ∷ c ∷ d ∷ bytes) (suc i) h =
         rw (e1, e2, e3)
 
 -- ---- contents
+-- how many there are, and the one at place i
 pub contents-count : (ws : List ℕ) → length (map contentOf ws) ≡ length ws
 contents-count ws = length-map ws contentOf
 
@@ -76,6 +76,7 @@ content-small ws i h = rw (content-at ws i) (most-at 65535 (map contentOf ws) (a
 abbrev front : ℕ → ℕ → List ℕ → Bool → List ℕ
 front k w ws b = elim b [ true ↦ w ∷ ofKind k ws | false ↦ [] ]
 
+-- one more, and none
 kind-more : (k w : ℕ) (ws : List ℕ) → kindOf w ≡ k → ofKind k (w ∷ ws) ≡ w ∷ ofKind k ws
 unfolding ofKind
 kind-more k w ws e = ap (front k w ws) (eq-eqb (kindOf w) k e)
@@ -98,6 +99,7 @@ kind-front k (w ∷ ws) = by (eqb (kindOf w) k) (kind-front k ws)
     by true e = ap (λ (l : List ℕ). w ∷ l) e
     by false e = refl
 
+-- they are no more than all
 kind-few : (k : ℕ) (ws : List ℕ) → length (ofKind k ws) ≤ length ws
 unfolding ofKind
 kind-few k [] = omega arith
@@ -121,9 +123,7 @@ content-same (w ∷ ws) = by (eqb (kindOf w) 0) refl (content-same ws)
     by false e same = refl
 
 -- ---- where they end
-abbrev pub runEnd : ℕ → List ℕ → ℕ → ℕ
-runEnd k ws from = from + length (ofKind k (drop from ws))
-
+-- from place i on: the run is over, goes on, or the words are over; it ends within the words
 module _ (k : ℕ) (ws : List ℕ) (i : ℕ) where
   pub run-stop : i < length ws → (kindOf (getD ws i 0) ≡ k → ⊥) → i ≡ runEnd k ws i
   run-stop h o = let e = ap length (ap (ofKind k) (drop-cons ws i 0 h) ∙ kind-over k (getD ws i 0) (drop (suc i) ws) o) in omega arith
@@ -140,14 +140,7 @@ module _ (k : ℕ) (ws : List ℕ) (i : ℕ) where
   pub run-within : i ≤ length ws → runEnd k ws i ≤ length ws
   run-within h = omega (arith, kind-few k (drop i ws), length-drop i ws)
 
-unfoldable pub endsOf : List ℕ → Ends
-endsOf ws =
-    let s = runEnd 0 ws 0 in
-    let m = runEnd 1 ws s in
-    let y = runEnd 2 ws m in
-    let c1 = runEnd 3 ws y in
-    record { settings = s; matrix = m; y = y; c1 = c1; c2 = runEnd 4 ws c1 }
-
+-- run after run
 pub ends-are : (ws : List ℕ) (s m y c1 c2 : ℕ) → s ≡ runEnd 0 ws 0 → m ≡ runEnd 1 ws s → y ≡ runEnd 2 ws m → c1 ≡ runEnd 3 ws y → c2 ≡ runEnd 4 ws c1
     → _≡_ {A = Ends} (record { settings = s; matrix = m; y = y; c1 = c1; c2 = c2 }) (endsOf ws)
 unfolding endsOf
@@ -161,6 +154,11 @@ part a e ws = take (e - a) (drop a ws)
 pub length-part : (a e : ℕ) (ws : List ℕ) → a ≤ e → e ≤ length ws → length (part a e ws) ≡ e - a
 length-part a e ws h l = length-take-le (e - a) (drop a ws) (rw (length-drop a ws) (omega arith))
 
+-- the contents of a part
+pub part-long : (vs ws : List ℕ) (a e : ℕ) → vs ≡ map contentOf (part a e ws) → a ≤ e → e ≤ length ws → length vs ≡ e - a
+part-long vs ws a e h l w = ap length h ∙ contents-count (part a e ws) ∙ length-part a e ws l w
+
+-- a part and the one behind it
 pub part-join : (a b e : ℕ) (ws : List ℕ) → a ≤ b → b ≤ e → part a e ws ≡ part a b ws ++ part b e ws
 part-join a b e ws h l =
     let s : e - a ≡ (b - a) + (e - b) = omega arith in
@@ -168,6 +166,7 @@ part-join a b e ws h l =
     ap (λ (n : ℕ). take n (drop a ws)) s ∙ take-add (b - a) (e - b) (drop a ws)
     ∙ ap (λ (l : List ℕ). part a b ws ++ take (e - b) l) (drop-drop (b - a) a ws ∙ ap (λ (n : ℕ). drop n ws) t)
 
+-- the words of a kind that stand from a place on, and those behind them
 kind-part : (k : ℕ) (ws : List ℕ) (from : ℕ) → ofKind k (drop from ws) ≡ part from (runEnd k ws from) ws
 kind-part k ws from =
     kind-front k (drop from ws) ∙ ap (λ (n : ℕ). take n (drop from ws)) (sym (add-sub-cancel-left from (length (ofKind k (drop from ws)))))
@@ -203,8 +202,8 @@ parted ws e h = rw h is
         let b1 = ap (behind 1) b0 ∙ behind-is 1 ws s in
         let b2 = ap (behind 2) b1 ∙ behind-is 2 ws m in
         let b3 = ap (behind 3) b2 ∙ behind-is 3 ws y in
-        let ws-le = run-within 0 ws 0 (omega arith) in
-        let m-le = run-within 1 ws s ws-le in
+        let s-le = run-within 0 ws 0 (omega arith) in
+        let m-le = run-within 1 ws s s-le in
         let y-le = run-within 2 ws m m-le in
         let c1-le = run-within 3 ws y y-le in
         record {
@@ -222,21 +221,6 @@ parted ws e h = rw h is
         }
 
 -- ---- tests
--- the contents from place i on
-module _ (ws : List ℕ) (i : ℕ) where
-  pub above-here : i < length ws → 65535 < contentOf (getD ws i 0) → true ≡ anyAbove 65535 (map contentOf (drop i ws))
-  above-here h l = rw (drop-cons ws i 0 h, lt-ltb 65535 (contentOf (getD ws i 0)) l) refl
-
-  pub above-next : i < length ws → contentOf (getD ws i 0) ≤ 65535 → anyAbove 65535 (map contentOf (drop (i + 1) ws)) ≡ anyAbove 65535 (map contentOf (drop i ws))
-  above-next h l = rw (drop-cons ws i 0 h, le-ltb 65535 (contentOf (getD ws i 0)) l, add-one i) refl
-
-  pub above-none : length ws ≤ i → false ≡ anyAbove 65535 (map contentOf (drop i ws))
-  above-none h = rw (drop-of-length-le ws {i = i} h) refl
-
--- lossless has rate number 0; matrix words only where custom is 1, at most 64 of them and 4,096 sample words
-abbrev pub counted : ℕ → ℕ → ℕ → ℕ → ℕ → Bool
-counted rate number custom matrix samples = (not (eqb rate 0) || eqb number 0) && leb matrix 64 && (not (eqb custom 0) || eqb matrix 0) && leb samples 4096
-
 -- the one last word
 end-not : (ws : List ℕ) → (length ws ≡ 1 → ⊥) → false ≡ isEnd ws
 end-not [] h = refl
@@ -254,6 +238,7 @@ above-join : (most : ℕ) (xs ys : List ℕ) → anyAbove most (xs ++ ys) ≡ an
 above-join most [] ys = refl
 above-join most (x ∷ xs) ys = ap (λ (b : Bool). ltb most x || b) (above-join most xs ys) ∙ sym (or-assoc (ltb most x) (anyAbove most xs) (anyAbove most ys))
 
+-- of a part and the one behind it
 pub above-parts : (a b e : ℕ) (ws : List ℕ) → a ≤ b → b ≤ e
     → anyAbove 65535 (map contentOf (part a e ws)) ≡ anyAbove 65535 (map contentOf (part a b ws)) || anyAbove 65535 (map contentOf (part b e ws))
 above-parts a b e ws h l =
@@ -269,6 +254,7 @@ orderBy settings rest matrix samples large =
 order-same : {s s′ r r′ : List ℕ} {m m′ k k′ : ℕ} {x x′ : Bool} → s ≡ s′ → r ≡ r′ → m ≡ m′ → k ≡ k′ → x ≡ x′ → orderBy s r m k x ≡ orderBy s′ r′ m′ k′ x′
 order-same hs hr hm hk hx = rw (hs, hr, hm, hk, hx)
 
+-- joined from the left
 grouped : (a b c d x : Bool) → a && (b && (c && (d && x))) ≡ a && b && c && d && x
 grouped true true true d x = refl
 grouped true true false d x = refl
@@ -280,6 +266,7 @@ abbrev countedIn : List ℕ → Ends → Bool
 countedIn settings e = counted (wordAt settings 9) (wordAt settings 10) (wordAt settings 18) (e .matrix - e .settings) (e .c2 - e .matrix)
 
 module _ (ws : List ℕ) (e : Ends) (ends : e ≡ endsOf ws) where
+  -- a matrix or sample word is too large
   abbrev large : Bool
   large = anyAbove 65535 (map contentOf (part (e .settings) (e .c2) ws))
 
@@ -293,6 +280,7 @@ module _ (ws : List ℕ) (e : Ends) (ends : e ≡ endsOf ws) where
       let m-c2 : m ≤ c2 = omega (arith, q .to-y) in
       rw (q .matrix-is, q .y-is, q .c1-is, q .c2-is, above-parts s m c2 ws (q .to-matrix) m-c2, above-parts m (e .y) c2 ws (q .to-y) y-c2, above-parts (e .y) (e .c1) c2 ws (q .to-c1) (q .to-c2))
 
+  -- words in order, by the code's tests
   order-is : inOrder ws ≡ known (take (e .settings) ws) && (isEnd (drop (e .c2) ws) && (countedIn (take (e .settings) ws) e && not large))
   unfolding inOrder
   order-is =
@@ -301,10 +289,13 @@ module _ (ws : List ℕ) (e : Ends) (ends : e ≡ endsOf ws) where
       let s = take (e .settings) ws in
       let m = e .matrix - e .settings in
       let k = e .c2 - e .matrix in
-      let len-m : length (p .matrix) ≡ m = ap length (q .matrix-is) ∙ contents-count (part (e .settings) (e .matrix) ws) ∙ length-part (e .settings) (e .matrix) ws (q .to-matrix) (omega (arith, q .to-y, q .to-c1, q .to-c2, q .within)) in
-      let len-y : length (p .y) ≡ e .y - e .matrix = ap length (q .y-is) ∙ contents-count (part (e .matrix) (e .y) ws) ∙ length-part (e .matrix) (e .y) ws (q .to-y) (omega (arith, q .to-c1, q .to-c2, q .within)) in
-      let len-c1 : length (p .c1) ≡ e .c1 - e .y = ap length (q .c1-is) ∙ contents-count (part (e .y) (e .c1) ws) ∙ length-part (e .y) (e .c1) ws (q .to-c1) (omega (arith, q .to-c2, q .within)) in
-      let len-c2 : length (p .c2) ≡ e .c2 - e .c1 = ap length (q .c2-is) ∙ contents-count (part (e .c1) (e .c2) ws) ∙ length-part (e .c1) (e .c2) ws (q .to-c2) (q .within) in
+      let m-in : e .matrix ≤ length ws = omega (arith, q .to-y, q .to-c1, q .to-c2, q .within) in
+      let y-in : e .y ≤ length ws = omega (arith, q .to-c1, q .to-c2, q .within) in
+      let c1-in : e .c1 ≤ length ws = omega (arith, q .to-c2, q .within) in
+      let len-m = part-long (p .matrix) ws (e .settings) (e .matrix) (q .matrix-is) (q .to-matrix) m-in in
+      let len-y = part-long (p .y) ws (e .matrix) (e .y) (q .y-is) (q .to-y) y-in in
+      let len-c1 = part-long (p .c1) ws (e .y) (e .c1) (q .c1-is) (q .to-c1) c1-in in
+      let len-c2 = part-long (p .c2) ws (e .c1) (e .c2) (q .c2-is) (q .to-c2) (q .within) in
       let len-k : length (p .y) + length (p .c1) + length (p .c2) ≡ k = omega (arith, len-y, len-c1, len-c2, q .to-y, q .to-c1, q .to-c2) in
       order-same (q .settings-are) (q .rest-is) len-m len-k large-is
       ∙ ap (λ (b : Bool). known s && (isEnd (drop (e .c2) ws) && b))
@@ -323,6 +314,7 @@ module _ (ws : List ℕ) (e : Ends) (ends : e ≡ endsOf ws) where
   counted-is : known (take (e .settings) ws) ≡ true → countedIn (take (e .settings) ws) e ≡ counted (getD ws 9 0) (getD ws 10 0) (getD ws 18 0) (e .matrix - e .settings) (e .c2 - e .matrix)
   counted-is k = rw (setting-at k 9 (omega arith), setting-at k 10 (omega arith), setting-at k 18 (omega arith))
 
+  -- the first test that fails, and the last one
   pub order-unknown : known (take (e .settings) ws) ≡ false → false ≡ inOrder ws
   order-unknown k = rw (order-is, k)
 

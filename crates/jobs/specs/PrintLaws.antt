@@ -1,5 +1,5 @@
 -- Laws of the text: digits, lines and bytes as the loops write them. Assumes nothing.
-use mathlib.Core.Path.{_≡_, refl, sym, ap, ap₂, _∙_}
+use mathlib.Core.Path.{_≡_, refl, sym, ap, _∙_}
 use mathlib.Core.Bool.{Bool, true, false, cond, _||_}
 use mathlib.Core.List.{List, [], _∷_, _++_, append-assoc, append-nil}
 use Prim.Native.Nat.{ℕ, zero, suc, _+_, _*_, _-_, _/_, _%_, _^_, _≤_, _<_}
@@ -7,17 +7,18 @@ use native.Mathlib.Nat.{pow-suc}
 use native.Mathlib.Numerals.{add-one}
 use native.Mathlib.Omega.{arith}
 use native.Mathlib.Decide.{decLt}
-use lib.Dec.{eqb, ltb}
-use lib.ListN.{length, take, drop, getD, set, length-append, length-set, drop-of-length-le, length-drop}
+use lib.Dec.{eqb}
+use lib.ListN.{length, take, drop, getD, set, length-append, length-drop}
 use lib.Seq.{drop-cons, drop-length}
-use borrow.Author.Tests.{ltb-true, ltb-false, lt-ltb, le-ltb, eq-eqb, ne-eqb}
-use Rattle.laws.specs.Chunks.{chunks, chunks-none, chunks-more, length-chunks}
-use Rattle.laws.specs.Laid.{laid, laid-one, Lays, lays-start, lays-on, lays-first, run-laid0}
+use borrow.Author.Tests.{lt-ltb, le-ltb, eq-eqb, ne-eqb}
+use Rattle.laws.specs.Chunks.{chunks, length-chunks}
+use Rattle.laws.specs.Laid.{Lays, lays-start, lays-on, lays-first, run-laid0}
 use Rattle.unit.specs.declared.Answer.{Answer}
 use Rattle.unit.specs.declared.Answer.the-variants.{Accepted, Refused}
 use Rattle.unit.specs.declared.Coded.{Coded}
 use Rattle.unit.specs.Outcome.{tells}
 use Rattle.jobs.specs.Job.{decimalFrom, decimal, lineOf, hexDigit, separator, bytesFrom, unitIn}
+use Rattle.jobs.specs.Steps.{chunk, lengthIn}
 
 -- ---- Lays
 -- the same run by another name
@@ -108,10 +109,6 @@ line-laid c p q s u =
     lays-same (line-more 0 (c .length) (c .«cut_slices» ∷ c .«slice_size_scaler» ∷ [])) (lays-on p x)
 
 -- ---- bytes
--- a byte in two digits, and what stands behind it
-abbrev pub chunk : ℕ → Bool → List ℕ
-chunk b last = hexDigit (b / 16) ∷ hexDigit (b % 16) ∷ cond last 10 32 ∷ []
-
 -- three elements, one after the other
 pub chunk-laid : {t t₁ t₂ t′ : List ℕ} {at i j r d e g : ℕ} (b : ℕ) (last : Bool) → d ≡ hexDigit (b / 16) → e ≡ hexDigit (b % 16) → g ≡ cond last 10 32
     → Lays t at (d ∷ []) t₁ i → Lays t₁ i (e ∷ []) t₂ j → Lays t₂ j (g ∷ []) t′ r → Lays t at (chunk b last) t′ r
@@ -172,11 +169,6 @@ pub length-bytes : (bs : List ℕ) → length (bytesFrom 0 bs) ≡ length bs * 3
 length-bytes bs = ap length (sym (text-is bs)) ∙ length-text bs (length bs)
 
 -- ---- answers
--- the bytes of an accepted call's unit
-abbrev pub lengthIn : Answer → ℕ
-lengthIn (Accepted c) = c .length
-lengthIn (Refused n) = 0
-
 -- the text of an answer
 pub refused-laid : {r : Answer} {t t′ : List ℕ} {e : ℕ} (n : ℕ) (out : List ℕ) → r ≡ Refused n → Lays t 0 (decimal n ++ (10 ∷ [])) t′ e
     → Lays t 0 (lineOf (tells r) ++ bytesFrom 0 (unitIn r out)) t′ e

@@ -10,8 +10,7 @@ ghost use Rattle.laws.specs.Laid.{Lays};
 ghost use Rattle.picture.specs.Sides.{planes};
 ghost use Rattle.picture.specs.Encoded.{Encodes};
 ghost use Rattle.jobs.specs.Job.{inOrder, printed};
-ghost use Rattle.jobs.specs.ParseLaws.{endsOf};
-ghost use Rattle.jobs.specs.JobLaws.{Called, printedBy};
+ghost use Rattle.jobs.specs.Steps.{endsOf, Called, printedBy};
 
 // The picture call: luma up to y, the first colour up to c1, then the second.
 fn encode(

@@ -7,7 +7,7 @@ ghost use lib.ListN.{length, drop};
 ghost use Rattle.laws.specs.Laid.{Lays};
 ghost use Rattle.unit.specs.Refusal.{anyAbove};
 ghost use Rattle.jobs.specs.Job.{wordsOf, kindOf, contentOf, isEnd, inOrder};
-ghost use Rattle.jobs.specs.ParseLaws.{wordFrom, runEnd, endsOf, counted};
+ghost use Rattle.jobs.specs.Steps.{wordFrom, runEnd, endsOf, counted};
 
 // Where the words of each kind end: settings, matrix, luma and the two colours.
 pub struct Ends {

@@ -4,13 +4,13 @@ use unit::Coded;
 ghost use mathlib.Core.Path.{_≡_};
 ghost use mathlib.Core.Bool.{cond};
 ghost use mathlib.Core.List.{[], _∷_, _++_};
-ghost use Prim.Native.Nat.{_+_, _*_, _/_, _%_, _≤_, _<_};
+ghost use Prim.Native.Nat.{_+_, _*_, _≤_, _<_};
 ghost use lib.ListN.{length};
 ghost use Rattle.laws.specs.Laid.{Lays};
 ghost use Rattle.unit.specs.Outcome.{tells};
-ghost use Rattle.unit.specs.declared.Answer.the-variants.{Accepted, Refused};
+ghost use Rattle.unit.specs.declared.Answer.the-variants.{Accepted};
 ghost use Rattle.jobs.specs.Job.{decimal, lineOf, hexDigit, bytesFrom, unitIn};
-ghost use Rattle.jobs.specs.PrintLaws.{chunk, lengthIn};
+ghost use Rattle.jobs.specs.Steps.{chunk, lengthIn, jobText};
 
 fn put(text: &mut [u8], at: usize, c: u8) -> usize
     requires { ⌜ at < length (now text) ⌝ }
@@ -82,7 +82,7 @@ fn put_bytes(text: &mut [u8], at: usize, bytes: &[u8]) -> usize
 
 pub fn put_job(text: &mut [u8]) -> usize
     requires { ⌜ 4 ≤ length (now text) ⌝ }
-    ensures { λ r. ⌜ Lays (now (text .entry)) 0 (106 ∷ 111 ∷ 98 ∷ 10 ∷ []) (now (text .exit)) r ⌝ }
+    ensures { λ r. ⌜ Lays (now (text .entry)) 0 jobText (now (text .exit)) r ⌝ }
 {
     let a = put(text, 0, b'j');
     let b = put(text, a, b'o');

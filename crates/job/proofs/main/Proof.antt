@@ -4,11 +4,6 @@ use lib.Seq.{length-take-le}
 use borrow.Author.Needs.{needs}
 use Rattle.job.proofs.main.Statement.{statement}
 use Rattle.job.proofs.main.Tie as tie
-use Rattle.job.proofs.main.Reads as reads
-use Rattle.job.proofs.main.Lts as lts
-use Rattle.io.proofs.read_full.Reads as read-full-reads
-use Rattle.io.proofs.write_all.Reads as write-all-reads
-use Rattle.jobs.proofs.encode.run.Reads as run-reads
 
 slice-aggregate-read-full : tie.Need-slice-aggregate-read-full
 slice-aggregate-read-full c = search needs

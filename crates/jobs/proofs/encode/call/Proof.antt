@@ -9,12 +9,6 @@ use native.Mathlib.Omega.{arith}
 use borrow.Author.Needs.{needs}
 use Rattle.jobs.proofs.encode.call.Statement.{statement}
 use Rattle.jobs.proofs.encode.call.Tie as tie
-use Rattle.jobs.proofs.encode.call.Reads as reads
-use Rattle.jobs.proofs.encode.call.Lts as lts
-use Rattle.jobs.proofs.encode.encode.Reads as encode-reads
-use Rattle.jobs.proofs.parse.load_matrix.Reads as load-matrix-reads
-use Rattle.jobs.proofs.parse.load_samples.Reads as load-samples-reads
-use Rattle.picture.proofs.words.settings_of.Reads as settings-of-reads
 
 -- what the contract allows
 facts : (st : tie.Start) → Able (st .args .words .now) (st .args .e) (length (st .args .matrix .now)) (length (st .args .samples .now))

@@ -8,9 +8,6 @@ use Rattle.jobs.specs.JobLaws.{lent-to-end}
 use borrow.Author.Needs.{needs}
 use Rattle.jobs.proofs.encode.encode.Statement.{statement}
 use Rattle.jobs.proofs.encode.encode.Tie as tie
-use Rattle.jobs.proofs.encode.encode.Reads as reads
-use Rattle.jobs.proofs.encode.encode.Lts as lts
-use Rattle.picture.proofs.encoder.encode_picture.Reads as encode-picture-reads
 
 slice-aggregate-encode-picture : tie.Need-slice-aggregate-encode-picture
 slice-aggregate-encode-picture c =

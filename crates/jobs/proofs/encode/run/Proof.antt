@@ -13,11 +13,6 @@ use Rattle.jobs.specs.JobLaws.{whole-read, odd-read}
 use borrow.Author.Needs.{needs}
 use Rattle.jobs.proofs.encode.run.Statement.{statement}
 use Rattle.jobs.proofs.encode.run.Tie as tie
-use Rattle.jobs.proofs.encode.run.Reads as reads
-use Rattle.jobs.proofs.encode.run.Lts as lts
-use Rattle.jobs.proofs.encode.run_words.Reads as run-words-reads
-use Rattle.jobs.proofs.parse.unpack.Reads as unpack-reads
-use Rattle.jobs.proofs.print.put_job.Reads as put-job-reads
 
 -- there is room for the words
 few : (st : tie.Start) {ws : List ℕ} {n : ℕ} → Lays (st .args .words .now) 0 (wordsOf (st .args .bytes .now)) ws n → n ≤ length ws

@@ -7,13 +7,6 @@ use Rattle.jobs.specs.JobLaws.{answer-room, answer-laid, job-laid}
 use borrow.Author.Needs.{needs}
 use Rattle.jobs.proofs.encode.run_words.Statement.{statement}
 use Rattle.jobs.proofs.encode.run_words.Tie as tie
-use Rattle.jobs.proofs.encode.run_words.Reads as reads
-use Rattle.jobs.proofs.encode.run_words.Lts as lts
-use Rattle.jobs.proofs.encode.call.Reads as call-reads
-use Rattle.jobs.proofs.parse.ends_of.Reads as ends-of-reads
-use Rattle.jobs.proofs.parse.well_formed.Reads as well-formed-reads
-use Rattle.jobs.proofs.print.put_answer.Reads as put-answer-reads
-use Rattle.jobs.proofs.print.put_job.Reads as put-job-reads
 
 ends-of-requires : tie.Need-ends-of-requires
 ends-of-requires c κs = search needs

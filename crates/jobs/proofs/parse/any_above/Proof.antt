@@ -5,16 +5,14 @@ use Prim.Native.Nat.{_-_, _≤_}
 use lib.ListN.{length, drop}
 use Rattle.unit.specs.Refusal.{anyAbove}
 use Rattle.jobs.specs.Job.{contentOf}
-use Rattle.jobs.specs.ParseLaws.{above-here, above-next, above-none}
+use Rattle.picture.specs.RefusalLaws.{above-here, above-next, above-none}
+use Rattle.jobs.specs.ParseLaws.{contents-count, content-at}
 use native.Mathlib.Omega.{arith}
 use Rattle.jobs.proofs.parse.any_above.Statement.{statement}
 use Rattle.jobs.proofs.parse.any_above.Tie as tie
-use Rattle.jobs.proofs.parse.any_above.Reads as reads
-use Rattle.jobs.proofs.parse.any_above.Lts as lts
-use Rattle.jobs.proofs.parse.content_of.Reads as content-of-reads
 
 abbrev Inv-loop : tie.InvT-loop
-Inv-loop words n i₀ i = (i ≤ length words) × (anyAbove 65535 (map contentOf (drop i words)) ≡ anyAbove 65535 (map contentOf words))
+Inv-loop words n i₀ i = (i ≤ length words) × (anyAbove 65535 (drop i (map contentOf words)) ≡ anyAbove 65535 (map contentOf words))
 
 abbrev μ-loop : tie.MeasureT-loop
 μ-loop words n i₀ i = length words - i
@@ -33,9 +31,9 @@ content-of-requires c κs = tt
 
 returns : tie.Need-returns Inv-loop μ-loop
 returns c =
-    let a = c .before .before .before .before .before .before .args in
+    let ws = c .before .before .before .before .before .before .args .words .now in
     let l = c .before .before .before .before .loop in
-    above-here (a .words .now) (l .i) (c .before .before .before .loop-test .taken) (rw (c .before .content-of .ensures) at (c .if1 .taken)) ∙ l .inv .1
+    above-here 65535 (map contentOf ws) (l .i) (rw (contents-count ws) (c .before .before .before .loop-test .taken)) (rw (c .before .content-of .ensures ∙ content-at ws (l .i)) at (c .if1 .taken)) ∙ l .inv .1
 
 add-i : tie.Need-add-i Inv-loop μ-loop
 add-i c = omega arith
@@ -45,14 +43,15 @@ loop-less c = omega arith
 
 loop-again : tie.Need-loop-again Inv-loop μ-loop
 loop-again c =
-    let a = c .before .before .before .before .before .before .args in
+    let ws = c .before .before .before .before .before .before .args .words .now in
     let l = c .before .before .before .before .loop in
-    (omega arith, above-next (a .words .now) (l .i) (c .before .before .before .loop-test .taken) (rw (c .before .content-of .ensures) at (c .if1 .left)) ∙ l .inv .1)
+    (omega arith, above-next 65535 (map contentOf ws) (l .i) (rw (contents-count ws) (c .before .before .before .loop-test .taken)) (rw (c .before .content-of .ensures ∙ content-at ws (l .i)) at (c .if1 .left)) ∙ l .inv .1)
 
 returns-2 : tie.Need-returns-2 Inv-loop μ-loop
 returns-2 c =
+    let ws = c .before .before .before .args .words .now in
     let l = c .before .loop in
-    above-none (c .before .before .before .args .words .now) (l .i) (c .loop-test .left) ∙ l .inv .1
+    above-none 65535 (map contentOf ws) (l .i) (rw (contents-count ws) (c .loop-test .left)) ∙ l .inv .1
 
 pub any-above-spec : {M : Type 1} → statement M
 any-above-spec =

@@ -3,9 +3,6 @@ use Rattle.jobs.specs.ParseLaws.{ends-are}
 use borrow.Author.Needs.{needs}
 use Rattle.jobs.proofs.parse.ends_of.Statement.{statement}
 use Rattle.jobs.proofs.parse.ends_of.Tie as tie
-use Rattle.jobs.proofs.parse.ends_of.Reads as reads
-use Rattle.jobs.proofs.parse.ends_of.Lts as lts
-use Rattle.jobs.proofs.parse.run_end.Reads as run-end-reads
 
 run-end-requires : tie.Need-run-end-requires
 run-end-requires c κs = search needs

@@ -4,8 +4,6 @@ use Rattle.jobs.specs.ParseLaws.{end-other, end-one}
 use borrow.Author.Needs.{needs}
 use Rattle.jobs.proofs.parse.is_end.Statement.{statement}
 use Rattle.jobs.proofs.parse.is_end.Tie as tie
-use Rattle.jobs.proofs.parse.is_end.Reads as reads
-use Rattle.jobs.proofs.parse.is_end.Lts as lts
 
 returns : tie.Need-returns
 returns c = end-other (c .before .args .words .now) (c .before .args .at) (λ e. omega arith)

@@ -1,5 +1,5 @@
 -- `parse::load_matrix` meets its contract. The invariant: the first i contents are laid. Assumes nothing.
-use mathlib.Core.Path.{_≡_, _∙_}
+use mathlib.Core.Path.{_∙_}
 use mathlib.Core.List.{map}
 use Prim.Native.Nat.{_-_, _≤_}
 use lib.ListN.{length, take}
@@ -9,9 +9,6 @@ use Rattle.jobs.specs.ParseLaws.{fill-next, fill-all, contents-count, co
 use native.Mathlib.Omega.{arith}
 use Rattle.jobs.proofs.parse.load_matrix.Statement.{statement}
 use Rattle.jobs.proofs.parse.load_matrix.Tie as tie
-use Rattle.jobs.proofs.parse.load_matrix.Reads as reads
-use Rattle.jobs.proofs.parse.load_matrix.Lts as lts
-use Rattle.jobs.proofs.parse.content_of.Reads as content-of-reads
 
 abbrev Inv-loop : tie.InvT-loop
 Inv-loop words matrix₀ n i₀ matrix i = (i ≤ length words) × Lays matrix₀ 0 (take i (map contentOf words)) matrix i

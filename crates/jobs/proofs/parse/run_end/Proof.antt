@@ -2,13 +2,11 @@
 use mathlib.Core.Path.{_≡_, refl, sym, _∙_}
 use Prim.Native.Nat.{_-_, _≤_}
 use lib.ListN.{length}
-use Rattle.jobs.specs.ParseLaws.{runEnd, run-stop, run-next, run-over}
+use Rattle.jobs.specs.Steps.{runEnd}
+use Rattle.jobs.specs.ParseLaws.{run-stop, run-next, run-over}
 use native.Mathlib.Omega.{arith}
 use Rattle.jobs.proofs.parse.run_end.Statement.{statement}
 use Rattle.jobs.proofs.parse.run_end.Tie as tie
-use Rattle.jobs.proofs.parse.run_end.Reads as reads
-use Rattle.jobs.proofs.parse.run_end.Lts as lts
-use Rattle.jobs.proofs.parse.kind_of.Reads as kind-of-reads
 
 abbrev Inv-loop : tie.InvT-loop
 Inv-loop words from kind n i₀ i = (i ≤ length words) × (runEnd kind words i ≡ runEnd kind words from)

@@ -1,5 +1,5 @@
 -- `parse::unpack` meets its contract. The invariant: the first i words are laid. Assumes nothing.
-use mathlib.Core.Path.{_≡_, _∙_}
+use mathlib.Core.Path.{_∙_}
 use Prim.Native.Nat.{_-_, _/_, _≤_}
 use lib.ListN.{length, take}
 use Rattle.laws.specs.Laid.{Lays, lays-start}
@@ -8,9 +8,6 @@ use Rattle.jobs.specs.ParseLaws.{fill-next, fill-all, words-count, words
 use native.Mathlib.Omega.{arith}
 use Rattle.jobs.proofs.parse.unpack.Statement.{statement}
 use Rattle.jobs.proofs.parse.unpack.Tie as tie
-use Rattle.jobs.proofs.parse.unpack.Reads as reads
-use Rattle.jobs.proofs.parse.unpack.Lts as lts
-use Rattle.jobs.proofs.parse.word_at.Reads as word-at-reads
 
 abbrev Inv-loop : tie.InvT-loop
 Inv-loop bytes words₀ n i₀ words i = (i ≤ length bytes / 4) × Lays words₀ 0 (take i (wordsOf bytes)) words i

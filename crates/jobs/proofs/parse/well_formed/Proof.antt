@@ -11,12 +11,6 @@ use native.Mathlib.Omega.{arith}
 use borrow.Author.Needs.{needs}
 use Rattle.jobs.proofs.parse.well_formed.Statement.{statement}
 use Rattle.jobs.proofs.parse.well_formed.Tie as tie
-use Rattle.jobs.proofs.parse.well_formed.Reads as reads
-use Rattle.jobs.proofs.parse.well_formed.Lts as lts
-use Rattle.jobs.proofs.parse.any_above.Reads as any-above-reads
-use Rattle.jobs.proofs.parse.counted.Reads as counted-reads
-use Rattle.jobs.proofs.parse.is_end.Reads as is-end-reads
-use Rattle.picture.proofs.words.known.Reads as known-reads
 
 -- the words' parts
 from : (st : tie.Start) → Parted (st .args .words .now) (st .args .e)

@@ -3,8 +3,6 @@ use borrow.Author.Tests.{lt-ltb, le-ltb}
 use borrow.Author.Needs.{needs}
 use Rattle.jobs.proofs.print.digit.Statement.{statement}
 use Rattle.jobs.proofs.print.digit.Tie as tie
-use Rattle.jobs.proofs.print.digit.Reads as reads
-use Rattle.jobs.proofs.print.digit.Lts as lts
 
 add-result : tie.Need-add-result
 add-result c = search needs

@@ -3,8 +3,6 @@ use Rattle.jobs.specs.PrintLaws.{lays-one}
 use borrow.Author.Needs.{needs}
 use Rattle.jobs.proofs.print.put.Statement.{statement}
 use Rattle.jobs.proofs.print.put.Tie as tie
-use Rattle.jobs.proofs.print.put.Reads as reads
-use Rattle.jobs.proofs.print.put.Lts as lts
 
 slice-write-text : tie.Need-slice-write-text
 slice-write-text c = search needs

@@ -7,11 +7,6 @@ use Rattle.jobs.specs.PrintLaws.{length-bytes, accepted-room, refused-la
 use borrow.Author.Needs.{needs}
 use Rattle.jobs.proofs.print.put_answer.Statement.{statement}
 use Rattle.jobs.proofs.print.put_answer.Tie as tie
-use Rattle.jobs.proofs.print.put_answer.Reads as reads
-use Rattle.jobs.proofs.print.put_answer.Lts as lts
-use Rattle.jobs.proofs.print.put_bytes.Reads as put-bytes-reads
-use Rattle.jobs.proofs.print.put_coded.Reads as put-coded-reads
-use Rattle.jobs.proofs.print.put_value.Reads as put-value-reads
 
 enum-known-r : tie.Need-enum-known-r
 enum-known-r c = search needs

@@ -3,11 +3,6 @@ use Rattle.jobs.specs.PrintLaws.{chunk-laid}
 use borrow.Author.Needs.{needs}
 use Rattle.jobs.proofs.print.put_byte.Statement.{statement}
 use Rattle.jobs.proofs.print.put_byte.Tie as tie
-use Rattle.jobs.proofs.print.put_byte.Reads as reads
-use Rattle.jobs.proofs.print.put_byte.Lts as lts
-use Rattle.jobs.proofs.print.digit.Reads as digit-reads
-use Rattle.jobs.proofs.print.gap.Reads as gap-reads
-use Rattle.jobs.proofs.print.put.Reads as put-reads
 
 digit-requires : tie.Need-digit-requires
 digit-requires c κs = search needs

@@ -9,9 +9,6 @@ use Rattle.jobs.specs.PrintLaws.{lays-same, chunkAt, length-text, text-i
 use native.Mathlib.Omega.{arith}
 use Rattle.jobs.proofs.print.put_bytes.Statement.{statement}
 use Rattle.jobs.proofs.print.put_bytes.Tie as tie
-use Rattle.jobs.proofs.print.put_bytes.Reads as reads
-use Rattle.jobs.proofs.print.put_bytes.Lts as lts
-use Rattle.jobs.proofs.print.put_byte.Reads as put-byte-reads
 
 abbrev Inv-loop : tie.InvT-loop
 Inv-loop text₀ at bytes n t₀ i₀ text t i = (i ≤ length bytes) × Lays text₀ at (chunks (chunkAt bytes) i) text t

@@ -4,9 +4,6 @@ use Rattle.jobs.specs.PrintLaws.{line-laid}
 use borrow.Author.Needs.{needs}
 use Rattle.jobs.proofs.print.put_coded.Statement.{statement}
 use Rattle.jobs.proofs.print.put_coded.Tie as tie
-use Rattle.jobs.proofs.print.put_coded.Reads as reads
-use Rattle.jobs.proofs.print.put_coded.Lts as lts
-use Rattle.jobs.proofs.print.put_value.Reads as put-value-reads
 
 put-value-requires : tie.Need-put-value-requires
 put-value-requires c κs = search needs

@@ -3,9 +3,6 @@ use Rattle.laws.specs.Laid.{lays-on}
 use borrow.Author.Needs.{needs}
 use Rattle.jobs.proofs.print.put_job.Statement.{statement}
 use Rattle.jobs.proofs.print.put_job.Tie as tie
-use Rattle.jobs.proofs.print.put_job.Reads as reads
-use Rattle.jobs.proofs.print.put_job.Lts as lts
-use Rattle.jobs.proofs.print.put.Reads as put-reads
 
 put-requires : tie.Need-put-requires
 put-requires c κs = search needs

@@ -6,10 +6,6 @@ use Rattle.jobs.specs.PrintLaws.{decimal-ten, value-short}
 use borrow.Author.Needs.{needs}
 use Rattle.jobs.proofs.print.put_value.Statement.{statement}
 use Rattle.jobs.proofs.print.put_value.Tie as tie
-use Rattle.jobs.proofs.print.put_value.Reads as reads
-use Rattle.jobs.proofs.print.put_value.Lts as lts
-use Rattle.jobs.proofs.print.put.Reads as put-reads
-use Rattle.jobs.proofs.print.put_number.Reads as put-number-reads
 
 put-number-requires : tie.Need-put-number-requires
 put-number-requires c κs =
