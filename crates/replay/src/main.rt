@@ -16,10 +16,12 @@
 //   33  dwt: wavelet, horizontal-only wavelet, depth, horizontal-only depth, width, height, d (the offset is 2^(d-1)), samples, all
 //       coefficients of the padded component in subband order, each band row by row
 //   34  long row: wavelet, n, answer (0, 1 or 15) for a row of n zeros
+//   48  job: bytes of the job, the job packed, bytes of the printed text, the text packed
 // What is printed: a line for each case that differs or is malformed, with its number from 1 on and its kind; then for each kind how
 // many were run and how many differ, and how many cases were malformed. A case of another kind or form is malformed; one that is cut
 // off, or longer than 8,192 words, is malformed and ends the run.
 mod case;
+mod job;
 mod quant;
 mod tally;
 mod transform;
@@ -44,12 +46,13 @@ fn run_quant(kind: u64, w: &[u64]) -> Verdict {
     }
 }
 
-// A case of the transform is run.
+// A case of the transform or a job is run.
 fn run_transform(kind: u64, w: &[u64]) -> Verdict {
     match kind {
         32 => transform::row(w),
         33 => transform::dwt(w),
         34 => transform::long_row(w),
+        48 => job::job(w),
         _ => run_quant(kind, w),
     }
 }

@@ -109,6 +109,7 @@ impl Tally {
         self.line(b"oned_analysis", 32);
         self.line(b"dwt", 33);
         self.line(b"long row", 34);
+        self.line(b"job", 48);
         io::write_all(STDOUT_FILENO, b"malformed: ");
         io::print_decimal(STDOUT_FILENO, self.malformed);
         io::write_all(STDOUT_FILENO, b"\n");
