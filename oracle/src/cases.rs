@@ -28,10 +28,10 @@ const LONG_ROW: u64 = 34;
 const WAVELET_REFUSED: u64 = 1;
 const INDEX_REFUSED: u64 = 6;
 const ROW_REFUSED: u64 = 15;
-const LONGEST_ROW: usize = 65_536;
+pub const LONGEST_ROW: usize = 65_536;
 
 /// 0, the powers of two below 2^32 and their neighbours.
-fn unsigned_edges() -> Vec<u32> {
+pub fn unsigned_edges() -> Vec<u32> {
     let mut edges: Vec<u64> = (0..=32).flat_map(|k| [(1 << k) - 1, 1 << k, (1 << k) + 1]).collect();
     edges.retain(|&v| v <= u32::MAX as u64);
     edges.sort();
@@ -40,7 +40,7 @@ fn unsigned_edges() -> Vec<u32> {
 }
 
 /// 0, the powers of two and their neighbours with both signs, the least and the largest number.
-fn signed_edges() -> Vec<i64> {
+pub fn signed_edges() -> Vec<i64> {
     let mut edges: Vec<i128> = (0..=63)
         .flat_map(|k| [(1i128 << k) - 1, 1 << k, (1 << k) + 1])
         .flat_map(|v| [v, -v])
@@ -136,7 +136,7 @@ fn inverse<W: Write>(rec: &mut Recorder<W>, number: i64, index: u32) -> io::Resu
 }
 
 /// A coefficient next to a step of the quantiser at this index.
-fn near_step(rng: &mut Random, index: u32) -> i64 {
+pub fn near_step(rng: &mut Random, index: u32) -> i64 {
     let factor = quant::quant_factor(index.min(255) as u64) as i128;
     let most = (1i128 << 65) / factor;
     let steps = (rng.sized(63) as i128) % (most + 1);
@@ -146,7 +146,7 @@ fn near_step(rng: &mut Random, index: u32) -> i64 {
 }
 
 /// A number next to where rebuilding at this index reaches a cap.
-fn near_cap(rng: &mut Random, index: u32) -> i64 {
+pub fn near_cap(rng: &mut Random, index: u32) -> i64 {
     let number = i64::MAX / quant::quant_factor(index.min(255) as u64) + rng.below(5) as i64 - 2;
     if rng.one_in(2) { -number } else { number }
 }
@@ -240,7 +240,7 @@ fn row_case<W: Write>(rec: &mut Recorder<W>, wavelet: u32, row: &[i64]) -> io::R
 
 /// Rows in several manners: small numbers, samples, numbers of all sizes, only extreme ones,
 /// and edges.
-fn random_row(rng: &mut Random, manner: u64, length: usize) -> Vec<i64> {
+pub fn random_row(rng: &mut Random, manner: u64, length: usize) -> Vec<i64> {
     let edges = signed_edges();
     (0..length)
         .map(|_| match manner {
@@ -254,7 +254,7 @@ fn random_row(rng: &mut Random, manner: u64, length: usize) -> Vec<i64> {
         .collect()
 }
 
-const ROW_MANNERS: u64 = 6;
+pub const ROW_MANNERS: u64 = 6;
 const LONG_LENGTHS: [u64; 4] = [64, 65, 127, 300];
 
 pub fn rows<W: Write>(rec: &mut Recorder<W>, rng: &mut Random, count: u64) -> io::Result<()> {

@@ -15,8 +15,19 @@ pub enum Wanted {
 
 use Wanted::{Answer, Malformed};
 
+impl Wanted {
+    /// Whether this answer, or none for a malformed job, is what is wanted.
+    pub fn is(self, answer: Option<u32>) -> bool {
+        match self {
+            Wanted::Any => true,
+            Malformed => answer.is_none(),
+            Answer(wanted) => answer == Some(wanted),
+        }
+    }
+}
+
 /// A small job that is accepted: 4:4:4 frames, a custom matrix, few bytes.
-fn plain(rng: &mut Random) -> Job {
+pub fn plain(rng: &mut Random) -> Job {
     let mut job = Job { settings: [0; SETTINGS], matrix: Vec::new(), planes: Default::default() };
     let s = &mut job.settings;
     s[KIND] = rng.below(2) as u32;
@@ -285,7 +296,7 @@ pub fn nth(rng: &mut Random, n: usize) -> (Vec<u8>, Wanted) {
 }
 
 /// The example job of document 01.
-fn example() -> Job {
+pub fn example() -> Job {
     Job {
         settings: [1, 1, 1, 0, 0, 1, 1, 0, 1, 0, 0, 1, 1, 0, 0, 255, 255, 0, 0, 7, 0],
         matrix: Vec::new(),

@@ -23,7 +23,7 @@ pub fn nth(rng: &mut Random, n: usize) -> (Vec<u8>, Wanted) {
 // Parts of a job.
 
 /// Samples in several manners, some of them above the depth.
-fn samples(rng: &mut Random, excursion: u32, width: u64, height: u64) -> Vec<u32> {
+pub fn samples(rng: &mut Random, excursion: u32, width: u64, height: u64) -> Vec<u32> {
     let bits = Settings::sample_depth(excursion.clamp(1, 65_535));
     let (grey, within) = (1u32 << (bits - 1), (1u64 << bits) - 1);
     let manner = rng.below(9);
@@ -67,7 +67,7 @@ fn jumps(rng: &mut Random, width: u64, height: u64) -> Vec<u32> {
     plane
 }
 
-fn matrix(rng: &mut Random, count: u64) -> Vec<u32> {
+pub fn matrix(rng: &mut Random, count: u64) -> Vec<u32> {
     let manner = rng.below(6);
     (0..count)
         .map(|_| match manner {
@@ -80,7 +80,7 @@ fn matrix(rng: &mut Random, count: u64) -> Vec<u32> {
         .collect()
 }
 
-fn excursion(rng: &mut Random) -> u32 {
+pub fn excursion(rng: &mut Random) -> u32 {
     match rng.below(4) {
         0 => rng.pick(&[1, 2, 3, 127, 128, 219, 224, 254, 256, 876, 896, 1_023, 4_095]),
         1 => rng.pick(&[32_767, 32_768, 56_064, 57_344, 65_534, 65_535]),
@@ -106,9 +106,15 @@ impl Job {
 
     /// Makes the planes anew for the settings, if a job can hold them.
     pub fn fit_planes(&mut self, rng: &mut Random) {
+        self.fit_planes_up_to(rng, MOST_SAMPLE_WORDS as u64);
+    }
+
+    /// Makes the planes anew for the settings, if they have no more than `most` samples.
+    pub fn fit_planes_up_to(&mut self, rng: &mut Random, most: u64) {
         let s = self.settings();
         let [luma, colour] = s.sizes();
-        if luma.area() + 2 * colour.area() <= MOST_SAMPLE_WORDS as u64 {
+        let count = luma.area() as u128 + 2 * colour.area() as u128;
+        if count <= most as u128 {
             let excursions = [s.luma_excursion, s.colour_excursion, s.colour_excursion];
             for (i, size) in [luma, colour, colour].into_iter().enumerate() {
                 self.planes[i] = samples(rng, excursions[i], size.width, size.height);
@@ -125,8 +131,7 @@ impl Job {
 
     /// The low-delay numerator at the job's target.
     fn numerator(&self) -> u64 {
-        let matrix: Vec<u16> = self.matrix.iter().map(|&v| v as u16).collect();
-        self.settings().numerator(&matrix, self.settings[RATE_NUMBER] as u64)
+        self.settings().numerator(&self.matrix, self.settings[RATE_NUMBER] as u64)
     }
 
     /// Sets a target that leaves each low-delay slice about this many bytes.

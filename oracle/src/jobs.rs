@@ -65,41 +65,49 @@ impl Job {
     }
 
     pub fn settings(&self) -> Settings {
-        let s = &self.settings;
-        let number = s[RATE_NUMBER] as u64;
-        Settings {
-            kind: if s[KIND] == 0 { Kind::LowDelay } else { Kind::HighQuality },
-            wavelet: s[WAVELET],
-            wavelet_ho: s[WAVELET_HO],
-            depth: s[DEPTH],
-            depth_ho: s[DEPTH_HO],
-            across: s[ACROSS],
-            down: s[DOWN],
-            prefix: s[PREFIX],
-            scaler: s[SCALER],
-            rate: match s[RATE] {
-                0 => Rate::Lossless,
-                1 => Rate::Index(number),
-                _ => Rate::Bytes(number),
-            },
-            width: s[WIDTH],
-            height: s[HEIGHT],
-            format: s[FORMAT],
-            mode: s[MODE],
-            luma_excursion: s[LUMA_EXCURSION],
-            colour_excursion: s[COLOUR_EXCURSION],
-            extended: s[EXTENDED] == 1,
-            custom: s[CUSTOM] == 1,
-            picture_number: s[PICTURE_NUMBER],
-            previous_length: s[PREVIOUS_LENGTH],
-        }
+        settings_of(&self.settings)
+    }
+
+    /// The planes as samples of 16 bits.
+    pub fn samples(&self) -> [Vec<u16>; 3] {
+        self.planes.each_ref().map(|plane| plane.iter().map(|&v| v as u16).collect())
     }
 
     pub fn encode(&self, work_len: usize, output_len: usize) -> Result<Outcome, String> {
-        let narrow = |words: &[u32]| words.iter().map(|&v| v as u16).collect::<Vec<u16>>();
-        let planes = [&self.planes[0], &self.planes[1], &self.planes[2]].map(|p| narrow(p));
-        let planes = [&planes[0][..], &planes[1][..], &planes[2][..]];
-        picture::encode(&self.settings(), &narrow(&self.matrix), &planes, work_len, output_len)
+        let planes = self.samples();
+        let planes = planes.each_ref().map(|plane| &plane[..]);
+        picture::encode(&self.settings(), &self.matrix, &planes, work_len, output_len)
+    }
+}
+
+/// The settings that these words are; meant for kind, rate, extended and custom in range.
+pub fn settings_of(s: &[u32; SETTINGS]) -> Settings {
+    let number = s[RATE_NUMBER] as u64;
+    Settings {
+        kind: if s[KIND] == 0 { Kind::LowDelay } else { Kind::HighQuality },
+        wavelet: s[WAVELET],
+        wavelet_ho: s[WAVELET_HO],
+        depth: s[DEPTH],
+        depth_ho: s[DEPTH_HO],
+        across: s[ACROSS],
+        down: s[DOWN],
+        prefix: s[PREFIX],
+        scaler: s[SCALER],
+        rate: match s[RATE] {
+            0 => Rate::Lossless,
+            1 => Rate::Index(number),
+            _ => Rate::Bytes(number),
+        },
+        width: s[WIDTH],
+        height: s[HEIGHT],
+        format: s[FORMAT],
+        mode: s[MODE],
+        luma_excursion: s[LUMA_EXCURSION],
+        colour_excursion: s[COLOUR_EXCURSION],
+        extended: s[EXTENDED] == 1,
+        custom: s[CUSTOM] == 1,
+        picture_number: s[PICTURE_NUMBER],
+        previous_length: s[PREVIOUS_LENGTH],
     }
 }
 
@@ -137,6 +145,14 @@ pub fn parse(bytes: &[u8]) -> Option<Job> {
         && samples <= MOST_SAMPLE_WORDS
         && job.matrix.iter().chain(job.planes.iter().flatten()).all(|&v| v <= 65_535);
     well_formed.then_some(job)
+}
+
+/// True for a job that no refusal keeps from coding more than 3,000 slices, which takes long.
+pub fn is_slow(bytes: &[u8]) -> bool {
+    let Some(job) = parse(bytes) else { return false };
+    let (s, planes) = (job.settings(), job.samples());
+    let planes = planes.each_ref().map(|plane| &plane[..]);
+    s.slices() > 3_000 && picture::refusal(&s, &job.matrix, &planes, WORK) == 0
 }
 
 /// A job, its outcome if it is well formed, and what the job program prints.

@@ -10,8 +10,7 @@ mod recorder;
 mod tally;
 mod unit;
 
-use edges::Wanted;
-use jobs::Answered;
+use jobs::{Answered, is_slow};
 use random::Random;
 use recorder::{Recorder, packed};
 use std::error::Error;
@@ -47,7 +46,7 @@ fn record(seed: u64, what: &str, count: Option<u64>) -> Done {
         "quantiser" => cases::quantiser(&mut rec, rng, count.unwrap_or(6_600))?,
         "rows" => cases::rows(&mut rec, rng, count.unwrap_or(2_400))?,
         "dwts" => cases::dwts(&mut rec, rng, count.unwrap_or(400))?,
-        "jobs" => each_job(rng, count.unwrap_or(480), |_, bytes, answered| {
+        "jobs" => each_job(rng, count.unwrap_or(480), false, |_, bytes, answered| {
             let text = answered.text.as_bytes();
             let mut payload = vec![bytes.len() as u64];
             payload.extend(packed(bytes));
@@ -64,24 +63,26 @@ fn record(seed: u64, what: &str, count: Option<u64>) -> Done {
 fn write_jobs(seed: u64, count: u64, dir: &str) -> Done {
     fs::create_dir_all(dir)?;
     let rng = &mut Random::new(seed);
-    each_job(rng, count, |n, bytes, answered| {
+    each_job(rng, count, true, |n, bytes, answered| {
         let name = |extension| Path::new(dir).join(format!("{n:04}.{extension}"));
         fs::write(name("job"), bytes)?;
         fs::write(name("out"), &answered.text)
     })
 }
 
-/// Makes `count` jobs, numbered from 1, and hands each with its answer to `take`. Says on
-/// standard error what they cover, and fails where a job is not answered as it must be.
+/// Makes `count` jobs, numbered from 1, and hands each with its answer to `take`; `slow` says
+/// whether slow ones may be among them. Says on standard error what they cover, and fails where a
+/// job is not answered as it must be.
 fn each_job(
     rng: &mut Random,
     count: u64,
+    slow: bool,
     mut take: impl FnMut(u64, &[u8], &Answered) -> io::Result<()>,
 ) -> Done {
     let mut tally = Tally::default();
     let mut wrong = 0;
-    for n in 1..=count {
-        let (bytes, wanted) = generate::nth(rng, n as usize - 1);
+    let jobs = (0..).map(|n| generate::nth(rng, n)).filter(|(bytes, _)| slow || !is_slow(bytes));
+    for (n, (bytes, wanted)) in (1..=count).zip(jobs) {
         let answered = match jobs::answer(&bytes) {
             Ok(answered) => answered,
             Err(message) => {
@@ -91,16 +92,14 @@ fn each_job(
             }
         };
         let answer = answered.outcome.as_ref().map(|(_, outcome)| outcome.answer);
-        let right = match wanted {
-            Wanted::Any => true,
-            Wanted::Malformed => answer.is_none(),
-            Wanted::Answer(a) => answer == Some(a),
-        };
-        if !right {
+        if !wanted.is(answer) {
             eprintln!("job {n}: wanted {wanted:?}, got {answer:?}");
             wrong += 1;
         }
-        tally.add(&answered);
+        match &answered.outcome {
+            None => tally.add_malformed(),
+            Some((job, outcome)) => tally.add(&job.settings(), &job.planes, outcome),
+        }
         take(n, &bytes, &answered)?;
     }
     eprintln!("{tally}");

@@ -134,7 +134,7 @@ impl Settings {
 
     /// Bytes of parse information, picture number and transform parameters, with these as the
     /// numerator and denominator, or as prefix bytes and scaler.
-    fn overhead(&self, matrix: &[u16], pair: [u64; 2]) -> u64 {
+    fn overhead(&self, matrix: &[u32], pair: [u64; 2]) -> u64 {
         let len = |v: u64| 2 * (v + 1).ilog2() as u64 + 1;
         let mut bits = len(self.wavelet as u64) + len(self.depth as u64);
         if self.version_3() {
@@ -154,7 +154,7 @@ impl Settings {
     }
 
     /// The low-delay numerator for this target.
-    pub fn numerator(&self, matrix: &[u16], target: u64) -> u64 {
+    pub fn numerator(&self, matrix: &[u32], target: u64) -> u64 {
         let slices = self.slices();
         let next = |numerator: u64| {
             target.saturating_sub(self.overhead(matrix, [numerator, slices])).max(slices)
@@ -163,7 +163,7 @@ impl Settings {
     }
 
     /// A length that the unit has at least; in low delay it is the unit's length.
-    fn least_length(&self, matrix: &[u16]) -> u64 {
+    fn least_length(&self, matrix: &[u32]) -> u64 {
         match (self.kind, self.rate) {
             (Kind::LowDelay, Rate::Bytes(target)) => {
                 let numerator = self.numerator(matrix, target);
@@ -178,7 +178,7 @@ impl Settings {
 }
 
 /// The first of refusals 1 to 13 that applies, or 0.
-pub fn refusal(s: &Settings, matrix: &[u16], planes: &[&[u16]; 3], work_len: usize) -> u32 {
+pub fn refusal(s: &Settings, matrix: &[u32], planes: &[&[u16]; 3], work_len: usize) -> u32 {
     let in_16_bits = |v: u32| (1..=65_535).contains(&v);
     if s.wavelet > 6 || s.wavelet_ho > 6 {
         return 1;
@@ -232,7 +232,7 @@ pub fn refusal(s: &Settings, matrix: &[u16], planes: &[&[u16]; 3], work_len: usi
 /// where the Rust does not do what document 01 says of it.
 pub fn encode(
     s: &Settings,
-    matrix: &[u16],
+    matrix: &[u32],
     planes: &[&[u16]; 3],
     work_len: usize,
     output_len: usize,
@@ -261,7 +261,7 @@ pub fn encode(
 }
 
 /// The unit as the Rust writes it.
-fn from_rust(s: &Settings, matrix: &[u16], planes: &[&[u16]; 3]) -> vc2::Result<Vec<u8>> {
+fn from_rust(s: &Settings, matrix: &[u32], planes: &[&[u16]; 3]) -> vc2::Result<Vec<u8>> {
     let format = match s.format {
         0 => ColorDiffFormat::Yuv444,
         1 => ColorDiffFormat::Yuv422,
@@ -303,7 +303,7 @@ fn from_rust(s: &Settings, matrix: &[u16], planes: &[&[u16]; 3]) -> vc2::Result<
 }
 
 /// A custom matrix in subband order, as the Rust takes it.
-fn levels(s: &Settings, matrix: &[u16]) -> Vec<MatrixLevel> {
+fn levels(s: &Settings, matrix: &[u32]) -> Vec<MatrixLevel> {
     let (flat, triples) = matrix.split_at(1 + s.depth_ho as usize);
     let mut levels = vec![MatrixLevel::Ll(flat[0] as i64)];
     levels.extend(flat[1..].iter().map(|&v| MatrixLevel::H(v as i64)));
@@ -316,7 +316,7 @@ fn levels(s: &Settings, matrix: &[u16]) -> Vec<MatrixLevel> {
 }
 
 /// Every field of the unit's head is the call's, and lengths are document 01's.
-fn check(s: &Settings, matrix: &[u16], bytes: &[u8], read: &Unit) -> Result<(), String> {
+fn check(s: &Settings, matrix: &[u32], bytes: &[u8], read: &Unit) -> Result<(), String> {
     let mut wrong = Vec::new();
     let mut expect = |what: &str, got: u64, wanted: u64| {
         if got != wanted {

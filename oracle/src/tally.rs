@@ -1,6 +1,5 @@
 //! Counts over a run of jobs, so that its coverage can be seen.
 
-use crate::jobs::{Answered, Job};
 use crate::picture::{Kind, Outcome, Rate, Settings};
 use crate::unit;
 use std::collections::BTreeMap;
@@ -14,19 +13,32 @@ pub struct Tally {
     accepted: BTreeMap<String, u64>,
     largest_scaler: u64,
     longest_unit: usize,
+    /// Luma width and height of the picture of most luma samples.
+    largest_picture: [u64; 2],
+    most_slices: u64,
 }
 
 impl Tally {
-    pub fn add(&mut self, answered: &Answered) {
+    /// A call of which only the answer counts.
+    pub fn add_answer(&mut self, answer: u32) {
         self.jobs += 1;
-        match &answered.outcome {
-            None => self.malformed += 1,
-            Some((job, outcome)) => {
-                *self.answers.entry(outcome.answer).or_default() += 1;
-                if outcome.answer == 0 {
-                    self.add_accepted(job, outcome);
-                }
-            }
+        *self.answers.entry(answer).or_default() += 1;
+    }
+
+    pub fn add_malformed(&mut self) {
+        self.jobs += 1;
+        self.malformed += 1;
+    }
+
+    pub fn add<T: Copy + Into<u32>>(
+        &mut self,
+        s: &Settings,
+        planes: &[Vec<T>; 3],
+        outcome: &Outcome,
+    ) {
+        self.add_answer(outcome.answer);
+        if outcome.answer == 0 {
+            self.add_accepted(s, planes, outcome);
         }
     }
 
@@ -34,19 +46,26 @@ impl Tally {
         *self.accepted.entry(what.into()).or_default() += n;
     }
 
-    fn add_accepted(&mut self, job: &Job, outcome: &Outcome) {
-        let s = job.settings();
+    fn add_accepted<T: Copy + Into<u32>>(
+        &mut self,
+        s: &Settings,
+        planes: &[Vec<T>; 3],
+        outcome: &Outcome,
+    ) {
         let read = unit::read(&outcome.unit, s.version_3()).expect("the unit was read before");
         let low_delay = s.kind == Kind::LowDelay;
         self.count(if low_delay { "low delay" } else { "high quality" }, 1);
         self.count(format!("wavelet {}", s.wavelet), 1);
         self.count(format!("format {}", s.format), 1);
         self.count(format!("depths {}", s.depth + s.depth_ho), 1);
-        let level_0 = s.padded(s.sizes()[0]).width >> (s.depth + s.depth_ho);
+        let [luma, colour] = s.sizes();
+        let level_0 = s.padded(luma).width >> (s.depth + s.depth_ho);
         let bits = [s.luma_excursion, s.colour_excursion, s.colour_excursion];
-        let above = |(plane, excursion): (&Vec<u32>, u32)| {
-            plane.iter().any(|&v| v >> Settings::sample_depth(excursion) != 0)
+        let above = |(plane, excursion): (&Vec<T>, u32)| {
+            let depth = Settings::sample_depth(excursion);
+            plane.iter().any(|&v| v.into() >> depth != 0)
         };
+        let sides = [luma.width, luma.height, colour.width, colour.height];
         for (what, holds) in [
             ("mixed wavelets", s.wavelet != s.wavelet_ho),
             ("horizontal-only levels", s.depth_ho != 0),
@@ -57,9 +76,10 @@ impl Tally {
             ("rate index", matches!(s.rate, Rate::Index(_))),
             ("rate bytes", matches!(s.rate, Rate::Bytes(_))),
             ("target 0", s.rate == Rate::Bytes(0)),
-            ("padded luma", s.padded(s.sizes()[0]).area() != s.sizes()[0].area()),
+            ("sides of 1 to 3", sides.into_iter().any(|side| side <= 3)),
+            ("padded luma", s.padded(luma).area() != luma.area()),
             ("slices without level-0 places", s.across as u64 > level_0),
-            ("samples above the depth", job.planes.iter().zip(bits).any(above)),
+            ("samples above the depth", planes.iter().zip(bits).any(above)),
             ("pictures with cut slices", outcome.cut != 0),
             ("raised scalers", outcome.scaler > s.scaler as u64),
             (
@@ -77,23 +97,37 @@ impl Tally {
         self.count("one-byte slices", one_byte as u64);
         self.largest_scaler = self.largest_scaler.max(outcome.scaler);
         self.longest_unit = self.longest_unit.max(outcome.unit.len());
+        self.most_slices = self.most_slices.max(s.slices());
+        if luma.area() > self.largest_picture[0] * self.largest_picture[1] {
+            self.largest_picture = [luma.width, luma.height];
+        }
     }
+}
+
+/// Answers and how often each was given.
+pub fn listed(answers: &BTreeMap<u32, u64>) -> String {
+    let answers: Vec<String> = answers.iter().map(|(a, n)| format!("{a}: {n}")).collect();
+    answers.join(", ")
 }
 
 impl fmt::Display for Tally {
     fn fmt(&self, f: &mut fmt::Formatter) -> fmt::Result {
-        let answers: Vec<String> = self.answers.iter().map(|(a, n)| format!("{a}: {n}")).collect();
         writeln!(
             f,
             "{} jobs, {} malformed, answers {}",
             self.jobs,
             self.malformed,
-            answers.join(", ")
+            listed(&self.answers)
         )?;
         writeln!(f, "of the accepted ones:")?;
         for (what, n) in &self.accepted {
             writeln!(f, "  {what}: {n}")?;
         }
-        write!(f, "  largest scaler {}, longest unit {}", self.largest_scaler, self.longest_unit)
+        let [width, height] = self.largest_picture;
+        write!(
+            f,
+            "  largest picture {width} x {height}, most slices {}, largest scaler {}, longest unit {}",
+            self.most_slices, self.largest_scaler, self.longest_unit
+        )
     }
 }
