@@ -3,13 +3,13 @@ use mathlib.Core.Path.{_≡_, refl, sym, ap, ap₂, _∙_}
 use mathlib.Core.Bool.{Bool, true, false}
 use mathlib.Core.List.{List, [], _∷_, _++_}
 use Prim.Native.Nat.{ℕ, zero, suc, _+_, _-_, _*_, _/_, _%_, _^_, _≤_, _<_}
-use native.Mathlib.Nat.{zero-div, mod-one, mod-lt, mod-eq-of-lt, mul-add-mod-self-right, div-one, div-div-eq-div-mul, pow-suc, pow-succ', mul-comm, mul-assoc, mul-one, add-mul, add-assoc, zero-add, zero-mul, zero-lt-suc, mod-eq-sub-mod, one-mul}
+use native.Mathlib.Nat.{zero-div, mod-one, mod-lt, mod-eq-of-lt, mul-add-mod-self-right, div-one, div-div-eq-div-mul, pow-suc, pow-succ', mul-comm, mul-assoc, mul-one, add-mul, add-assoc, zero-add, zero-mul, zero-lt-suc, mod-eq-sub-mod, one-mul, suc-add, add-comm}
 use native.Mathlib.Numerals.{add-one}
 use native.Mathlib.Omega.{arith}
 use lib.Arith.{digits-div, mod-mul}
 use lib.Dec.{eqb}
 use lib.ListN.{length, length-append, replicate, replicate-append-replicate}
-use lib.Pow.{pow-pos}
+use lib.Pow.{pow-pos, pow-lt, shr-shr, high, low}
 use mir.Val.{boolByte}
 use Rattle.codewords.specs.Bit.{Bits, val, lit, value, ones, zeros}
 
@@ -58,10 +58,19 @@ lit-more k p b =
     let m : (p * 2 + val b) % 2 ≡ val b = omega arith in
     rw (add-one k, lit-low k (p * 2 + val b), d, m, bit-val b)
 
--- the bits from place i on, after those from place i + 1 on
-pub lit-from : (k x i : ℕ) → lit (suc k) (x / 2 ^ i) ≡ lit k (x / 2 ^ suc i) ++ (eqb (x / 2 ^ i % 2) 1 ∷ [])
-lit-from k x i =
-    lit-low k (x / 2 ^ i) ∙ ap (λ (n : ℕ). lit k n ++ (eqb (x / 2 ^ i % 2) 1 ∷ [])) (div-div-eq-div-mul x (2 ^ i) 2 ∙ ap (λ (n : ℕ). x / n) (sym (pow-suc 2 i)))
+-- the j bits from place k on, and then the k low ones
+pub lit-split : (j k v : ℕ) → lit (j + k) v ≡ lit j (v / 2 ^ k) ++ lit k v
+unfolding lit
+lit-split zero k v = ap (λ (n : ℕ). lit n v) (zero-add k)
+lit-split (suc j) k v =
+    ap (λ (n : ℕ). lit n v) (suc-add j k)
+    ∙ ap₂ (λ (n : ℕ) (s : Bits). eqb (n % 2) 1 ∷ s) (ap (λ (i : ℕ). v / 2 ^ i) (add-comm j k) ∙ sym (shr-shr v k j)) (lit-split j k v)
+
+-- a byte up from place i - 8
+pub byte-up : (x i : ℕ) → 8 ≤ i → x / 2 ^ (i - 8) / 256 ≡ x / 2 ^ i
+byte-up x i h =
+    let e : i - 8 + 8 ≡ i = omega arith in
+    shr-shr x (i - 8) 8 ∙ ap (λ (j : ℕ). x / 2 ^ j) e
 
 -- ---- the numbers that bits say
 pub value-append : (s t : Bits) (a : ℕ) → value a (s ++ t) ≡ value (value a s) t
@@ -115,6 +124,13 @@ lit-mod k v =
     let e : value 0 w ≡ v % 2 ^ k = value-lit k v 0 ∙ omega (arith, zero-mul (2 ^ k)) in
     ap₂ lit (sym (length-lit k v)) (sym e) ∙ lit-value w 0
 
+-- the n low bits of v behind those of a
+pub lit-join : (p a n v : ℕ) → lit (p + n) (a * 2 ^ n + v % 2 ^ n) ≡ lit p a ++ lit n v
+lit-join p a n v =
+    let h = mod-lt v (pow-pos n) in
+    let x = a * 2 ^ n + v % 2 ^ n in
+    lit-split p n x ∙ ap₂ (λ (y : ℕ) (s : Bits). lit p y ++ s) (high a n h) (sym (lit-mod n x) ∙ ap (lit n) (low a n h) ∙ lit-mod n v)
+
 -- a number by its leading one and the bits below
 pub value-top : (k m : ℕ) → 2 ^ k ≤ m → m < 2 ^ suc k → value 1 (lit k m) ≡ m
 value-top k m lo hi =
@@ -138,3 +154,7 @@ pub lit-zeros : (k : ℕ) → lit k 0 ≡ zeros k
 unfolding lit
 lit-zeros zero = refl
 lit-zeros (suc k) = ap₂ (λ (n : ℕ) (s : Bits). eqb (n % 2) 1 ∷ s) (zero-div (2 ^ k)) (lit-zeros k)
+
+-- ---- a power of two as the machine shifts it
+pub one-shl : (n : ℕ) → n < 64 → 1 * 2 ^ n % 2 ^ 64 ≡ 2 ^ n
+one-shl n h = omega (arith, pow-lt {i = n} {j = 64} h)

@@ -5,10 +5,10 @@ use mathlib.Core.List.{List, [], _∷_, _++_, append-assoc, append-nil}
 use Prim.Native.Nat.{ℕ, zero, suc, _+_, _-_, _*_, _/_, _%_, _^_, _≤_, _<_}
 use native.Mathlib.Omega.{arith}
 use native.Mathlib.Numerals.{add-one}
-use native.Mathlib.Nat.{pow-suc, mul-mod-left, mod-eq-of-lt, zero-mul}
+use native.Mathlib.Nat.{pow-suc, mul-mod-left, mod-eq-of-lt, zero-mul, div-add-mod'}
 use lib.ListN.{length, length-append}
 use Rattle.codewords.specs.Bit.{Bits, val, lit, value}
-use Rattle.codewords.specs.BitLaws.{val-lt, length-lit, lit-none, lit-more, value-of-lit}
+use Rattle.codewords.specs.BitLaws.{val-lt, length-lit, lit-none, lit-more, lit-split, value-lit, value-of-lit}
 use Rattle.codewords.specs.Bytes.{pack, begun, toBytes, fromBytes}
 
 -- ---- parts one after the other
@@ -129,6 +129,50 @@ unfolding begun value
 begun-part n a [] h = ap (λ (k : ℕ). (k, a)) (omega arith)
 begun-part zero a (b ∷ w) h = absurd (omega arith)
 begun-part (suc n) a (b ∷ w) h = begun-part n (a * 2 + val b) w (omega arith) ∙ ap (λ (k : ℕ). (k, value (a * 2 + val b) w)) (omega arith)
+
+-- ---- the bits of one number
+-- what no byte holds yet
+begun-few : (k x : ℕ) → k < 8 → begun 7 0 (lit k x) ≡ (7 - k, x % 2 ^ k)
+begun-few k x h =
+    begun-part 7 0 (lit k x) (rw (length-lit k x) (omega arith))
+    ∙ ap₂ (λ (n y : ℕ). (7 - n, y)) (length-lit k x) (value-lit k x 0 ∙ omega (arith, zero-mul (2 ^ k)))
+
+pub begun-lit : (k x : ℕ) → begun 7 0 (lit k x) ≡ (7 - k % 8, x % 2 ^ (k % 8))
+begun-lit k x =
+    let i = k % 8 in
+    let w = lit (k / 8 * 8) (x / 2 ^ i) in
+    ap (λ (n : ℕ). begun 7 0 (lit n x)) (sym (div-add-mod' k 8)) ∙ ap (begun 7 0) (lit-split (k / 8 * 8) i x) ∙ begun-append 7 0 w (lit i x)
+    ∙ ap (λ (p : ℕ × ℕ). begun (p .0) (p .1) (lit i x)) (full-begun w (full-lit (k / 8 * 8) (x / 2 ^ i) (mul-mod-left (k / 8) 8)))
+    ∙ begun-few i x (omega arith)
+
+-- with the bits of a byte begun in front of it
+begun-is : (p a : ℕ) → p < 8 → a < 2 ^ p → begun 7 0 (lit p a) ≡ (7 - p, a)
+begun-is p a h l = begun-few p a h ∙ ap (λ (y : ℕ). (7 - p, y)) (mod-eq-of-lt l)
+
+pub pack-from : (p a : ℕ) (s : Bits) → p < 8 → a < 2 ^ p → toBytes (lit p a ++ s) ≡ pack (7 - p) a s
+pack-from p a s h l =
+    pack-append 7 0 (lit p a) s
+    ∙ ap₂ (λ (xs : List ℕ) (b : ℕ × ℕ). xs ++ pack (b .0) (b .1) s) (pack-part 7 0 (lit p a) (rw (length-lit p a) (omega arith))) (begun-is p a h l)
+
+pub begun-from : (p a : ℕ) (s : Bits) → p < 8 → a < 2 ^ p → begun 7 0 (lit p a ++ s) ≡ begun (7 - p) a s
+begun-from p a s h l = begun-append 7 0 (lit p a) s ∙ ap (λ (b : ℕ × ℕ). begun (b .0) (b .1) s) (begun-is p a h l)
+
+-- one byte more, and less than a byte more
+byte-lit : (x : ℕ) → toBytes (lit 8 x) ≡ x % 256 ∷ []
+byte-lit x =
+    ap toBytes (sym (append-nil (lit 8 x))) ∙ pack-fill 7 0 (lit 8 x) [] (length-lit 8 x)
+    ∙ ap₂ (λ (y : ℕ) (l : List ℕ). y ∷ l) (value-lit 8 x 0 ∙ omega arith) (pack-none 7 0)
+
+pub bytes-more : (j x : ℕ) → j % 8 ≡ 0 → toBytes (lit (j + 8) x) ≡ toBytes (lit j (x / 256)) ++ (x % 256 ∷ [])
+bytes-more j x h =
+    ap toBytes (lit-split j 8 x) ∙ toBytes-append (lit j (x / 256)) (lit 8 x) (full-lit j (x / 256) h)
+    ∙ ap (λ (b : List ℕ). toBytes (lit j (x / 256)) ++ b) (byte-lit x)
+
+pub bytes-rest : (j i x : ℕ) → j % 8 ≡ 0 → i < 8 → toBytes (lit (j + i) x) ≡ toBytes (lit j (x / 2 ^ i))
+bytes-rest j i x h l =
+    let w = lit j (x / 2 ^ i) in
+    ap toBytes (lit-split j i x) ∙ toBytes-append w (lit i x) (full-lit j (x / 2 ^ i) h)
+    ∙ ap (λ (b : List ℕ). toBytes w ++ b) (pack-part 7 0 (lit i x) (rw (length-lit i x) (omega arith))) ∙ append-nil (toBytes w)
 
 abbrev pub AllBytes : List ℕ → Type 0
 AllBytes [] = Unit {0}

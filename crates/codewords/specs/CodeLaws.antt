@@ -1,4 +1,4 @@
--- Laws of code words: lengths by the leading one, a word by its last pair, a signed word by its sign. Assumes nothing.
+-- Laws of code words: lengths by the leading one, a word by its parts, a signed word by its sign. Assumes nothing.
 use mathlib.Core.Path.{_≡_, refl, sym, ap, _∙_}
 use mathlib.Core.Bool.{Bool, true, false}
 use mathlib.Core.List.{List, [], _∷_, _++_, append-assoc, append-nil}
@@ -64,10 +64,10 @@ pub interleaved-none : interleaved [] ≡ []
 unfolding interleaved
 interleaved-none = refl
 
-pub interleaved-more : (s : Bits) (b : Bool) → interleaved (s ++ (b ∷ [])) ≡ interleaved s ++ (false ∷ b ∷ [])
+pub interleaved-append : (s t : Bits) → interleaved (s ++ t) ≡ interleaved s ++ interleaved t
 unfolding interleaved
-interleaved-more [] b = refl
-interleaved-more (x ∷ s) b = ap (λ (r : Bits). false ∷ x ∷ r) (interleaved-more s b)
+interleaved-append [] t = refl
+interleaved-append (x ∷ s) t = ap (λ (r : Bits). false ∷ x ∷ r) (interleaved-append s t)
 
 pub length-interleaved : (s : Bits) → length (interleaved s) ≡ 2 * length s
 unfolding interleaved

@@ -1,19 +1,20 @@
--- Laws of the bit writer: one bit, nothing, one write after another, and what is left of the room. Assumes nothing.
+-- Laws of the bit writer: one bit, several bits, nothing, one write after another, and what is left of the room. Assumes nothing.
 use mathlib.Core.Path.{_≡_, refl, sym, ap, ap₂, _∙_}
 use mathlib.Core.Bool.{Bool, true, false}
 use mathlib.Core.List.{List, [], _∷_, _++_}
 use Prim.Native.Nat.{ℕ, zero, suc, _+_, _-_, _*_, _/_, _%_, _^_, _≤_, _<_}
-use native.Mathlib.Nat.{pow-suc}
+use native.Mathlib.Nat.{pow-suc, mod-lt}
 use native.Mathlib.Numerals.{add-one}
 use native.Mathlib.Omega.{arith}
 use lib.ListN.{length, set, length-append, length-set}
-use lib.Pow.{pow-mono}
-use Rattle.laws.specs.Laid.{laid, laid-nil, laid-then}
+use lib.Arith.{digits-lt}
+use lib.Pow.{pow-mono, pow-pos, pow-add}
+use Rattle.laws.specs.Laid.{laid, laid-nil, laid-then, Lays}
 use Rattle.codewords.specs.declared.writer.BitWriter.{BitWriter}
-use Rattle.codewords.specs.Bit.{Bits, val}
-use Rattle.codewords.specs.BitLaws.{val-lt}
+use Rattle.codewords.specs.Bit.{Bits, val, lit}
+use Rattle.codewords.specs.BitLaws.{val-lt, length-lit, lit-join}
 use Rattle.codewords.specs.Bytes.{pack, begun, toBytes}
-use Rattle.codewords.specs.ByteLaws.{pack-append, begun-append, pack-none, begun-none, length-pack}
+use Rattle.codewords.specs.ByteLaws.{pack-append, begun-append, pack-none, begun-none, length-pack, length-toBytes, pack-from, begun-from, begun-lit}
 use Rattle.codewords.specs.Writer.{wants, Sound, Room, Wrote}
 
 pub wrote-none : {o : List ℕ} {w : BitWriter} {n : ℕ} → Room o w n → Wrote o w [] o w
@@ -78,6 +79,32 @@ wrote-part o w b s e =
       place = omega arith;
       sound = record { part = omega arith; small = rw (add-one, pow-suc) (omega (arith, s .small, val-lt b)) };
       size = refl;
+    }
+
+-- the bits begun and the n low bits of v as one number
+abbrev pub joined : BitWriter → ℕ → ℕ → ℕ
+joined w n v = w .pending * 2 ^ n + v % 2 ^ n
+
+pub joined-lt : (w : BitWriter) (n v : ℕ) → Sound w → n ≤ 56 → joined w n v < 2 ^ 63
+joined-lt w n v s h =
+    let p = w .«pending_bits» in
+    let l : joined w n v < 2 ^ p * 2 ^ n = digits-lt (s .small) (mod-lt v (pow-pos n)) in
+    omega (arith, l, pow-add 2 p n, pow-mono {i = p + n} {j = 63} (omega (arith, s .part)))
+
+-- its whole bytes were laid over the output, and the rest is begun
+pub wrote-bits : {o o′ : List ℕ} {w : BitWriter} {r : ℕ} (n v : ℕ) → Sound w → Lays o (w .at) (toBytes (lit (w .«pending_bits» + n) (joined w n v))) o′ r
+    → Wrote o w (lit n v) o′ (record { at = r; pending = joined w n v % 2 ^ ((w .«pending_bits» + n) % 8); «pending_bits» = (w .«pending_bits» + n) % 8 })
+wrote-bits {o} {o′} {w} {r} n v s l =
+    let p = w .«pending_bits» in
+    let a = w .pending in
+    let x = joined w n v in
+    let e : lit (p + n) x ≡ lit p a ++ lit n v = lit-join p a n v in
+    record {
+      out = l .is ∙ ap (laid o (w .at)) (ap toBytes e ∙ pack-from p a (lit n v) (s .part) (s .small));
+      rest = sym (begun-lit (p + n) x) ∙ ap (begun 7 0) e ∙ begun-from p a (lit n v) (s .part) (s .small);
+      place = omega (arith, l .next, length-toBytes (lit (p + n) x), length-lit (p + n) x, length-lit n v);
+      sound = record { part = omega arith; small = mod-lt x (pow-pos ((p + n) % 8)) };
+      size = l .size;
     }
 
 -- from the start of a byte the bytes laid are those of the bits

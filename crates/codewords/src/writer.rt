@@ -1,10 +1,13 @@
 // The writer of bits into a lent slice of bytes, high bits first. Its functions serve the layers above, which see to the room.
+ghost use mathlib.Core.Path.{_≡_};
 ghost use Prim.Native.Nat.{_+_, _-_, _*_, _≤_, _<_, _^_};
 ghost use mathlib.Core.Bool.{true};
 ghost use mathlib.Core.List.{[], _∷_, _++_};
 ghost use lib.ListN.{length};
+ghost use Rattle.laws.specs.Laid.{Lays};
 ghost use Rattle.codewords.specs.Bit.{lit, ones, zeros};
-ghost use Rattle.codewords.specs.Code.{interleaved, codeU, codeS};
+ghost use Rattle.codewords.specs.Bytes.{toBytes};
+ghost use Rattle.codewords.specs.Code.{interleaved, spreadBits, codeU, codeS};
 ghost use Rattle.codewords.specs.Writer.{Room, Wrote, Aligns, padding};
 
 // The place of the byte that is begun, the bits that it has so far, and how many they are.
@@ -37,18 +40,58 @@ pub fn put_bit(out: &mut [u8], w: BitWriter, bit: bool) -> BitWriter
     }
 }
 
+// The whole bytes of the k low bits of x, from at on.
+fn put_bytes(out: &mut [u8], at: usize, x: u64, k: u32) -> usize
+    requires { ⌜ (at * 8 + k ≤ 8 * length (now out)) × (k ≤ 64) ⌝ }
+    ensures { λ r. ⌜ Lays (now (out .entry)) at (toBytes (lit k x)) (now (out .exit)) r ⌝ }
+{
+    let mut left = k;
+    let mut place = at;
+    while 8 <= left {
+        left -= 8;
+        out[place] = ((x >> left) % 256) as u8;
+        place += 1;
+    }
+    place
+}
+
+// The n low bits of v, where they fit a word behind the bits begun.
+fn put_short(out: &mut [u8], w: BitWriter, v: u64, n: u32) -> BitWriter
+    requires { ⌜ Room (now out) w n × (n ≤ 56) ⌝ }
+    ensures { λ r. ⌜ Wrote (now (out .entry)) w (lit n v) (now (out .exit)) r ⌝ }
+{
+    let size: u64 = 1 << n;
+    let x = w.pending as u64 * size + v % size;
+    let k = w.pending_bits + n;
+    let at = put_bytes(out, w.at, x, k);
+    let rest: u64 = 1 << (k % 8);
+    BitWriter {
+        at,
+        pending: (x % rest) as u8,
+        pending_bits: k % 8,
+    }
+}
+
 // The n low bits of v.
 pub fn put_nbits(out: &mut [u8], w: BitWriter, v: u64, n: u32) -> BitWriter
     requires { ⌜ Room (now out) w n × (n ≤ 64) ⌝ }
     ensures { λ r. ⌜ Wrote (now (out .entry)) w (lit n v) (now (out .exit)) r ⌝ }
 {
-    let mut i = n;
-    let mut s = w;
-    while 0 < i {
-        i -= 1;
-        s = put_bit(out, s, (v >> i) % 2 == 1);
+    if n <= 56 {
+        return put_short(out, w, v, n);
     }
-    s
+    let s = put_short(out, w, v >> 32, n - 32);
+    put_short(out, s, v, 32)
+}
+
+// The 8 low bits of b, each moved to twice its place.
+fn spread(b: u64) -> u64
+    ensures { λ r. ⌜ (r ≡ spreadBits 8 b) × (r < 65536) ⌝ }
+{
+    let a = b % 256;
+    let x = (a | a << 4) & 0x0F0F;
+    let y = (x | x << 2) & 0x3333;
+    (y | y << 1) & 0x5555
 }
 
 // The bits of x below place n, each behind a 0, and then a 1.
@@ -58,12 +101,11 @@ fn put_interleaved(out: &mut [u8], w: BitWriter, x: u64, n: u32) -> BitWriter
 {
     let mut i = n;
     let mut s = w;
-    while 0 < i {
-        i -= 1;
-        s = put_bit(out, s, false);
-        s = put_bit(out, s, (x >> i) % 2 == 1);
+    while 8 < i {
+        i -= 8;
+        s = put_short(out, s, spread(x >> i), 16);
     }
-    put_bit(out, s, true)
+    put_short(out, s, 2 * spread(x) + 1, 2 * i + 1)
 }
 
 // The unsigned code word of x - 1.
@@ -82,17 +124,31 @@ pub fn put_uint(out: &mut [u8], w: BitWriter, v: u32) -> BitWriter
     put_code(out, w, v as u64 + 1)
 }
 
+// The unsigned code word of x - 1 and a bit behind it, at once.
+fn put_small(out: &mut [u8], w: BitWriter, x: u64, bit: bool) -> BitWriter
+    requires { ⌜ Room (now out) w (length (codeU (x - 1)) + 1) × ((0 < x) × (x < 512)) ⌝ }
+    ensures { λ r. ⌜ Wrote (now (out .entry)) w (codeU (x - 1) ++ (bit ∷ [])) (now (out .exit)) r ⌝ }
+{
+    let n = 63 - u64::leading_zeros(x);
+    let word = 2 * spread(x) + 1;
+    put_short(out, w, 2 * word + bit as u64, 2 * n + 2)
+}
+
 // The signed code word of v.
 pub fn put_sint(out: &mut [u8], w: BitWriter, v: i64) -> BitWriter
     requires { ⌜ Room (now out) w (length (codeS v)) ⌝ }
     ensures { λ r. ⌜ Wrote (now (out .entry)) w (codeS v) (now (out .exit)) r ⌝ }
 {
     let m = crate::unsigned_abs(v);
-    let s = put_code(out, w, m + 1);
     if m == 0 {
-        return s;
+        return put_bit(out, w, true);
     }
-    put_bit(out, s, v < 0)
+    let minus = v < 0;
+    if m < 511 {
+        return put_small(out, w, m + 1, minus);
+    }
+    let s = put_code(out, w, m + 1);
+    put_bit(out, s, minus)
 }
 
 // Zeros up to the end of the byte.

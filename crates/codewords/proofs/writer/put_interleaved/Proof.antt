@@ -1,26 +1,26 @@
 -- `codewords::writer::put_interleaved` meets its contract. The loop's invariant: the pairs of the bits of x from place i on are written.
 -- Assumes nothing.
-use mathlib.Core.Path.{_≡_, refl, sym, ap, ap₂, _∙_}
-use mathlib.Core.Bool.{Bool, true, false}
+use mathlib.Core.Path.{_≡_, ap, _∙_}
+use mathlib.Core.Bool.{true}
 use mathlib.Core.List.{List, [], _∷_, _++_, append-assoc}
-use Prim.Native.Nat.{ℕ, suc, _+_, _-_, _*_, _/_, _%_, _^_, _≤_, _<_}
-use native.Mathlib.Nat.{div-one}
+use Prim.Native.Nat.{ℕ, _+_, _-_, _*_, _/_, _^_, _≤_}
+use native.Mathlib.Nat.{le-refl}
 use native.Mathlib.Omega.{arith}
 use borrow.Author.Needs.{needs}
-use lib.Dec.{eqb}
-use lib.ListN.{length}
 use Rattle.codewords.specs.declared.writer.BitWriter.{BitWriter}
-use Rattle.codewords.specs.Bit.{Bits, lit}
-use Rattle.codewords.specs.BitLaws.{length-lit, lit-none, lit-from}
-use Rattle.codewords.specs.Code.{interleaved}
-use Rattle.codewords.specs.CodeLaws.{interleaved-none, interleaved-more, length-interleaved}
+use Rattle.codewords.specs.Bit.{lit}
+use Rattle.codewords.specs.BitLaws.{length-lit, lit-none, lit-split, byte-up}
+use Rattle.codewords.specs.Code.{interleaved, spreadBits}
+use Rattle.codewords.specs.CodeLaws.{interleaved-none, interleaved-append, length-interleaved}
+use Rattle.codewords.specs.WordLaws.{interleaved-spread, word-lit}
 use Rattle.codewords.specs.Writer.{Sound, Room, Wrote}
 use Rattle.codewords.specs.WriterLaws.{wrote-none, wrote-then, room-after}
 use Rattle.codewords.proofs.writer.put_interleaved.Statement.{statement}
 use Rattle.codewords.proofs.writer.put_interleaved.Tie as tie
 use Rattle.codewords.proofs.writer.put_interleaved.Reads as reads
 use Rattle.codewords.proofs.writer.put_interleaved.Lts as lts
-use Rattle.codewords.proofs.writer.put_bit.Reads as put-bit-reads
+use Rattle.codewords.proofs.writer.put_short.Reads as put-short-reads
+use Rattle.codewords.proofs.writer.spread.Reads as spread-reads
 
 abbrev Inv-loop : tie.InvT-loop
 Inv-loop out₀ x n i₀ s₀ out i s = (i ≤ n) × Wrote out₀ s₀ (interleaved (lit (n - i) (x / 2 ^ i))) out s
@@ -28,14 +28,20 @@ Inv-loop out₀ x n i₀ s₀ out i s = (i ≤ n) × Wrote out₀ s₀ (interlea
 abbrev μ-loop : tie.MeasureT-loop
 μ-loop out₀ x n i₀ s₀ out i s = i
 
--- one pair more
-again : {o o₁ o₂ o₃ : List ℕ} {w s₁ s₂ s₃ : BitWriter} (n i x : ℕ) → 0 < i → i ≤ n → Sound w
-    → Wrote o w (interleaved (lit (n - i) (x / 2 ^ i))) o₁ s₁ → Wrote o₁ s₁ (false ∷ []) o₂ s₂ → Wrote o₂ s₂ (eqb (x / 2 ^ (i - 1) % 2) 1 ∷ []) o₃ s₃
-    → Wrote o w (interleaved (lit (n - (i - 1)) (x / 2 ^ (i - 1)))) o₃ s₃
-again n i x p l s inv q r =
-    let e₁ : n - (i - 1) ≡ suc (n - i) = omega arith in
-    let e₂ : suc (i - 1) ≡ i = omega arith in
-    rw (e₁, lit-from (n - i) x (i - 1), e₂, interleaved-more) (wrote-then s inv (wrote-then (inv .sound) q r))
+-- eight pairs more
+again : {o o₁ o₂ : List ℕ} {w s₁ s₂ : BitWriter} (n i x r : ℕ) → 8 ≤ i → i ≤ n → Sound w → r ≡ spreadBits 8 (x / 2 ^ (i - 8))
+    → Wrote o w (interleaved (lit (n - i) (x / 2 ^ i))) o₁ s₁ → Wrote o₁ s₁ (lit 16 r) o₂ s₂
+    → Wrote o w (interleaved (lit (n - (i - 8)) (x / 2 ^ (i - 8)))) o₂ s₂
+again n i x r h l s f inv q =
+    let y = x / 2 ^ (i - 8) in
+    let e : n - (i - 8) ≡ n - i + 8 = omega arith in
+    rw (e, lit-split (n - i) 8 y, byte-up x i h, interleaved-append, interleaved-spread 8 8 y (le-refl 8)) (wrote-then s inv (rw f at q))
+
+-- the pairs from place i on, and then the others
+parts : (n i x : ℕ) → i ≤ n → interleaved (lit n x) ++ (true ∷ []) ≡ interleaved (lit (n - i) (x / 2 ^ i)) ++ (interleaved (lit i x) ++ (true ∷ []))
+parts n i x l =
+    let e : n ≡ n - i + i = omega arith in
+    ap (λ (k : ℕ). interleaved (lit k x) ++ (true ∷ [])) e ∙ rw (lit-split (n - i) i x, interleaved-append, append-assoc)
 
 -- at the loop's head there is room for the pairs that are left and the last 1
 room-at : (c : tie.At-loop Inv-loop μ-loop) → Room (c .loop .out) (c .loop .s) (2 * c .loop .i + 1)
@@ -53,54 +59,61 @@ loop-holds c =
     (omega arith, rw (none, lit-none (x / 2 ^ n), interleaved-none) (wrote-none (c .before .pre .0)))
 
 sub-i : tie.Need-sub-i Inv-loop μ-loop
-sub-i c = search needs
+sub-i c = omega arith
 
-put-bit-requires : tie.Need-put-bit-requires Inv-loop μ-loop
-put-bit-requires c κs =
-    let r = room-at (c .before .before) in
-    record { sound = r .sound; room = omega (arith, r .room, c .before .loop-test .taken) }
+cast-spread : tie.Need-cast-spread Inv-loop μ-loop
+cast-spread c = omega (arith, c .before .before .before .before .pre .1, c .before .before .loop .inv .0)
 
-cast-put-bit : tie.Need-cast-put-bit Inv-loop μ-loop
-cast-put-bit c =
-    omega (arith, c .before .before .before .before .before .before .before .before .pre .1, c .before .before .before .before .before .before .loop .inv .0)
+shr-spread : tie.Need-shr-spread Inv-loop μ-loop
+shr-spread c = omega (arith, c .before .before .before .before .pre .1, c .before .before .loop .inv .0)
 
-shr-put-bit : tie.Need-shr-put-bit Inv-loop μ-loop
-shr-put-bit c =
-    omega (arith, c .before .before .before .before .before .before .before .before .pre .1, c .before .before .before .before .before .before .loop .inv .0)
+spread-requires : tie.Need-spread-requires Inv-loop μ-loop
+spread-requires c κs = search needs
 
-put-bit-requires-2 : tie.Need-put-bit-requires-2 Inv-loop μ-loop
-put-bit-requires-2 c κs =
-    let r = room-at (c .before .before .before .before .before .before) in
-    let p = c .before .before .before .before .before .loop-test .taken in
-    room-after {n = 2} 1 (record { sound = r .sound; room = omega (arith, r .room, p) }) (c .before .before .before .put-bit .ensures) (omega arith)
+put-short-requires : tie.Need-put-short-requires Inv-loop μ-loop
+put-short-requires c κs =
+    let r = room-at (c .before .before .before) in
+    (record { sound = r .sound; room = omega (arith, r .room, c .before .before .loop-test .taken) }, omega arith)
 
 loop-less : tie.Need-loop-less Inv-loop μ-loop
-loop-less c = search needs
+loop-less c = omega arith
 
 loop-again : tie.Need-loop-again Inv-loop μ-loop
 loop-again c =
-    let st = c .before .before .before .before .before .before .before .before .before .before .before in
-    let l = c .before .before .before .before .before .before .before .before .before .loop in
-    let t : 0 < l .i = c .before .before .before .before .before .before .before .before .loop-test .taken in
-    (omega (arith, l .inv .0), again (st .args .n) (l .i) (st .args .x) t (l .inv .0) (st .pre .0 .sound) (l .inv .1) (c .before .before .before .before .before .before .put-bit .ensures) (c .before .before .put-bit2 .ensures))
+    let st = c .before .before .before .before .before .before .before .before in
+    let l = c .before .before .before .before .before .before .loop in
+    let t = c .before .before .before .before .before .loop-test .taken in
+    (omega (arith, l .inv .0), again (st .args .n) (l .i) (st .args .x) (c .before .before .before .spread .result) (omega arith) (l .inv .0) (st .pre .0 .sound) (c .before .before .before .spread .ensures .0) (l .inv .1) (c .before .before .put-short .ensures))
 
-put-bit-requires-3 : tie.Need-put-bit-requires-3 Inv-loop μ-loop
-put-bit-requires-3 c κs =
-    let r = room-at (c .before .before) in
-    record { sound = r .sound; room = omega (arith, r .room) }
+spread-requires-2 : tie.Need-spread-requires-2 Inv-loop μ-loop
+spread-requires-2 c κs = search needs
+
+mul-put-short : tie.Need-mul-put-short Inv-loop μ-loop
+mul-put-short c = omega arith
+
+add-put-short : tie.Need-add-put-short Inv-loop μ-loop
+add-put-short c = omega arith
+
+mul-put-short-2 : tie.Need-mul-put-short-2 Inv-loop μ-loop
+mul-put-short-2 c = omega arith
+
+add-put-short-2 : tie.Need-add-put-short-2 Inv-loop μ-loop
+add-put-short-2 c = omega arith
+
+put-short-requires-2 : tie.Need-put-short-requires-2 Inv-loop μ-loop
+put-short-requires-2 c κs = (room-at (c .before .before .before), omega (arith, c .before .before .loop-test .left))
 
 same-length : tie.Need-same-length Inv-loop μ-loop
 same-length c =
-    c .before .before .put-bit3 .ensures .size ∙ c .before .before .before .before .before .loop .inv .1 .size
+    c .before .before .put-short2 .ensures .size ∙ c .before .before .before .before .before .before .loop .inv .1 .size
 
 returns : tie.Need-returns Inv-loop μ-loop
 returns c =
-    let st = c .before .before .before .before .before .before .before in
-    let l = c .before .before .before .before .before .loop in
-    let z : l .i ≡ 0 = omega (arith, c .before .before .before .before .loop-test .left) in
-    let e : lit (st .args .n - l .i) (st .args .x / 2 ^ l .i) ≡ lit (st .args .n) (st .args .x) =
-    ap₂ lit (omega arith) (ap (λ (k : ℕ). st .args .x / 2 ^ k) z ∙ div-one (st .args .x)) in
-    wrote-then (st .pre .0 .sound) (rw e at (l .inv .1)) (c .before .before .put-bit3 .ensures)
+    let st = c .before .before .before .before .before .before .before .before in
+    let l = c .before .before .before .before .before .before .loop in
+    let r = c .before .before .before .spread2 in
+    rw (parts (st .args .n) (l .i) (st .args .x) (l .inv .0), word-lit (l .i) (st .args .x) (c .before .before .before .before .before .loop-test .left))
+    (wrote-then (st .pre .0 .sound) (l .inv .1) (rw (r .ensures .0) at (c .before .before .put-short2 .ensures)))
 
 pub put-interleaved-spec : {M : Type 1} → statement M
 put-interleaved-spec =
@@ -110,12 +123,17 @@ put-interleaved-spec =
     μ-loop
     loop-holds
     sub-i
-    put-bit-requires
-    cast-put-bit
-    shr-put-bit
-    put-bit-requires-2
+    cast-spread
+    shr-spread
+    spread-requires
+    put-short-requires
     loop-less
     loop-again
-    put-bit-requires-3
+    spread-requires-2
+    mul-put-short
+    add-put-short
+    mul-put-short-2
+    add-put-short-2
+    put-short-requires-2
     same-length
     returns)

@@ -1,0 +1,79 @@
+-- Code words as numbers: their pairs by the bits at twice their places. Assumes nothing.
+use mathlib.Core.Path.{_≡_, refl, sym, ap, ap₂, _∙_}
+use mathlib.Core.Bool.{Bool, true, false}
+use mathlib.Core.List.{[], _∷_, _++_, append-assoc}
+use Prim.Native.Nat.{ℕ, zero, suc, _+_, _-_, _*_, _/_, _%_, _^_, _≤_, _<_}
+use native.Mathlib.Nat.{mod-lt, zero-add, zero-lt-suc, pow-suc}
+use native.Mathlib.Numerals.{add-one}
+use native.Mathlib.Omega.{arith}
+use lib.ListN.{getD}
+use lib.IntN.{ℤ, natAbs}
+use lib.Dec.{eqb}
+use lib.Pow.{field, mod-mod-pow}
+use lib.Bits.{bitAnd, bitOr}
+use mir.Val.{boolByte}
+use Rattle.laws.specs.Rows.{span, getD-span}
+use Rattle.codewords.specs.Bit.{Bits, val, lit}
+use Rattle.codewords.specs.BitLaws.{val-bit, byte-val, lit-none, lit-low, lit-more}
+use Rattle.codewords.specs.Code.{log2In, log2, interleaved, spreadBits, codeU, codeS}
+use Rattle.codewords.specs.CodeLaws.{interleaved-none, interleaved-append, codeU-is, codeS-none}
+
+-- ---- the bits of a number, each at twice its place
+pub spread-lt : (k b : ℕ) → spreadBits k b < 4 ^ k
+unfolding spreadBits
+spread-lt zero b = omega arith
+spread-lt (suc k) b = rw (pow-suc 4 k) (omega (arith, spread-lt k (b / 2)))
+
+pub spread-mod : (k b : ℕ) → spreadBits k (b % 2 ^ k) ≡ spreadBits k b
+unfolding spreadBits
+spread-mod zero b = refl
+spread-mod (suc k) b =
+    rw (← add-one k) (ap₂ (λ (x y : ℕ). x * 4 + y) (ap (spreadBits k) (field b k 1) ∙ spread-mod k (b / 2)) (mod-mod-pow b k 1))
+
+-- by the machine's operations: halves of the byte apart, then of each half, then of each quarter
+abbrev pub steps : ℕ → ℕ
+steps a =
+    let x = bitAnd (bitOr a (a * 2 ^ 4 % 2 ^ 64)) 0x0F0F in
+    let y = bitAnd (bitOr x (x * 2 ^ 2 % 2 ^ 64)) 0x3333 in
+    bitAnd (bitOr y (y * 2 ^ 1 % 2 ^ 64)) 0x5555
+
+-- antt computes both at the 256 numbers
+table : (f : ℕ → ℕ) (a : ℕ) → a < 256 → getD (span f 0 256) a 0 ≡ f a
+table f a h = getD-span f 0 256 a 0 h ∙ ap f (zero-add a)
+
+pub spread-steps : (a : ℕ) → a < 256 → steps a ≡ spreadBits 8 a
+unfolding spreadBits
+spread-steps a h = sym (table steps a h) ∙ table (spreadBits 8) a h
+
+-- the n low bits of x, each behind a 0
+pub interleaved-spread : (n k x : ℕ) → n ≤ k → interleaved (lit n x) ≡ lit (2 * n) (spreadBits k x)
+unfolding interleaved spreadBits
+interleaved-spread zero k x h = ap interleaved (lit-none x) ∙ interleaved-none ∙ sym (lit-none (spreadBits k x))
+interleaved-spread (suc n) zero x h = absurd (omega arith)
+interleaved-spread (suc n) (suc k) x h =
+    let t = spreadBits k (x / 2) in
+    let b = eqb (x % 2) 1 in
+    let v = val-bit (x % 2) (mod-lt x (zero-lt-suc 1)) in
+    let e : t * 4 + x % 2 ≡ (t * 2 + val false) * 2 + val b = omega arith in
+    let g : 2 * suc n ≡ 2 * n + 1 + 1 = omega arith in
+    ap interleaved (lit-low n x) ∙ interleaved-append (lit n (x / 2)) (b ∷ [])
+    ∙ ap (λ (s : Bits). s ++ (false ∷ b ∷ [])) (interleaved-spread n k (x / 2) (omega arith))
+    ∙ sym (ap₂ lit g e ∙ lit-more (2 * n + 1) (t * 2 + val false) b ∙ ap (λ (s : Bits). s ++ (b ∷ [])) (lit-more (2 * n) t false) ∙ append-assoc (lit (2 * n) t) (false ∷ []) (b ∷ []))
+
+-- and then a 1
+pub word-lit : (n x : ℕ) → n ≤ 8 → interleaved (lit n x) ++ (true ∷ []) ≡ lit (2 * n + 1) (2 * spreadBits 8 x + 1)
+word-lit n x h =
+    let e : spreadBits 8 x * 2 + val true ≡ 2 * spreadBits 8 x + 1 = omega arith in
+    ap (λ (s : Bits). s ++ (true ∷ [])) (interleaved-spread n 8 x h) ∙ sym (lit-more (2 * n) (spreadBits 8 x) true) ∙ ap (lit (2 * n + 1)) e
+
+-- the word of x - 1, by the place of x's leading one, and a bit behind it
+pub code-lit : (x n : ℕ) (b : Bool) → 0 < x → n ≡ log2 x → n ≤ 8 → codeU (x - 1) ++ (b ∷ []) ≡ lit (2 * n + 2) (2 * (2 * spreadBits 8 x + 1) + boolByte b)
+code-lit x n b p e h =
+    let y = 2 * spreadBits 8 x + 1 in
+    let k : 2 * n + 1 + 1 ≡ 2 * n + 2 = omega arith in
+    let z : y * 2 + val b ≡ 2 * y + boolByte b = omega (arith, byte-val b) in
+    ap (λ (w : Bits). w ++ (b ∷ [])) (codeU-is x n p e ∙ word-lit n x h) ∙ sym (lit-more (2 * n + 1) y b) ∙ ap₂ lit k z
+
+pub codeS-zero : (z : ℤ) (m : ℕ) → m ≡ natAbs z → m ≡ 0 → codeS z ≡ true ∷ []
+unfolding codeU log2 log2In interleaved lit
+codeS-zero z m e h = codeS-none z m e h ∙ ap codeU h
