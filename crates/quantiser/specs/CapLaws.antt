@@ -1,9 +1,9 @@
 -- Laws of the cap, of factors and of offsets. Assumes nothing.
-use mathlib.Core.Path.{_≡_, refl}
+use mathlib.Core.Path.{_≡_, refl, sym}
 use Prim.Native.Nat.{ℕ, zero, suc, _+_, _*_, _-_, _/_, _%_, _^_, _≤_, _<_}
 use native.Mathlib.Nat.{pow-suc}
 use native.Mathlib.Omega.{arith}
-use lib.Pow.{pow-pos}
+use lib.Pow.{pow-pos, pow-mono}
 use Rattle.quantiser.specs.Standard.{factorBy, factor, offset}
 use Rattle.quantiser.specs.Quant.{cap, quantFactor, cappedOffsetBy, quantOffset}
 
@@ -71,7 +71,33 @@ pub factor-same : (i : ℕ) → quantFactor i < 2 ^ 63 - 1 → factor i ≡ quan
 unfolding quantFactor cap
 factor-same i h = omega arith
 
--- what `factor_at` says of its result
+-- ---- a factor as the code makes it: by the formulas below index 128, where the base is small and the factor is not capped
+pub factorBy-rest : (r base : ℕ) → 3 ≤ r → (440253 * base + 32722) / 65444 ≡ factorBy r base
+factorBy-rest zero base h = absurd (omega arith)
+factorBy-rest (suc zero) base h = absurd (omega arith)
+factorBy-rest (suc (suc zero)) base h = absurd (omega arith)
+factorBy-rest (suc (suc (suc r))) base h = refl
+
+factorBy-lt : (r base : ℕ) → base ≤ 2 ^ 31 → factorBy r base < 2 ^ 63
+factorBy-lt zero base h = omega arith
+factorBy-lt (suc zero) base h = omega arith
+factorBy-lt (suc (suc zero)) base h = omega arith
+factorBy-lt (suc (suc (suc r))) base h = omega arith
+
+pub record Base (i : ℕ) : Type 0 where
+  pub is : 1 * 2 ^ (i / 4) % 2 ^ 64 ≡ 2 ^ (i / 4)
+  pub small : 2 ^ (i / 4) ≤ 2 ^ 31
+
+pub base-small : (i : ℕ) → i < 128 → Base i
+base-small i h =
+    let b : 2 ^ (i / 4) ≤ 2 ^ 31 = pow-mono {j = 31} (omega arith) in
+    record { is = omega arith; small = b }
+
+pub factor-low : (i : ℕ) → i < 128 → factorBy (i % 4) (2 ^ (i / 4)) ≡ quantFactor i
+unfolding quantFactor factor
+factor-low i h = sym (cap-same (factorBy-lt (i % 4) (2 ^ (i / 4)) (base-small i h .small)))
+
+-- what `table_at` and `factor_at` say of their results
 pub is-factor : (i r : ℕ) → r ≡ quantFactor i → (r ≡ quantFactor i) × ((4 ≤ r) × (r < 2 ^ 63))
 is-factor i r e = (e, (rw e (quantFactor-least i), rw e (quantFactor-lt i)))
 

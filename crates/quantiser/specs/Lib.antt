@@ -10,5 +10,6 @@ pub mod CellLaws
 pub mod CapLaws
 pub mod SignLaws
 pub mod StepLaws
+pub mod LengthLaws
 pub mod QuantLaws
 pub mod Examples

@@ -1,6 +1,7 @@
 // The 256 factors, and the offsets from them.
 ghost use mathlib.Core.Path.{_≡_};
 ghost use Prim.Native.Nat.{_≤_, _<_, _^_};
+ghost use Rattle.quantiser.specs.Standard.{factorBy};
 ghost use Rattle.quantiser.specs.Quant.{quantFactor, quantOffset};
 
 const FACTORS: [u64; 256] = [
@@ -262,12 +263,41 @@ const FACTORS: [u64; 256] = [
     9223372036854775807,
 ];
 
-// For the layers above.
-pub fn factor_at(index: u32) -> u64
+// A factor by the table.
+fn table_at(index: u32) -> u64
     requires { ⌜ index ≤ 255 ⌝ }
     ensures { λ r. ⌜ (r ≡ quantFactor index) × ((4 ≤ r) × (r < 2 ^ 63)) ⌝ }
 {
     FACTORS[index as usize]
+}
+
+// The standard's formulas, by the index's remainder and the base, 2 to the power of its quotient by 4.
+fn factor_by(remainder: u32, base: u64) -> u64
+    requires { ⌜ base ≤ 2 ^ 31 ⌝ }
+    ensures { λ r. ⌜ r ≡ factorBy remainder base ⌝ }
+{
+    if remainder == 0 {
+        return 4 * base;
+    }
+    if remainder == 1 {
+        return (503829 * base + 52958) / 105917;
+    }
+    if remainder == 2 {
+        return (665857 * base + 58854) / 117708;
+    }
+    (440253 * base + 32722) / 65444
+}
+
+// Below index 128 by the standard's formulas, whose terms stay below 2^64 there; from 128 on by the table. For the layers above.
+pub fn factor_at(index: u32) -> u64
+    requires { ⌜ index ≤ 255 ⌝ }
+    ensures { λ r. ⌜ (r ≡ quantFactor index) × ((4 ≤ r) × (r < 2 ^ 63)) ⌝ }
+{
+    if index >= 128 {
+        return table_at(index);
+    }
+    let one: u64 = 1;
+    factor_by(index % 4, one << (index / 4))
 }
 
 // For the layers above.

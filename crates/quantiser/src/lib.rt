@@ -4,7 +4,9 @@ pub mod factors;
 
 ghost use mathlib.Core.Path.{_≡_};
 ghost use Prim.Native.Nat.{ℕ, _+_, _*_, _/_, _%_, _≤_, _<_, _^_};
-ghost use lib.IntN.{ℤ, pos};
+ghost use lib.ListN.{length};
+ghost use lib.IntN.{ℤ, pos, natAbs};
+ghost use Rattle.codewords.specs.Code.{log2, codeS};
 ghost use Rattle.quantiser.specs.Answer.{Answered};
 ghost use Rattle.quantiser.specs.Standard.{signed};
 ghost use Rattle.quantiser.specs.Quant.{cap, quantFactor, quantOffset, forwardBy, forwardQuant, inverseBy, inverseQuant};
@@ -110,6 +112,26 @@ pub fn forward_by(c: i64, f: u64) -> i64
     };
     let four = doubled(doubled(once, f), f);
     signed(c, cap(four.quotient))
+}
+
+// The place of the leading one of n / f, without the quotient: f, moved up until its leading one is at n's place, is above n or not.
+fn quotient_log2(n: u64, f: u64) -> u32
+    requires { ⌜ (0 < f) × (f ≤ n) ⌝ }
+    ensures { λ r. ⌜ r ≡ log2 (n / f) ⌝ }
+{
+    let d = u64::leading_zeros(f) - u64::leading_zeros(n);
+    if n < (f << d) { d - 1 } else { d }
+}
+
+// How many bits the code word of forward_by's number has, without the quotient: the number's magnitude and one are (4 |c| + f) / f. For the
+// layers above.
+pub fn forward_len_by(c: i64, f: u64) -> u32
+    requires { ⌜ ((4 ≤ f) × (f < 2 ^ 63)) × (natAbs c < 2 ^ 60) ⌝ }
+    ensures { λ r. ⌜ r ≡ length (codeS (forwardBy f c)) ⌝ }
+{
+    let n = 4 * codewords::unsigned_abs(c) + f;
+    let e = quotient_log2(n, f);
+    if e == 0 { 1 } else { 2 * e + 2 }
 }
 
 // The product, capped.
