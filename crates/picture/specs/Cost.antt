@@ -3,7 +3,7 @@ use mathlib.Core.Path.{_≡_}
 use mathlib.Core.Bool.{Bool, true, false, cond}
 use mathlib.Core.List.{List, [], _∷_}
 use Prim.Native.Nat.{ℕ, zero, suc, _+_, _*_, _≤_, _<_, _^_}
-use lib.Dec.{leb}
+use lib.Dec.{leb, eqb}
 use lib.IntN.{ℤ, pos, negsuc}
 use lib.ListN.{length}
 use Rattle.codewords.specs.Code.{codeS}
@@ -40,6 +40,10 @@ kept c none n = record {
 
 pub record Kept (c : Cost) (none : Bool) (n : ℕ) (r : Cost) : Type 0 where
   pub is : r ≡ kept c none n
+
+-- one number more, whose code word has n bits: one bit is the number 0
+abbrev pub addLen : Cost → ℕ → Cost
+addLen c n = fitted (kept c (eqb n 1) (c .bits + n))
 
 abbrev pub add1 : Cost → ℤ → Cost
 add1 c z = fitted (kept c (isZero z) (c .bits + length (codeS z)))

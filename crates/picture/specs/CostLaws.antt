@@ -11,19 +11,16 @@ use lib.Dec.{leb, eqb}
 use lib.IntN.{ℤ, pos, negsuc, natAbs}
 use lib.ListN.{length, take, length-append, length-take}
 use lib.Seq.{take-take, take-all, append-snoc}
-use mir.Syntax.{w64}
-use mir.Val.{SFits, ofZ}
 use Rattle.laws.specs.Chunks.{chunks}
-use Rattle.laws.specs.Wrap.{ofZ-law}
 use Rattle.codewords.specs.Code.{codeS, codes}
-use Rattle.codewords.specs.CodeLaws.{codes-more}
+use Rattle.codewords.specs.CodeLaws.{codes-more, length-codeS-zero, length-codeS}
 use Rattle.unit.specs.Trim.{trimCons, trimmed, bitsOf, trimmedCost, fitPrefix}
 use Rattle.unit.specs.TrimLaws.{Small, bits-most, fit-prefix}
 use Rattle.picture.specs.declared.strip.Strip.{Strip}
 use Rattle.picture.specs.declared.cost.Cost.{Cost}
 use Rattle.picture.specs.Run.{numberIn, secondNumber, placeNumbers}
 use Rattle.picture.specs.RunLaws.{second-one, second-none, place-is}
-use Rattle.picture.specs.Cost.{isZero, fitted, kept, add1, addAll, noCost, Countable, Kept}
+use Rattle.picture.specs.Cost.{isZero, fitted, kept, addLen, add1, addAll, noCost, Countable, Kept}
 
 -- ---- one number, as the code adds it
 pub kept-yes : (c : Cost) (none : Bool) (n : ℕ) → none ≡ true
@@ -56,14 +53,14 @@ fitted-yes c h = sym (fitted-by c true (le-leb (c .bits) (c .room) h))
 pub fitted-no : (c : Cost) → c .room < c .bits → c ≡ fitted c
 fitted-no c h = sym (fitted-by c false (lt-leb (c .bits) (c .room) h))
 
--- the test of the code, on bits
-zero-test : (z : ℤ) → SFits w64 z → eqb (ofZ w64 z) 0 ≡ isZero z
-zero-test (pos zero) f = eq-eqb (ofZ w64 (pos zero)) 0 (omega (arith, ofZ-law (pos zero) f))
-zero-test (pos (suc n)) f = ne-eqb (ofZ w64 (pos (suc n))) 0 (λ e. omega (arith, ofZ-law (pos (suc n)) f))
-zero-test (negsuc n) f = ne-eqb (ofZ w64 (negsuc n)) 0 (λ e. omega (arith, ofZ-law (negsuc n) f, f .sfits))
+-- only the code word of 0 has one bit
+one-bit : (z : ℤ) (n : ℕ) → n ≡ length (codeS z) → eqb n 1 ≡ isZero z
+one-bit (pos zero) n e = eq-eqb n 1 (e ∙ length-codeS-zero (pos zero) refl)
+one-bit (pos (suc m)) n e = ne-eqb n 1 (λ d. omega (arith, e, length-codeS (pos (suc m)) (omega arith)))
+one-bit (negsuc m) n e = ne-eqb n 1 (λ d. omega (arith, e, length-codeS (negsuc m) (omega arith)))
 
-pub added-by : (c : Cost) (z : ℤ) (n : ℕ) (k r : Cost) → SFits w64 z → n ≡ length (codeS z) → k ≡ kept c (eqb (ofZ w64 z) 0) (c .bits + n) → r ≡ fitted k → r ≡ add1 c z
-added-by c z n k r h e d f = f ∙ ap fitted (d ∙ ap₂ (λ (b : Bool) (n : ℕ). kept c b (c .bits + n)) (zero-test z h) e)
+pub added-len : (c : Cost) (z : ℤ) (n : ℕ) (r : Cost) → n ≡ length (codeS z) → r ≡ addLen c n → r ≡ add1 c z
+added-len c z n r e d = d ∙ ap₂ (λ (b : Bool) (n : ℕ). fitted (kept c b (c .bits + n))) (one-bit z n e) e
 
 -- ---- one after the other
 pub added-append : (c : Cost) (xs ys : List ℤ) → addAll c (xs ++ ys) ≡ addAll (addAll c xs) ys

@@ -4,9 +4,9 @@ use mathlib.Core.Bool.{Bool, true, false}
 use mathlib.Core.List.{List, _++_}
 use Prim.Native.Nat.{ℕ, _+_, _*_, _^_, _≤_, _<_, max}
 use lib.Dec.{leb}
-use lib.IntN.{ℤ}
+use lib.IntN.{ℤ, pos}
 use lib.ListN.{length}
-use Rattle.laws.specs.Rows.{span}
+use Rattle.laws.specs.Rows.{at, span}
 use Rattle.laws.specs.Chunks.{chunks}
 use Rattle.codewords.specs.Bit.{Bits}
 use Rattle.codewords.specs.Bytes.{toBytes}
@@ -109,6 +109,12 @@ pub record PlansTo (w : List ℤ) (p : Picture) (t : Terms) (from n : ℕ) (r : 
   pub cut : r .«cut_slices» ≡ 0
   pub largest : r .largest ≡ largestNeed (plansIn w p t n)
   pub few : r .largest ≤ 2 ^ 30
+
+-- v is w with the indices of the first n slices noted behind the coefficients, as far as it reaches
+pub record Notes (w : List ℤ) (p : Picture) (t : Terms) (n : ℕ) (v : List ℤ) : Type 0 where
+  pub size : length v ≡ length w
+  pub same : (i : ℕ) → i < p .end → at v i ≡ at w i
+  pub index : (k : ℕ) → k < n → p .end + k < length v → at v (p .end + k) ≡ pos (indexIn w p t k)
 
 -- what a call's settings ask of the planning
 pub record HighIn (s : Settings) (p : Picture) (w : List ℤ) : Type 0 where

@@ -19,6 +19,7 @@ use Rattle.unit.specs.SliceLaws.{partSize-most}
 use Rattle.unit.specs.Trim.{trimmedCost}
 use Rattle.unit.specs.TrimLaws.{cost-most}
 use Rattle.unit.specs.Elect.{elect}
+use Rattle.unit.specs.ElectLaws.{elected}
 use Rattle.unit.specs.Valid.{RateFits}
 use Rattle.unit.specs.HighQuality.{ceiling, needOf, sliceSize, shareOf}
 use Rattle.picture.specs.declared.cost.Cost.{Cost}
@@ -131,3 +132,15 @@ module _ (w : List ℤ) (p : Picture) (t : Terms) (k : ℕ) where
   index-elected b d share q e f g h =
       h ∙ ap (λ (s : ℕ). elect 0 255 (fitsBy (t .prefix) (t .scaler) s (numbersIn w p k))) (g ∙ ap (λ (d : ℕ). shareOf (t .bytes) d k) f)
       ∙ sym (index-by (PictureBytes b) e)
+
+  pub index-most : TermsIn t → indexIn w p t k ≤ 255
+  index-most h = by (t .rate) refl
+    where
+      by : (r : RateControl) → t .rate ≡ r → indexIn w p t k ≤ 255
+      by Lossless e = omega (arith, index-lossless e)
+      by (FixedQuantIndex q) e = let i = index-fixed h q e in omega (arith, i .0, i .1)
+      by (PictureBytes b) e =
+          let d : ℕ = slicesIn p in
+          let share : ℕ = shareOf (t .bytes) d k in
+          let f = fitsBy (t .prefix) (t .scaler) share (numbersIn w p k) in
+          omega (arith, index-elected b d share (elect 0 255 f) e refl refl refl, elected f 0 255 (omega arith) .high)

@@ -19,6 +19,7 @@ pub mod High
 pub mod HighIndexLaws
 pub mod ElectLoopLaws
 pub mod HighPlanLaws
+pub mod NotedLaws
 pub mod HighSliceLaws
 pub mod Low
 pub mod AgainLaws

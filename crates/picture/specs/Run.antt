@@ -20,9 +20,13 @@ planeFrom l base w y x = at l (base + (y * w + x))
 abbrev pub predictionIn : List ℤ → Strip → ℕ → ℕ → ℕ → ℤ
 predictionIn l s base y x = cond (s .predicted) (predict (planeFrom l base (s .width)) y x) (pos 0)
 
--- the number of (y, x), with the coefficients from coefs on and the rebuilt plane from base on
+-- a coefficient less its prediction, with the coefficients from coefs on and the rebuilt plane from base on
+abbrev pub residualIn : List ℤ → Strip → ℕ → ℕ → ℕ → ℕ → ℤ
+residualIn l s coefs base y x = planeFrom l coefs (s .width) y x -ℤ predictionIn l s base y x
+
+-- the number of (y, x)
 abbrev pub numberIn : List ℤ → Strip → ℕ → ℕ → ℕ → ℕ → ℤ
-numberIn l s coefs base y x = forwardBy (s .factor) (planeFrom l coefs (s .width) y x -ℤ predictionIn l s base y x)
+numberIn l s coefs base y x = forwardBy (s .factor) (residualIn l s coefs base y x)
 
 -- the second colour's, where there is one
 abbrev pub secondNumber : List ℤ → Strip → ℕ → ℕ → List ℤ

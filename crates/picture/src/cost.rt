@@ -5,7 +5,7 @@ ghost use Prim.Native.Nat.{ℕ, _+_, _*_, _-_, _≤_, _<_, _^_};
 ghost use lib.IntN.{ℤ, natAbs};
 ghost use lib.ListN.{length};
 ghost use Rattle.picture.specs.Run.{secondNumber, placeNumbers, rowNumbers, stripNumbers, Small, Within, Inside};
-ghost use Rattle.picture.specs.Cost.{fitted, add1, addAll, Countable, Kept};
+ghost use Rattle.picture.specs.Cost.{fitted, addLen, addAll, Countable, Kept};
 
 // The bits and the count of the numbers so far, the same up to the last number that is not 0, and of the longest run from the start
 // that takes at most room bits.
@@ -66,13 +66,13 @@ fn fit_to(c: Cost) -> Cost
     }
 }
 
-// One number more.
-pub fn add_number(c: Cost, z: i64) -> Cost
+// One number more, whose code word has n bits: one bit is the number 0.
+fn add_len(c: Cost, n: u32) -> Cost
     requires { ⌜ Countable c 1 ⌝ }
-    ensures { λ r. ⌜ r ≡ add1 c z ⌝ }
+    ensures { λ r. ⌜ r ≡ addLen c n ⌝ }
 {
-    let bits = c.bits + codewords::sint_code_len(z) as u64;
-    fit_to(keep_to(c, z == 0, bits))
+    let bits = c.bits + n as u64;
+    fit_to(keep_to(c, n == 1, bits))
 }
 
 // The second colour's number of a place, where there is one.
@@ -81,9 +81,9 @@ fn add_second(work: &[i64], a: usize, n: usize, s: Strip, y: usize, x: usize, c:
     ensures { λ r. ⌜ r ≡ addAll c (secondNumber (now (work .entry)) s y x) ⌝ }
 {
     if s.pair {
-        add_number(
+        add_len(
             c,
-            crate::strip::number_at(work, s, s.coefs2, s.rebuilt2, y, x),
+            crate::strip::number_len(work, s, s.coefs2, s.rebuilt2, y, x),
         )
     } else {
         c
@@ -95,8 +95,8 @@ fn cost_place(work: &[i64], a: usize, n: usize, s: Strip, y: usize, x: usize, c:
     requires { ⌜ Small a n (now work) × (Within a n s × (Inside s y x × Countable c 2)) ⌝ }
     ensures { λ r. ⌜ r ≡ addAll c (placeNumbers (now (work .entry)) s y x) ⌝ }
 {
-    let z = crate::strip::number_at(work, s, s.coefs, s.rebuilt, y, x);
-    add_second(work, a, n, s, y, x, add_number(c, z))
+    let k = crate::strip::number_len(work, s, s.coefs, s.rebuilt, y, x);
+    add_second(work, a, n, s, y, x, add_len(c, k))
 }
 
 // Those of a row of the strip.

@@ -6,11 +6,13 @@ use unit::RateControl;
 ghost use mathlib.Core.Path.{_≡_};
 ghost use mathlib.Core.Bool.{Bool};
 ghost use Prim.Native.Nat.{ℕ, _+_, _*_, _/_, _^_, _≤_, _<_, max};
+ghost use lib.IntN.{pos};
+ghost use lib.ListN.{set};
 ghost use Rattle.unit.specs.Elect.{elect};
 ghost use Rattle.unit.specs.HighQuality.{ceiling, needOf, sliceSize, shareOf};
 ghost use Rattle.picture.specs.Layout.{RunIn};
 ghost use Rattle.picture.specs.Picture.{slicesIn, runOf, numbersIn, SliceIn};
-ghost use Rattle.picture.specs.High.{fitsBy, halfOf, indexIn, TermsIn, PlanIn, NeedsOf};
+ghost use Rattle.picture.specs.High.{fitsBy, halfOf, indexIn, TermsIn, PlanIn, NeedsOf, Notes};
 
 // The bytes that the components of a slice need.
 pub struct Needs {
@@ -173,4 +175,25 @@ pub fn index_of(work: &[i64], p: Picture, t: Terms, k: u32) -> u32
             elect_qindex(work, p, t, share, k)
         }
     }
+}
+
+// A slice's index is noted at place i, where the work slice reaches so far.
+pub fn note_index(work: &mut [i64], i: usize, q: u32)
+    ensures { λ _. ⌜ now (work .exit) ≡ set (now (work .entry)) i (pos q) ⌝ }
+{
+    if i < work.len() {
+        work[i] = q as i64;
+    }
+}
+
+// The index of slice k as it was noted, or elected anew where the work slice does not reach so far.
+pub fn noted_index(work: &[i64], p: Picture, t: Terms, k: u32) -> u32
+    requires { ⌜ PlanIn p t (now work) × ((k < slicesIn p) × Notes (now work) p t (slicesIn p) (now work)) ⌝ }
+    ensures { λ r. ⌜ (r ≡ indexIn (now (work .entry)) p t k) × (r ≤ 255) ⌝ }
+{
+    let i = p.end + k as usize;
+    if i < work.len() {
+        return work[i] as u32;
+    }
+    index_of(work, p, t, k)
 }

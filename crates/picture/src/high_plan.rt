@@ -11,7 +11,7 @@ ghost use Rattle.unit.specs.Parameters.{parameterBytes};
 ghost use Rattle.unit.specs.Unit.{majorVersion, highParameters, highBytes};
 ghost use Rattle.picture.specs.Head.{CanCarry};
 ghost use Rattle.picture.specs.Picture.{slicesIn};
-ghost use Rattle.picture.specs.High.{termsOf, PlanIn, PlansTo, HighIn, Settles};
+ghost use Rattle.picture.specs.High.{termsOf, PlanIn, PlansTo, HighIn, Settles, Notes};
 
 // The scaler, and where the unit ends.
 pub struct Settled {
@@ -19,10 +19,10 @@ pub struct Settled {
     pub end: usize,
 }
 
-// All slices, planned from place at on.
-fn plan_slices(work: &[i64], p: Picture, t: Terms, at: usize) -> SliceCoder
+// All slices, planned from place at on, and their indices noted.
+fn plan_slices(work: &mut [i64], p: Picture, t: Terms, at: usize) -> SliceCoder
     requires { ⌜ PlanIn p t (now work) × (at < 2 ^ 16) ⌝ }
-    ensures { λ r. ⌜ PlansTo (now (work .entry)) p t at (slicesIn p) r ⌝ }
+    ensures { λ r. ⌜ PlansTo (now (work .entry)) p t at (slicesIn p) r × Notes (now (work .entry)) p t (slicesIn p) (now (work .exit)) ⌝ }
 {
     let slices = crate::low_index::slice_count(p);
     let mut c = SliceCoder::new(at);
@@ -55,10 +55,11 @@ pub fn terms_of(s: Settings, matrix: &[u32], c: u32) -> Terms
 }
 
 // The pass with scaler c.
-fn plan_picture(s: Settings, matrix: &[u32], work: &[i64], p: Picture, c: u32) -> SliceCoder
+fn plan_picture(s: Settings, matrix: &[u32], work: &mut [i64], p: Picture, c: u32) -> SliceCoder
     requires { ⌜ HighIn s p (now work) × (CanCarry s (now matrix) × ((1 ≤ c) × (c ≤ 2 ^ 24))) ⌝ }
     ensures { λ r. ⌜ PlansTo (now (work .entry)) p (termsOf s (now (matrix .entry)) c)
-        (17 + parameterBytes (majorVersion s) (highParameters s (now (matrix .entry)) c)) (slicesIn p) r ⌝ }
+        (17 + parameterBytes (majorVersion s) (highParameters s (now (matrix .entry)) c)) (slicesIn p) r
+        × Notes (now (work .entry)) p (termsOf s (now (matrix .entry)) c) (slicesIn p) (now (work .exit)) ⌝ }
 {
     let t = terms_of(s, matrix, c);
     let at = crate::header::overhead(
@@ -70,9 +71,11 @@ fn plan_picture(s: Settings, matrix: &[u32], work: &[i64], p: Picture, c: u32) -
 }
 
 // While a component needs more than 255 scalers the scaler becomes the largest need over 255, rounded up.
-pub fn settle(s: Settings, matrix: &[u32], work: &[i64], p: Picture) -> Settled
+// The indices of the last pass are noted.
+pub fn settle(s: Settings, matrix: &[u32], work: &mut [i64], p: Picture) -> Settled
     requires { ⌜ HighIn s p (now work) × CanCarry s (now matrix) ⌝ }
-    ensures { λ r. ⌜ Settles (now (work .entry)) p s (now (matrix .entry)) r ⌝ }
+    ensures { λ r. ⌜ Settles (now (work .entry)) p s (now (matrix .entry)) r
+        × Notes (now (work .entry)) p (termsOf s (now (matrix .entry)) (r .scaler)) (slicesIn p) (now (work .exit)) ⌝ }
 {
     let mut c = s.slice_size_scaler;
     let mut r = plan_picture(s, matrix, work, p, c);

@@ -17,7 +17,7 @@ ghost use Rattle.unit.specs.HighQuality.{needOf, componentBits, highBits, large
 ghost use Rattle.unit.specs.HighQualityLaws.{Needs};
 ghost use Rattle.picture.specs.Layout.{RunIn};
 ghost use Rattle.picture.specs.Picture.{slicesIn, runOf, numbersIn, SliceIn};
-ghost use Rattle.picture.specs.High.{threeBits, plansIn, highRuns, TermsIn, PlanIn};
+ghost use Rattle.picture.specs.High.{threeBits, plansIn, highRuns, TermsIn, PlanIn, Notes};
 
 // A component of slice k at index q: a byte that counts scalers, its numbers without trailing zeros, and ones.
 fn put_component(
@@ -128,10 +128,10 @@ pub fn put_hq_slice(
     c.at
 }
 
-// All slices from place at on.
+// All slices from place at on, at the indices noted.
 pub fn put_hq_slices(out: &mut [u8], at: usize, work: &[i64], p: Picture, t: Terms) -> SliceCoder
-    requires { ⌜ PlanIn p t (now work) × ((largestNeed (plansIn (now work) p t (slicesIn p)) ≤ 255 * t .scaler)
-        × (at + length (highRuns (now work) p t (slicesIn p)) ≤ length (now out))) ⌝ }
+    requires { ⌜ PlanIn p t (now work) × (Notes (now work) p t (slicesIn p) (now work) × ((largestNeed (plansIn (now work) p t (slicesIn p)) ≤ 255 * t .scaler)
+        × (at + length (highRuns (now work) p t (slicesIn p)) ≤ length (now out)))) ⌝ }
     ensures { λ r. ⌜ Lays (now (out .entry)) at (highRuns (now (work .entry)) p t (slicesIn p)) (now (out .exit)) (r .at) × (r .«cut_slices» ≡ 0) ⌝ }
 {
     let slices = crate::low_index::slice_count(p);

@@ -3,13 +3,14 @@ use crate::high_index::Terms;
 use crate::layout::Picture;
 ghost use mathlib.Core.Path.{_≡_};
 ghost use Prim.Native.Nat.{ℕ, _+_, _*_, _^_, _≤_, _<_};
-ghost use lib.ListN.{length};
+ghost use lib.IntN.{pos};
+ghost use lib.ListN.{length, set};
 ghost use Rattle.laws.specs.Laid.{Lays};
 ghost use Rattle.codewords.specs.Bytes.{toBytes};
 ghost use Rattle.unit.specs.HighQualityLaws.{Needs};
 ghost use Rattle.picture.specs.Run.{Small};
 ghost use Rattle.picture.specs.Picture.{slicesIn};
-ghost use Rattle.picture.specs.High.{planIn, PlanIn, PlansOn};
+ghost use Rattle.picture.specs.High.{indexIn, planIn, PlanIn, PlansOn, Notes};
 ghost use Rattle.picture.specs.Low.{isLast, lowIndexIn, lowBitsIn, lowWorkIn, LowIn};
 
 // Where the next slice goes in the output, how many low-delay slices carry index 127, and the largest need of a component.
@@ -31,13 +32,15 @@ impl SliceCoder {
         }
     }
 
-    // High-quality slice k, planned.
-    pub fn plan_hq_slice(self, work: &[i64], p: Picture, t: Terms, k: u32) -> SliceCoder
+    // High-quality slice k, planned, and its index noted.
+    pub fn plan_hq_slice(self, work: &mut [i64], p: Picture, t: Terms, k: u32) -> SliceCoder
         requires { ⌜ PlanIn p t (now work) × ((k < slicesIn p) × (self .at < 2 ^ 60)) ⌝ }
-        ensures { λ r. ⌜ PlansOn (t .prefix) (t .scaler) (planIn (now (work .entry)) p t k) self r ⌝ }
+        ensures { λ r. ⌜ PlansOn (t .prefix) (t .scaler) (planIn (now (work .entry)) p t k) self r
+            × (now (work .exit) ≡ set (now (work .entry)) (p .end + k) (pos (indexIn (now (work .entry)) p t k))) ⌝ }
     {
         let q = crate::high_index::index_of(work, p, t, k);
         let n = crate::high_index::needs_of(work, p, k, q);
+        crate::high_index::note_index(work, p.end + k as usize, q);
         SliceCoder {
             at: self.at + crate::high_index::slice_size(n, t) as usize,
             cut_slices: self.cut_slices,
@@ -54,12 +57,12 @@ impl SliceCoder {
         t: Terms,
         k: u32,
     ) -> SliceCoder
-        requires { ⌜ PlanIn p t (now work) × ((k < slicesIn p) × (Needs (255 * t .scaler) (planIn (now work) p t k .numbers)
-            × (self .at + length (toBytes (planIn (now work) p t k .bits)) ≤ length (now out)))) ⌝ }
+        requires { ⌜ PlanIn p t (now work) × ((k < slicesIn p) × (Notes (now work) p t (slicesIn p) (now work)
+            × (Needs (255 * t .scaler) (planIn (now work) p t k .numbers) × (self .at + length (toBytes (planIn (now work) p t k .bits)) ≤ length (now out))))) ⌝ }
         ensures { λ r. ⌜ Lays (now (out .entry)) (self .at) (toBytes (planIn (now (work .entry)) p t k .bits)) (now (out .exit)) (r .at)
             × ((r .«cut_slices» ≡ self .«cut_slices») × (r .largest ≡ self .largest)) ⌝ }
     {
-        let q = crate::high_index::index_of(work, p, t, k);
+        let q = crate::high_index::noted_index(work, p, t, k);
         SliceCoder {
             at: crate::high_slice::put_hq_slice(out, self.at, work, p, t, k, q),
             cut_slices: self.cut_slices,

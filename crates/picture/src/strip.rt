@@ -3,8 +3,9 @@ ghost use mathlib.Core.Path.{_≡_};
 ghost use Prim.Native.Nat.{ℕ, _+_, _*_, _-_, _≤_, _<_, _^_};
 ghost use lib.IntN.{ℤ, natAbs};
 ghost use lib.ListN.{length};
+ghost use Rattle.codewords.specs.Code.{codeS};
 ghost use Rattle.unit.specs.Predict.{mean, predict};
-ghost use Rattle.picture.specs.Run.{reach, planeFrom, predictionIn, numberIn, Readable, Numbered};
+ghost use Rattle.picture.specs.Run.{reach, planeFrom, predictionIn, residualIn, numberIn, Readable, Numbered};
 
 // A slice's part of a subband: rows top to bottom and columns left to right of a plane of width and height, whose coefficients stand
 // from coefs on and whose rebuilt plane from rebuilt on. Where pair is set, those of the second colour stand at coefs2 and rebuilt2.
@@ -75,14 +76,32 @@ pub fn prediction(work: &[i64], s: Strip, base: usize, y: usize, x: usize) -> i6
     }
 }
 
-// The number of a place, by the coefficients that stand from coefs on and the rebuilt plane from base on.
-pub fn number_at(work: &[i64], s: Strip, coefs: usize, base: usize, y: usize, x: usize) -> i64
+// A coefficient less its prediction, by the coefficients that stand from coefs on and the rebuilt plane from base on.
+fn residual(work: &[i64], s: Strip, coefs: usize, base: usize, y: usize, x: usize) -> i64
     requires { ⌜ Numbered (now work) s coefs base y x ⌝ }
-    ensures { λ r. ⌜ r ≡ numberIn (now (work .entry)) s coefs base y x ⌝ }
+    ensures { λ r. ⌜ (r ≡ residualIn (now (work .entry)) s coefs base y x) × (natAbs r < 2 ^ 60) ⌝ }
 {
     let p = prediction(work, s, base, y, x);
     let w = s.width;
     let i = coefs + (y * w + x);
     let c = work[i];
-    quantiser::forward_by(c - p, s.factor)
+    c - p
+}
+
+// The number of a place.
+pub fn number_at(work: &[i64], s: Strip, coefs: usize, base: usize, y: usize, x: usize) -> i64
+    requires { ⌜ Numbered (now work) s coefs base y x ⌝ }
+    ensures { λ r. ⌜ r ≡ numberIn (now (work .entry)) s coefs base y x ⌝ }
+{
+    let d = residual(work, s, coefs, base, y, x);
+    quantiser::forward_by(d, s.factor)
+}
+
+// How many bits its code word has.
+pub fn number_len(work: &[i64], s: Strip, coefs: usize, base: usize, y: usize, x: usize) -> u32
+    requires { ⌜ Numbered (now work) s coefs base y x ⌝ }
+    ensures { λ r. ⌜ r ≡ length (codeS (numberIn (now (work .entry)) s coefs base y x)) ⌝ }
+{
+    let d = residual(work, s, coefs, base, y, x);
+    quantiser::forward_len_by(d, s.factor)
 }

@@ -1,17 +1,9 @@
--- `picture::cost::add_number` meets its contract. Assumes nothing.
-use mathlib.Core.Path.{_∙_}
-use mir.Syntax.{w64}
-use mir.Facts.{toZ-ofZ}
-use Rattle.picture.specs.CostLaws.{added-by}
+-- `picture::cost::add_len` meets its contract. Assumes nothing.
+use mathlib.Core.Path.{ap, _∙_}
+use Rattle.picture.specs.Cost.{fitted}
 use borrow.Author.Needs.{needs}
-use Rattle.picture.proofs.cost.add_number.Statement.{statement}
-use Rattle.picture.proofs.cost.add_number.Tie as tie
-
-sint-code-len-requires : tie.Need-sint-code-len-requires
-sint-code-len-requires c κs = search needs
-
-cast-bits : tie.Need-cast-bits
-cast-bits c = search needs
+use Rattle.picture.proofs.cost.add_len.Statement.{statement}
+use Rattle.picture.proofs.cost.add_len.Tie as tie
 
 add-bits : tie.Need-add-bits
 add-bits c = search needs
@@ -23,12 +15,9 @@ fit-to-requires : tie.Need-fit-to-requires
 fit-to-requires c κs = search needs
 
 returns : tie.Need-returns
-returns c =
-    let st = c .before .before .before .before in
-    let f = toZ-ofZ {w = w64} (st .fits .z) in
-    added-by (st .args .c) (st .args .z) _ _ _ (st .fits .z) (c .before .before .before .sint-code-len .ensures ∙ rw f) (c .before .keep-to .ensures .is) (c .fit-to .ensures)
+returns c = c .fit-to .ensures ∙ ap fitted (c .before .keep-to .ensures .is)
 
-pub add-number-spec : {M : Type 1} → statement M
-add-number-spec =
+pub add-len-spec : {M : Type 1} → statement M
+add-len-spec =
     tie.close
-    (tie.spec sint-code-len-requires cast-bits add-bits keep-to-requires fit-to-requires returns)
+    (tie.spec add-bits keep-to-requires fit-to-requires returns)

@@ -8,64 +8,73 @@ use Rattle.picture.proofs.encoder.code_high.Statement.{statement}
 use Rattle.picture.proofs.encoder.code_high.Tie as tie
 use Rattle.picture.specs.Encoded.{tooLong}
 use Rattle.picture.specs.AnalysedLaws.{called-carry}
-use Rattle.picture.specs.HighLinkLaws.{high-in, end-fits, head-room, slices-ready, high-refused, high-written}
+use Rattle.picture.specs.HighLinkLaws.{high-in, end-fits, head-room, slices-noted, noted-laid, high-refused, high-written}
 
 -- the unit is not too long
 fits : (c : tie.After-put-header-arg)
-    → tooLong (length (c .before .before .before .before .before .before .args .out .now)) (c .before .before .before .settle .result .end) ≡ false
+    → tooLong (length (c .before .before .before .before .before .before .before .before .args .out .now)) (c .before .before .before .before .settle .result .end) ≡ false
 fits c = sym (c .before .before .too-long .ensures) ∙ c .before .if1 .left
 
 settle-requires : tie.Need-settle-requires
-settle-requires c κs = let st = c .before .before in (high-in (st .pre), called-carry (st .pre .called))
+settle-requires c κs = let st = c .before .before .before in (high-in (st .pre), called-carry (st .pre .called))
 
 too-long-requires : tie.Need-too-long-requires
 too-long-requires c κs = search needs
 
-returns : tie.Need-returns
-returns c =
-    let st = c .before .before .before .before .before in
-    high-refused (st .pre) (c .before .before .settle .ensures) (st .args .out .now) (sym (c .before .too-long .ensures) ∙ c .if1 .taken)
-
-cast-put-header : tie.Need-cast-put-header
-cast-put-header c =
-    let st = c .before .before .before .before .before .before in
-    omega (arith, end-fits (st .pre) (c .before .before .before .settle .ensures) (st .args .out .now) (fits c) .1)
-
-put-header-requires : tie.Need-put-header-requires
-put-header-requires c κs =
-    let st = c .before .before .before .before .before .before in
-    (called-carry (st .pre .called), head-room (st .pre) (c .before .before .before .settle .ensures) (st .args .out .now) (fits c))
-
-terms-of-requires : tie.Need-terms-of-requires
-terms-of-requires c κs = called-carry (c .before .before .before .before .before .before .before .before .before .pre .called)
-
-put-hq-slices-requires : tie.Need-put-hq-slices-requires
-put-hq-slices-requires c κs =
-    let a = c .before .before .before .before .before in
-    let st = a .before .before .before .before .before .before in
-    let z = a .before .before .before .settle in
-    let h = c .before .before .before .before .put-header in
-    let t = c .before .terms-of in
-    slices-ready (st .pre) (z .ensures) (st .args .out .now) (fits a)
-    (t .result) (z .result .end) (h .result) (h .last .0) (t .ensures) refl (h .ensures .0) (h .ensures .1)
-
-cast-t16 : tie.Need-cast-t16
-cast-t16 c = cast-put-header (c .before .before .before .before .before .before .before .before)
-
 same-length : tie.Need-same-length
 same-length c = search needs
 
+returns : tie.Need-returns
+returns c =
+    let st = c .before .before .before .before .before .before .before in
+    let z = c .before .before .before .settle in
+    (high-refused (st .pre) (z .ensures .0) (st .args .out .now) (sym (c .before .too-long .ensures) ∙ c .if1 .taken), z .ensures .1 .size)
+
+cast-put-header : tie.Need-cast-put-header
+cast-put-header c =
+    let st = c .before .before .before .before .before .before .before .before in
+    omega (arith, end-fits (st .pre) (c .before .before .before .before .settle .ensures .0) (st .args .out .now) (fits c) .1)
+
+put-header-requires : tie.Need-put-header-requires
+put-header-requires c κs =
+    let st = c .before .before .before .before .before .before .before .before in
+    (called-carry (st .pre .called), head-room (st .pre) (c .before .before .before .before .settle .ensures .0) (st .args .out .now) (fits c))
+
+terms-of-requires : tie.Need-terms-of-requires
+terms-of-requires c κs = called-carry (c .before .before .before .before .before .before .before .before .before .before .before .pre .called)
+
+put-hq-slices-requires : tie.Need-put-hq-slices-requires
+put-hq-slices-requires c κs =
+    let a = c .before .before .before .before .before .before in
+    let st = a .before .before .before .before .before .before .before .before in
+    let z = a .before .before .before .before .settle in
+    let h = c .before .before .before .before .before .put-header in
+    let t = c .before .before .terms-of in
+    slices-noted (st .pre) (z .ensures .0) (st .args .out .now) (fits a) (z .ensures .1)
+    (t .result) (z .result .end) (h .result) (h .last .0) (t .ensures) refl (h .ensures .0) (h .ensures .1)
+
+cast-t18 : tie.Need-cast-t18
+cast-t18 c = cast-put-header (c .before .before .before .before .before .before .before .before .before)
+
+same-length-2 : tie.Need-same-length-2
+same-length-2 c = search needs
+
+same-length-3 : tie.Need-same-length-3
+same-length-3 c = search needs
+
 returns-2 : tie.Need-returns-2
 returns-2 c =
-    let a = c .before .before .before .before .before .before .before .before in
-    let st = a .before .before .before .before .before .before in
-    let z = a .before .before .before .settle in
-    let h = c .before .before .before .before .before .before .before .put-header in
-    let t = c .before .before .before .before .terms-of in
-    let w = c .before .before .put-hq-slices in
-    high-written (st .pre) (z .ensures) (st .args .out .now) (fits a)
-    (t .result) (z .result .end) (h .result) (w .result .at) (w .result .«cut_slices») (h .last .0) (w .last .0)
-    (t .ensures) refl (h .ensures .0) (h .ensures .1) (w .ensures .0) (w .ensures .1)
+    let a = c .before .before .before .before .before .before .before .before .before in
+    let st = a .before .before .before .before .before .before .before .before in
+    let z = a .before .before .before .before .settle in
+    let h = c .before .before .before .before .before .before .before .before .put-header in
+    let t = c .before .before .before .before .before .terms-of in
+    let w = c .before .before .put-hq-slices in (
+      high-written (st .pre) (z .ensures .0) (st .args .out .now) (fits a)
+          (t .result) (z .result .end) (h .result) (w .result .at) (w .result .«cut_slices») (h .last .0) (w .last .0)
+          (t .ensures) refl (h .ensures .0) (h .ensures .1) (noted-laid (st .pre) (t .result) (z .ensures .1) (w .ensures .0)) (w .ensures .1),
+      z .ensures .1 .size,
+    )
 
 pub code-high-spec : {M : Type 1} → statement M
 code-high-spec =
@@ -73,11 +82,13 @@ code-high-spec =
     (tie.spec
     settle-requires
     too-long-requires
+    same-length
     returns
     cast-put-header
     put-header-requires
     terms-of-requires
     put-hq-slices-requires
-    cast-t16
-    same-length
+    cast-t18
+    same-length-2
+    same-length-3
     returns-2)

@@ -61,10 +61,10 @@ same-length-4 c = search needs
 
 returns-2 : tie.Need-returns-2
 returns-2 c =
-    let a = c .before .before .before .before .before .before .before .before .before .before .before .before .before .before .before .before .args in
-    let w = c .before .before .before .before .before .before .before .before .before .analyse .ensures in
-    let r = c .before .before .code-high .ensures in
-    (r .codes (planes (a .y .now) (a .c1 .now) (a .c2 .now)) (w .0), w .1)
+    let a = c .before .before .before .before .before .before .before .before .before .before .before .before .before .before .before .before .before .args in
+    let w = c .before .before .before .before .before .before .before .before .before .before .analyse .ensures in
+    let r = c .before .before .before .code-high .ensures in
+    (r .0 .codes (planes (a .y .now) (a .c1 .now) (a .c2 .now)) (w .0), r .1 ∙ w .1)
 
 pub code-picture-spec : {M : Type 1} → statement M
 code-picture-spec =

@@ -1,6 +1,8 @@
 -- `high_plan::plan_picture` meets its contract. Assumes nothing.
+use mathlib.Core.Path.{subst}
+use Rattle.picture.specs.declared.high_index.Terms.{Terms}
 use Rattle.picture.specs.Picture.{slicesIn}
-use Rattle.picture.specs.High.{termsOf}
+use Rattle.picture.specs.High.{termsOf, Notes}
 use Rattle.picture.specs.HighPlanLaws.{plan-in, plans-same, slicesFrom}
 use borrow.Author.Needs.{needs}
 use Rattle.picture.proofs.high_plan.plan_picture.Statement.{statement}
@@ -19,18 +21,25 @@ overhead-requires c κs = search needs
 
 plan-slices-requires : tie.Need-plan-slices-requires
 plan-slices-requires c κs =
-    let st = c .before .before .before in
-    let t = c .before .terms-of in
-    (plan-in (st .args .matrix .now) (st .args .c) (st .pre .0) (st .pre .1 .1 .0) (st .pre .1 .1 .1) (t .result) (t .ensures), c .overhead .ensures .1)
+    let st = c .before .before .before .before in
+    let t = c .before .before .terms-of in
+    (plan-in (st .args .matrix .now) (st .args .c) (st .pre .0) (st .pre .1 .1 .0) (st .pre .1 .1 .1) (t .result) (t .ensures), c .before .overhead .ensures .1)
+
+same-length : tie.Need-same-length
+same-length c = search needs
 
 returns : tie.Need-returns
 returns c =
-    let a = c .before .before .before .before .args in
-    let t = c .before .before .terms-of in
-    let o = c .before .overhead in
-    plans-same (a .work .now) (a .p) (t .result) (termsOf (a .s) (a .matrix .now) (a .c)) (o .result) (slicesFrom (a .s) (a .matrix .now) (a .c)) (slicesIn (a .p))
-    (c .plan-slices .result) (t .ensures) (o .ensures .0) (c .plan-slices .ensures)
+    let a = c .before .before .before .before .before .before .args in
+    let t = c .before .before .before .before .terms-of in
+    let o = c .before .before .before .overhead in
+    let r = c .before .plan-slices in (
+      plans-same (a .work .now) (a .p) (t .result) (termsOf (a .s) (a .matrix .now) (a .c)) (o .result) (slicesFrom (a .s) (a .matrix .now) (a .c)) (slicesIn (a .p))
+          (r .result) (t .ensures) (o .ensures .0) (r .ensures .0),
+      subst (λ (t : Terms). Notes (a .work .now) (a .p) t (slicesIn (a .p)) (r .last .0)) (t .ensures) (r .ensures .1),
+    )
 
 pub plan-picture-spec : {M : Type 1} → statement M
 plan-picture-spec =
-    tie.close (tie.spec terms-of-requires overhead-requires plan-slices-requires returns)
+    tie.close
+    (tie.spec terms-of-requires overhead-requires plan-slices-requires same-length returns)

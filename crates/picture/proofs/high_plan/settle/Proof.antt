@@ -1,26 +1,38 @@
--- `high_plan::settle` meets its contract. The invariant: r is the plan with scaler c, and the turns from c end where those from the first scaler do. Assumes nothing.
+-- `high_plan::settle` meets its contract. The invariant: r is the plan with scaler c, whose indices are noted, and the turns from c end where those
+-- from the first scaler do. Assumes nothing.
+use mathlib.Core.Path.{_∙_}
 use Prim.Native.Nat.{_-_, _^_}
+use Rattle.picture.specs.Picture.{slicesIn}
+use Rattle.picture.specs.High.{termsOf, Notes}
 use Rattle.picture.specs.HighPlanLaws.{Settling, settling-first, settling-turn, settling-ends}
+use Rattle.picture.specs.NotedLaws.{notes-high, notes-own, notes-after, plans-after, plans-before, settles-after}
 use native.Mathlib.Omega.{arith}
 use Rattle.picture.proofs.high_plan.settle.Statement.{statement}
 use Rattle.picture.proofs.high_plan.settle.Tie as tie
+use Rattle.picture.proofs.high_plan.settle.Reads as reads
+use Rattle.picture.proofs.high_plan.settle.Lts as lts
+use Rattle.picture.proofs.high_plan.plan_picture.Reads as plan-picture-reads
 
 abbrev Inv-loop : tie.InvT-loop
-Inv-loop s matrix work p c₀ r₀ c r = Settling work p s matrix c r
+Inv-loop s matrix work₀ p c₀ r₀ work c r = Settling work₀ p s matrix c r × Notes work₀ p (termsOf s matrix c) (slicesIn p) work
 
 abbrev μ-loop : tie.MeasureT-loop
-μ-loop s matrix work p c₀ r₀ c r = 2 ^ 24 - c
+μ-loop s matrix work₀ p c₀ r₀ work c r = 2 ^ 24 - c
 
 plan-picture-requires : tie.Need-plan-picture-requires Inv-loop μ-loop
 plan-picture-requires c κs =
-    let st = c .before in
+    let st = c .before .before in
     (st .pre .0, (st .pre .1, (st .pre .0 .scaler .0, omega (arith, st .pre .0 .scaler .1))))
 
 loop-holds : tie.Need-loop-holds Inv-loop μ-loop
 loop-holds c =
-    let st = c .before .before in
+    let st = c .before .before .before .before in
     let a = st .args in
-    settling-first (a .work .now) (a .p) (a .s) (a .matrix .now) (c .plan-picture .result) (st .pre .0 .scaler .1) (c .plan-picture .ensures)
+    let r = c .before .plan-picture in
+    let h = st .pre .0 in (
+      settling-first _ (a .p) (a .s) (a .matrix .now) (r .result) (h .scaler .1) (plans-before (h .arranged) (h .small) (r .ensures .1) (r .ensures .0)),
+      notes-own (h .arranged) (h .small) (r .ensures .1),
+    )
 
 cast-if1 : tie.Need-cast-if1 Inv-loop μ-loop
 cast-if1 c = omega arith
@@ -32,32 +44,47 @@ add-c : tie.Need-add-c Inv-loop μ-loop
 add-c c = omega arith
 
 cast-c : tie.Need-cast-c Inv-loop μ-loop
-cast-c c = omega (arith, c .before .before .before .loop .inv .plan .few)
+cast-c c = omega (arith, c .before .before .before .loop .inv .0 .plan .few)
 
 plan-picture-requires-2 : tie.Need-plan-picture-requires-2 Inv-loop μ-loop
 plan-picture-requires-2 c κs =
-    let st = c .before .before .before .before .before .before in
-    let v = c .before .before .before .loop in
-    (st .pre .0, (st .pre .1, (omega (arith, c .before .if1 .taken), omega (arith, v .inv .plan .few))))
+    let v = c .before .before .before .before .loop in
+    let st = c .before .before .before .before .before .before .before .before .before in
+    let o = c .before .before .before .before .before .before .plan-picture .ensures .1 in
+    (notes-high (v .inv .1) (notes-high o (st .pre .0)), (st .pre .1, (omega (arith, c .before .before .if1 .taken), omega (arith, v .inv .0 .plan .few))))
 
 loop-less : tie.Need-loop-less Inv-loop μ-loop
 loop-less c =
-    let v = c .before .before .before .before .loop in
-    omega (arith, v .inv .few, v .inv .plan .few, c .before .before .if1 .taken)
+    let v = c .before .before .before .before .before .before .loop in
+    omega (arith, v .inv .0 .few, v .inv .0 .plan .few, c .before .before .before .before .if1 .taken)
 
 loop-again : tie.Need-loop-again Inv-loop μ-loop
 loop-again c =
-    let a = c .before .before .before .before .before .before .before .args in
-    let v = c .before .before .before .before .loop in
-    settling-turn (a .work .now) (a .p) (a .s) (a .matrix .now) (v .c) (v .r) (c .plan-picture2 .result) (v .inv) (c .before .before .if1 .taken)
-    (c .plan-picture2 .ensures)
+    let v = c .before .before .before .before .before .before .loop in
+    let st = c .before .before .before .before .before .before .before .before .before .before .before in
+    let a = st .args in
+    let w = c .before .before .before .before .before .before .before .before .plan-picture in
+    let h = notes-high (w .ensures .1) (st .pre .0) in
+    let r = c .before .plan-picture2 in (
+      settling-turn _ (a .p) (a .s) (a .matrix .now) (v .c) (v .r) (r .result) (v .inv .0) (c .before .before .before .before .if1 .taken)
+          (plans-after (h .arranged) (h .small) (v .inv .1) (r .ensures .0)),
+      notes-after (h .arranged) (h .small) (v .inv .1) (r .ensures .1),
+    )
+
+same-length : tie.Need-same-length Inv-loop μ-loop
+same-length c = c .before .before .loop .inv .1 .size ∙ c .before .before .before .before .plan-picture .ensures .1 .size
 
 returns : tie.Need-returns Inv-loop μ-loop
 returns c =
-    let st = c .before .before .before .before .before in
-    let a = st .args in
     let v = c .before .before .loop in
-    settling-ends (a .work .now) (a .p) (a .s) (a .matrix .now) (v .c) (v .r) (st .pre .0 .scaler .0) (v .inv) (omega (arith, c .if1 .left))
+    let st = c .before .before .before .before .before .before .before in
+    let a = st .args in
+    let h = st .pre .0 in
+    let w = c .before .before .before .before .plan-picture in (
+      settles-after (h .arranged) (h .small) (w .ensures .1)
+          (settling-ends _ (a .p) (a .s) (a .matrix .now) (v .c) (v .r) (h .scaler .0) (v .inv .0) (omega (arith, c .if1 .left))),
+      notes-after (h .arranged) (h .small) (w .ensures .1) (v .inv .1),
+    )
 
 pub settle-spec : {M : Type 1} → statement M
 settle-spec =
@@ -74,4 +101,5 @@ settle-spec =
     plan-picture-requires-2
     loop-less
     loop-again
+    same-length
     returns)

@@ -33,7 +33,7 @@ code-hq-slice-requires c κs =
     let a = st .args in
     let v = c .before .before .loop in
     let l : v .k < slicesIn (a .p) = omega (arith, c .before .loop-test .taken, c .before .before .before .before .slice-count .ensures .0) in
-    (st .pre .0, (l, (slice-needs (a .work .now) (a .p) (a .t) (slicesIn (a .p)) (255 * a .t .scaler) (v .k) (st .pre .1 .0) l, slices-room (a .work .now) (a .p) (a .t) (v .k) (v .inv .1 .0) (slicesIn (a .p)) l (st .pre .1 .1))))
+    (st .pre .0, (l, (st .pre .1 .0, (slice-needs (a .work .now) (a .p) (a .t) (slicesIn (a .p)) (255 * a .t .scaler) (v .k) (st .pre .1 .1 .0) l, slices-room (a .work .now) (a .p) (a .t) (v .k) (v .inv .1 .0) (slicesIn (a .p)) l (st .pre .1 .1 .1)))))
 
 add-k : tie.Need-add-k Inv-loop μ-loop
 add-k c = omega arith

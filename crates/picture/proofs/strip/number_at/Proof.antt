@@ -1,81 +1,23 @@
 -- `picture::strip::number_at` meets its contract. Assumes nothing.
-use mathlib.Core.Path.{_≡_, _∙_}
-use Prim.Native.Nat.{ℕ, _+_, _*_}
-use lib.IntN.{ℤ, _-ℤ_}
+use mathlib.Core.Path.{ap, _∙_}
 use mir.Syntax.{w64}
-use mir.Val.{SFits, toZ, ofZ}
 use mir.Facts.{toZ-ofZ}
 use borrow.Author.Needs.{needs, sfits-of}
-use Rattle.laws.specs.Rows.{at}
-use Rattle.laws.specs.Integer.{abs-sub}
-use Rattle.laws.specs.Machine.{fit}
-use Rattle.picture.specs.RunLaws.{read}
-use native.Mathlib.Omega.{arith}
+use Rattle.quantiser.specs.Quant.{forwardBy}
 use Rattle.picture.proofs.strip.number_at.Statement.{statement}
 use Rattle.picture.proofs.strip.number_at.Tie as tie
 
--- the coefficient, the prediction and their difference
-record Difference (c p : ℤ) : Type 0 where
-  left : toZ w64 (ofZ w64 c) ≡ c
-  right : toZ w64 (ofZ w64 p) ≡ p
-  small : SFits w64 (c -ℤ p)
-
-difference : (c : tie.After-c) → let a = c .before .before .args in Difference (at (a .work .now) (a .coefs + (a .y * a .s .width + a .x))) (c .before .prediction .result)
-difference c =
-    let st = c .before .before in
-    let a = st .args in
-    let i : ℕ = a .coefs + (a .y * a .s .width + a .x) in
-    let z : ℤ = at (a .work .now) i in
-    let p : ℤ = c .before .prediction .result in
-    record {
-      left = read (st .pre .coefficient) i (omega arith);
-      right = toZ-ofZ (sfits-of (c .before .prediction .ok));
-      small = fit (z -ℤ p) (omega (arith, abs-sub z p, st .pre .coefficient .bound i (omega arith), c .before .prediction .ensures .1));
-    }
-
-prediction-requires : tie.Need-prediction-requires
-prediction-requires c κs = search needs
-
-mul-i : tie.Need-mul-i
-mul-i c = search needs
-
-add-i : tie.Need-add-i
-add-i c = search needs
-
-add-i-2 : tie.Need-add-i-2
-add-i-2 c = search needs
-
-mul-c : tie.Need-mul-c
-mul-c c = search needs
-
-shared-slice-copy-out-c : tie.Need-shared-slice-copy-out-c
-shared-slice-copy-out-c c = search needs
-
-sub-forward-by : tie.Need-sub-forward-by
-sub-forward-by c =
-    let f = difference c in
-    rw (f .left, f .right) (f .small)
+residual-requires : tie.Need-residual-requires
+residual-requires c κs = search needs
 
 forward-by-requires : tie.Need-forward-by-requires
-forward-by-requires c κs = search needs
+forward-by-requires c κs = c .before .pre .factor
 
 returns : tie.Need-returns
 returns c =
-    let a = c .before .before .before .args in
-    let f = difference (c .before) in
-    let e = f .right ∙ c .before .before .prediction .ensures .0 in
-    toZ-ofZ (sfits-of (c .forward-by .ok)) ∙ rw (f .left, e, toZ-ofZ {w = w64} (rw (c .before .before .prediction .ensures .0) at (f .small))) at (c .forward-by .ensures)
+    let r = c .before .residual in
+    toZ-ofZ {w = w64} (sfits-of (c .forward-by .ok)) ∙ c .forward-by .ensures
+    ∙ ap (forwardBy (c .before .before .args .s .factor)) (toZ-ofZ {w = w64} (sfits-of (r .ok)) ∙ r .ensures .0)
 
 pub number-at-spec : {M : Type 1} → statement M
-number-at-spec =
-    tie.close
-    (tie.spec
-    prediction-requires
-    mul-i
-    add-i
-    add-i-2
-    mul-c
-    shared-slice-copy-out-c
-    sub-forward-by
-    forward-by-requires
-    returns)
+number-at-spec = tie.close (tie.spec residual-requires forward-by-requires returns)
