@@ -262,6 +262,13 @@ pub fn encode(
 
 /// The unit as the Rust writes it.
 fn from_rust(s: &Settings, matrix: &[u32], planes: &[&[u16]; 3]) -> vc2::Result<Vec<u8>> {
+    let mut encoder = encoder(s, matrix)?;
+    encoder.continue_sequence(s.picture_number, s.previous_length);
+    encoder.encode_picture(&PictureInput::new(planes[0], planes[1], planes[2]))
+}
+
+/// The Rust's encoder for these settings.
+pub fn encoder(s: &Settings, matrix: &[u32]) -> vc2::Result<SequenceEncoder> {
     let format = match s.format {
         0 => ColorDiffFormat::Yuv444,
         1 => ColorDiffFormat::Yuv422,
@@ -297,9 +304,7 @@ fn from_rust(s: &Settings, matrix: &[u32], planes: &[&[u16]; 3]) -> vc2::Result<
         Rate::Bytes(bytes) => RateControl::PictureBytes(bytes),
     };
     config.quant_matrix = s.custom.then(|| levels(s, matrix));
-    let mut encoder = SequenceEncoder::new(config)?;
-    encoder.continue_sequence(s.picture_number, s.previous_length);
-    encoder.encode_picture(&PictureInput::new(planes[0], planes[1], planes[2]))
+    SequenceEncoder::new(config)
 }
 
 /// A custom matrix in subband order, as the Rust takes it.

@@ -13,7 +13,7 @@ unsafe extern "C" {
     fn vc2_forward_quant(coeff: i64, index: u32, value: *mut i64) -> u32;
     fn vc2_inverse_quant(number: i64, index: u32, value: *mut i64) -> u32;
     fn vc2_oned_analysis(row: *mut i64, row_len: usize, index: u32) -> u32;
-    fn vc2_encode_picture(
+    pub fn vc2_encode_picture(
         settings: *const u32,
         settings_len: usize,
         matrix: *const u32,
