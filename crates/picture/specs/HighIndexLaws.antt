@@ -4,9 +4,9 @@ use mathlib.Core.Path.{_≡_, refl, sym, ap, _∙_, subst}
 use mathlib.Core.Bool.{false}
 use mathlib.Core.List.{List}
 use Prim.Native.Nat.{ℕ, zero, suc, _+_, _*_, _-_, _/_, _%_, _^_, _≤_, _<_}
-use native.Mathlib.Nat.{div-mul-le-self}
+use native.Mathlib.Nat.{div-mul-le-self, div-eq-of-lt, zero-mul}
 use native.Mathlib.Omega.{arith}
-use borrow.Author.Tests.{lt-ltb, le-ltb}
+use borrow.Author.Tests.{lt-ltb, le-ltb, lt-leb}
 use lib.Dec.{leb}
 use lib.IntN.{ℤ}
 use lib.ListN.{length, length-append}
@@ -97,6 +97,19 @@ fits-is z n p c share size h e =
     (e ∙ ap (λ (y : ℕ). 4 + p + (ceiling y c * c + ceiling (n .c1) c * c + ceiling (n .c2) c * c)) (h .y)
     ∙ ap (λ (c1 : ℕ). 4 + p + (ceiling (needOf (z .y)) c * c + ceiling c1 c * c + ceiling (n .c2) c * c)) (h .c1)
     ∙ ap (λ (c2 : ℕ). 4 + p + (ceiling (needOf (z .y)) c * c + ceiling (needOf (z .c1)) c * c + ceiling c2 c * c)) (h .c2))
+
+-- no bytes take no scalers
+ceiling-none : (c : ℕ) → 1 ≤ c → ceiling 0 c * c ≡ 0
+ceiling-none c h = let e : 0 + (c - 1) < c = omega arith in rw (div-eq-of-lt e, zero-mul)
+
+-- where luma alone does not fit, the slice does not
+pub fits-not : (w : List ℤ) (p : Picture) (k q y x c share size : ℕ) → 1 ≤ c → y ≡ needOf (runOf w p (p .y) k q)
+    → size ≡ 4 + x + (ceiling y c * c + ceiling 0 c * c + ceiling 0 c * c) → share < size → false ≡ fitsBy x c share (numbersIn w p k) q
+unfolding sliceSize numbersIn
+fits-not w p k q y x c share size h e f l =
+    let z = numbersIn w p k q in
+    let n : ceiling y c * c ≡ ceiling (needOf (z .y)) c * c = ap (λ (n : ℕ). ceiling n c * c) e in
+    sym (lt-leb (sliceSize x c z) share (omega (arith, f, l, n, ceiling-none c h)))
 
 -- ---- shares
 module _ (n d k : ℕ) where

@@ -1,12 +1,12 @@
 -- Laws of a low-delay slice's index: its bytes and bits, its candidates in the work slice, what they cost, and the election. Assumes nothing.
-use mathlib.Core.Path.{_≡_, ap, ap₂, _∙_}
-use mathlib.Core.Bool.{Bool}
+use mathlib.Core.Path.{_≡_, sym, ap, ap₂, _∙_}
+use mathlib.Core.Bool.{Bool, false}
 use mathlib.Core.List.{List}
 use Prim.Native.Nat.{ℕ, suc, _+_, _*_, _-_, _/_, _^_, _≤_, _<_}
 use native.Mathlib.Nat.{suc-mul, mul-le-mul-left, mul-le-mul-right, mul-one, add-mul-div-right}
 use native.Mathlib.Numerals.{add-one}
 use native.Mathlib.Omega.{arith}
-use borrow.Author.Tests.{eq-eqb, ne-eqb}
+use borrow.Author.Tests.{eq-eqb, ne-eqb, lt-leb}
 use lib.Dec.{leb}
 use lib.IntN.{ℤ}
 use lib.ListN.{length}
@@ -106,6 +106,14 @@ module _ (w : List ℤ) (l : Layout) (c second : Component) (pair : Bool) (k q :
       omega (arith, kept-is room xs r e, cost-most xs (run-small w l c second pair k q n), run-length w l c second pair k q n, starts-most)
 
 -- ---- whether a slice fits
+-- where luma alone does not, the slice does not
+pub fits-not : (w v : List ℤ) (p : Picture) (room k q : ℕ) (y : Cost) → v ≡ rebuiltIn w p k q → y ≡ addAll (noCost room) (lumaIn v p k q)
+    → room < y .«kept_bits» → false ≡ lowFitsIn w p room k q
+unfolding lowFitsIn
+fits-not w v p room k q y e f h =
+    sym (lt-leb (trimmedCost (lumaIn v p k q) + trimmedCost (colourIn v p k q)) room (omega (arith, kept-is room (lumaIn v p k q) y f)))
+    ∙ ap (λ (v : List ℤ). leb (trimmedCost (lumaIn v p k q) + trimmedCost (colourIn v p k q)) room) e
+
 pub fits-is : (w v : List ℤ) (p : Picture) (room k q : ℕ) (y c : Cost) → v ≡ rebuiltIn w p k q → y ≡ addAll (noCost room) (lumaIn v p k q)
     → c ≡ addAll (noCost room) (colourIn v p k q) → leb (y .«kept_bits» + c .«kept_bits») room ≡ lowFitsIn w p room k q
 unfolding lowFitsIn

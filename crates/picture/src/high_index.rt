@@ -103,12 +103,29 @@ pub fn slice_size(z: Needs, t: Terms) -> u64
     4 + t.prefix as u64 + (y + c1 + c2)
 }
 
-// Whether slice k fits its share at index q.
+// Whether slice k fits its share at index q, where luma needs y bytes.
+fn fits_with(work: &[i64], p: Picture, t: Terms, share: u64, k: u32, q: u32, y: u64) -> bool
+    requires { ⌜ SliceIn p (now work) k q × (TermsIn t × ((y ≡ needOf (runOf (now work) p (p .y) k q)) × (y ≤ 2 ^ 30))) ⌝ }
+    ensures { λ r. ⌜ r ≡ fitsBy (t .prefix) (t .scaler) share (numbersIn (now (work .entry)) p k) q ⌝ }
+{
+    let first = p.c1;
+    let second = p.c2;
+    let c1 = need(work, p, first, k, q);
+    let c2 = need(work, p, second, k, q);
+    slice_size(Needs { y, c1, c2 }, t) <= share
+}
+
+// Whether slice k fits its share at index q. Where luma alone does not fit, the colours are not looked at.
 fn fits(work: &[i64], p: Picture, t: Terms, share: u64, k: u32, q: u32) -> bool
     requires { ⌜ SliceIn p (now work) k q × TermsIn t ⌝ }
     ensures { λ r. ⌜ r ≡ fitsBy (t .prefix) (t .scaler) share (numbersIn (now (work .entry)) p k) q ⌝ }
 {
-    slice_size(needs_of(work, p, k, q), t) <= share
+    let luma = p.y;
+    let y = need(work, p, luma, k, q);
+    if slice_size(Needs { y, c1: 0, c2: 0 }, t) > share {
+        return false;
+    }
+    fits_with(work, p, t, share, k, q, y)
 }
 
 // The middle of a range, rounded down.

@@ -104,13 +104,17 @@ pub fn colour_cost(work: &[i64], p: Picture, k: u32, q: u32, room: u64) -> Cost
     crate::run::cost_run(work, p.front, p.end, l, c1, c2, true, k, q, none)
 }
 
-// Whether slice k takes at most room bits at index q. The rebuilt planes are left as this index makes them.
+// Whether slice k takes at most room bits at index q. The rebuilt planes are left as this index makes them. Where luma alone does not fit, the
+// colours are not looked at.
 fn fits(work: &mut [i64], p: Picture, room: u64, k: u32, q: u32) -> bool
     requires { ⌜ SliceIn p (now work) k q ⌝ }
     ensures { λ r. ⌜ (r ≡ lowFitsIn (now (work .entry)) p room k q) × ((now (work .exit) ≡ rebuiltIn (now (work .entry)) p k q) × Small (p .front) (p .end) (now (work .exit))) ⌝ }
 {
     rebuild_planes(work, p, k, q);
     let y = luma_cost(work, p, k, q, room);
+    if y.kept_bits > room {
+        return false;
+    }
     let c = colour_cost(work, p, k, q, room);
     y.kept_bits + c.kept_bits <= room
 }

@@ -70,8 +70,8 @@ fn put_place(
     put_second(out, q, work, a, n, s, y, x)
 }
 
-// Those of a row of the strip.
-fn put_row(out: &mut [u8], p: Put, work: &[i64], a: usize, n: usize, s: Strip, y: usize) -> Put
+// Those of a row of the strip, place by place.
+fn put_places(out: &mut [u8], p: Put, work: &[i64], a: usize, n: usize, s: Strip, y: usize) -> Put
     requires { ⌜ RoomFor (now out) p (rowNumbers (now work) s y (s .left) (s .right - s .left)) × (Small a n (now work) × (Within a n s × ((s .top ≤ y) × (y < s .bottom)))) ⌝ }
     ensures { λ r. ⌜ Puts (now (out .entry)) p (rowNumbers (now (work .entry)) s y (s .left) (s .right - s .left)) (now (out .exit)) r ⌝ }
 {
@@ -84,8 +84,19 @@ fn put_row(out: &mut [u8], p: Put, work: &[i64], a: usize, n: usize, s: Strip, y
     t
 }
 
-// Those of the strip.
-pub fn put_strip(out: &mut [u8], p: Put, work: &[i64], a: usize, n: usize, s: Strip) -> Put
+// Those of a row of the strip; none is worked out where none is to be kept.
+fn put_row(out: &mut [u8], p: Put, work: &[i64], a: usize, n: usize, s: Strip, y: usize) -> Put
+    requires { ⌜ RoomFor (now out) p (rowNumbers (now work) s y (s .left) (s .right - s .left)) × (Small a n (now work) × (Within a n s × ((s .top ≤ y) × (y < s .bottom)))) ⌝ }
+    ensures { λ r. ⌜ Puts (now (out .entry)) p (rowNumbers (now (work .entry)) s y (s .left) (s .right - s .left)) (now (out .exit)) r ⌝ }
+{
+    if p.left == 0 {
+        return p;
+    }
+    put_places(out, p, work, a, n, s, y)
+}
+
+// Those of the strip, row by row.
+fn put_rows(out: &mut [u8], p: Put, work: &[i64], a: usize, n: usize, s: Strip) -> Put
     requires { ⌜ RoomFor (now out) p (stripNumbers (now work) s) × (Small a n (now work) × Within a n s) ⌝ }
     ensures { λ r. ⌜ Puts (now (out .entry)) p (stripNumbers (now (work .entry)) s) (now (out .exit)) r ⌝ }
 {
@@ -96,4 +107,15 @@ pub fn put_strip(out: &mut [u8], p: Put, work: &[i64], a: usize, n: usize, s: St
         y += 1;
     }
     t
+}
+
+// Those of the strip; none is worked out where none is to be kept.
+pub fn put_strip(out: &mut [u8], p: Put, work: &[i64], a: usize, n: usize, s: Strip) -> Put
+    requires { ⌜ RoomFor (now out) p (stripNumbers (now work) s) × (Small a n (now work) × Within a n s) ⌝ }
+    ensures { λ r. ⌜ Puts (now (out .entry)) p (stripNumbers (now (work .entry)) s) (now (out .exit)) r ⌝ }
+{
+    if p.left == 0 {
+        return p;
+    }
+    put_rows(out, p, work, a, n, s)
 }
