@@ -30,6 +30,10 @@ abs-read z m h e = rw (toZ-ofZ {w = w64} h) at e
 pub quarter : (m f : ℕ) → 4 ≤ f → m ≤ 2 ^ 63 → m / f ≤ 2 ^ 61
 quarter m f h l = div-le-of-le-mul f (le-trans (omega arith) (mul-le-mul-right (2 ^ 61) h))
 
+-- ---- four times m over f: m itself at the factor 4
+pub over-four : (m f : ℕ) → f ≡ 4 → m ≡ 4 * m / f
+over-four m f e = rw e (omega arith)
+
 -- ---- four times m over f: a quotient and a remainder doubled twice
 pub four-times : (f m : ℕ) (a b c : Quotient) → a .quotient ≡ m / f → a .remainder ≡ m % f → Doubles f a b → Doubles f b c → c .quotient ≡ 4 * m / f
 four-times f m a b c eq er s t =

@@ -196,7 +196,7 @@ pub struct DefaultMatrix {
     pub values: [u32; 25],
 }
 
-// For a wavelet, a horizontal-only wavelet, a depth and a horizontal-only depth.
+// For a wavelet, a horizontal-only wavelet, a depth and a horizontal-only depth. For the layers above.
 pub fn default_quant_matrix(
     wavelet: u32,
     wavelet_ho: u32,

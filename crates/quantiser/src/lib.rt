@@ -100,18 +100,32 @@ fn doubled(q: Quotient, f: u64) -> Quotient
     }
 }
 
-// Four times c over the factor f, truncated and capped: a quotient and a remainder doubled twice. For the layers above.
-pub fn forward_by(c: i64, f: u64) -> i64
-    requires { ⌜ (4 ≤ f) × (f < 2 ^ 63) ⌝ }
-    ensures { λ r. ⌜ r ≡ forwardBy f c ⌝ }
+// Four times m over f: one division where four times m is a number of 64 bits, else a quotient and a remainder doubled twice.
+fn four_over(m: u64, f: u64) -> u64
+    requires { ⌜ ((4 ≤ f) × (f < 2 ^ 63)) × (m ≤ 2 ^ 63) ⌝ }
+    ensures { λ r. ⌜ r ≡ 4 * m / f ⌝ }
 {
-    let m = codewords::unsigned_abs(c);
+    if f == 4 {
+        return m;
+    }
+    if m < 0x4000_0000_0000_0000 {
+        return 4 * m / f;
+    }
     let once = Quotient {
         quotient: m / f,
         remainder: m % f,
     };
     let four = doubled(doubled(once, f), f);
-    signed(c, cap(four.quotient))
+    four.quotient
+}
+
+// Four times c over the factor f, truncated and capped. For the layers above.
+pub fn forward_by(c: i64, f: u64) -> i64
+    requires { ⌜ (4 ≤ f) × (f < 2 ^ 63) ⌝ }
+    ensures { λ r. ⌜ r ≡ forwardBy f c ⌝ }
+{
+    let m = codewords::unsigned_abs(c);
+    signed(c, cap(four_over(m, f)))
 }
 
 // The place of the leading one of n / f, without the quotient: f, moved up until its leading one is at n's place, is above n or not.
