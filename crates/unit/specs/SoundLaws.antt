@@ -3,7 +3,8 @@ use mathlib.Core.Path.{_≡_, refl, sym, ap, ap₂, _∙_, subst}
 use mathlib.Core.List.{List, [], _∷_, map}
 use Prim.Native.Nat.{ℕ, zero, suc, _+_, _*_, _-_, _^_, _≤_, _<_}
 use native.Mathlib.Omega.{arith}
-use native.Mathlib.Nat.{le-trans}
+use native.Mathlib.Nat.{le-trans, zero-div, zero-mod}
+use native.Mathlib.Decide.{decLe}
 use lib.IntN.{ℤ}
 use lib.ListN.{length, length-append}
 use Rattle.laws.specs.Rows.{span}
@@ -25,7 +26,7 @@ use Rattle.unit.specs.Coefficients.{bandsOf, coefficientsOf}
 use Rattle.unit.specs.Quantised.{sizeOf}
 use Rattle.unit.specs.Plan.{SlicePlan, Plan}
 use Rattle.unit.specs.LowDelay.{sliceBytes, lowNumbers, lowIndex, lowPlanOf, lowPlan, lowSlices, lowLeft, zeroPlanes}
-use Rattle.unit.specs.HighQuality.{highBits, shareOf, highNumbers, highPlan, largestNeed}
+use Rattle.unit.specs.HighQuality.{highBits, sliceSize, shareOf, highNumbers, highPlan, largestNeed}
 use Rattle.unit.specs.Unit.{majorVersion, gridOf, parametersBy, targetOf, lowParameters, highParameters, numeratorOf, highBytes, highSlicesOf, scalerOf, planBy, planOf, sliceRuns, joined, lengthOf}
 use Rattle.unit.specs.Reader.{SliceRead, numberCount, readLow, readHigh, gridIn, countsIn}
 use Rattle.unit.specs.Demand.{bytesOf, SameSlices, sum, Bytes}
@@ -181,6 +182,15 @@ module _ (s : Settings) (m : List ℕ) (p : Three (List ℕ)) where
   abbrev pub highOverhead : ℕ
   highOverhead = 17 + parameterBytes (majorVersion s) (highParameters s m (scalerOf s m (coefficientsOf s p)))
 
+-- a slice takes bytes, and a share of none is none
+taken-some : (s : Settings) (m : List ℕ) (p : Three (List ℕ)) (k : ℕ) → 4 ≤ takenBy s m p k
+unfolding sliceSize
+taken-some s m p k = omega arith
+
+share-none : (n : ℕ) → shareOf 0 n 0 ≡ 0
+unfolding shareOf
+share-none n = rw (zero-div n, zero-mod n)
+
 -- as many slices as there are in the grid
 many-by : (s : Settings) (m : List ℕ) (b : Three (List Band)) (kind : PictureKind) → length (planBy s m kind b .slices) ≡ count (gridOf s)
 many-by s m b LowDelay = low-many (gridOf s) (matrixValues s m) b (numeratorOf s m) zeroPlanes 0 (count (gridOf s))
@@ -260,12 +270,24 @@ module _ (s : Settings) (m : List ℕ) (p : Three (List ℕ)) (work : List ℤ) 
       ∙ ap (λ (ns : List ℕ). highOverhead s m p + sum ns)
       (high-bytes (gridOf s) (matrixValues s m) b (s .«slice_prefix_bytes») (s .rate) c (highBytes s m c) (scaler-some s m b (v .scaler .some)))
 
-  -- if every high-quality slice fits its share of the target less the overhead, the unit is at most the target
-  pub target-kept : s .kind ≡ HighQuality → highOverhead s m p ≤ targetOf (s .rate)
+  -- if every high-quality slice fits its share of the target less the overhead, the unit is at most the target: where the overhead is more than the
+  -- target, the share is 0, and no slice fits it
+  pub target-kept : s .kind ≡ HighQuality
       → ((k : ℕ) → k < count (gridOf s) → takenBy s m p k ≤ shareOf (targetOf (s .rate) - highOverhead s m p) (count (gridOf s)) k)
       → lengthOf s (planOf s m p) ≤ targetOf (s .rate)
-  target-kept e o f =
-      omega (arith, length-high-unit e, shares-kept (takenBy s m p) (targetOf (s .rate) - highOverhead s m p) (count (gridOf s)) (slice-count v .some) f)
+  target-kept e f = by (decLe (highOverhead s m p) (targetOf (s .rate)))
+    where
+      n : ℕ
+      n = count (gridOf s)
+
+      bytes : ℕ
+      bytes = targetOf (s .rate) - highOverhead s m p
+
+      by : Dec (highOverhead s m p ≤ targetOf (s .rate)) → lengthOf s (planOf s m p) ≤ targetOf (s .rate)
+      by (yes o) = omega (arith, length-high-unit e, shares-kept (takenBy s m p) bytes n (slice-count v .some) f)
+      by (no o) =
+          let z : bytes ≡ 0 = omega arith in
+          absurd (omega (arith, f 0 (slice-count v .some), ap (λ (b : ℕ). shareOf b n 0) z, share-none n, taken-some s m p 0))
 
 pub sound-of : (s : Settings) (m : List ℕ) (p : Three (List ℕ)) (work : List ℤ) → Valid s m p work
     → s .«picture_number» < 2 ^ 32 → s .«prev_unit_len» < 2 ^ 32 → lengthOf s (planOf s m p) < 2 ^ 32 → Sound s (planOf s m p)
