@@ -14,10 +14,11 @@ const MANY_OUTPUT: usize = 6 << 20;
 
 /// One call. Those with more than a few thousand slices are not among them.
 pub fn nth(rng: &mut Random) -> Call {
-    match rng.below(24) {
+    match rng.below(26) {
         0..=3 => broken(rng),
         4 => thousands(rng),
         5..=7 => near_its_length(rng),
+        24..=25 => raised(rng),
         8..=13 => small(rng),
         _ => general(rng),
     }
@@ -157,6 +158,22 @@ fn near_its_length(rng: &mut Random) -> Call {
         job.settings[RATE] = 2;
         job.settings[RATE_NUMBER] = (length + rng.below(9)).saturating_sub(4) as u32;
     }
+    lent(rng, &job)
+}
+
+/// High quality in one or two large slices, so that a component outgrows its byte.
+fn raised(rng: &mut Random) -> Call {
+    let sides = |rng: &mut Random| [rng.range(20, 48), rng.range(20, 48)];
+    let mut job = shape(rng, sides, 6_000);
+    let s = &mut job.settings;
+    (s[KIND], s[ACROSS], s[DOWN]) = (1, 1, rng.range(1, 2) as u32);
+    s[SCALER] = rng.pick(&[1, 1, 2, 3]);
+    fill(rng, &mut job);
+    (job.settings[RATE], job.settings[RATE_NUMBER]) = match rng.below(3) {
+        0 => (0, 0),
+        1 => (1, rng.below(12) as u32),
+        _ => (2, rng.range(1_500, 12_000) as u32),
+    };
     lent(rng, &job)
 }
 
