@@ -1,7 +1,7 @@
 -- Interleaved exp-Golomb code words, ST 2042-1 A.4.3 and A.4.4. Assumes nothing.
 use mathlib.Core.Bool.{true, false}
 use mathlib.Core.List.{List, [], _∷_, _++_}
-use Prim.Native.Nat.{ℕ, zero, suc, _+_, _*_, _/_, _%_}
+use Prim.Native.Nat.{ℕ, zero, suc, _+_, _/_}
 use lib.IntN.{ℤ, pos, negsuc, natAbs}
 use Rattle.codewords.specs.Bit.{Bits, lit}
 
@@ -19,11 +19,6 @@ log2 w = log2In w w
 unfoldable pub interleaved : Bits → Bits
 interleaved [] = []
 interleaved (b ∷ s) = false ∷ b ∷ interleaved s
-
--- the k low bits of b, each at twice its place
-unfoldable pub spreadBits : ℕ → ℕ → ℕ
-spreadBits zero b = 0
-spreadBits (suc k) b = spreadBits k (b / 2) * 4 + b % 2
 
 -- A.4.3: the bits of v + 1 below its leading one, each behind a 0, and then a 1
 unfoldable pub codeU : ℕ → Bits

@@ -4,6 +4,7 @@ pub mod Read
 pub mod Bytes
 pub mod BitLaws
 pub mod CodeLaws
+pub mod Spread
 pub mod WordLaws
 pub mod ByteLaws
 pub mod ReadLaws

@@ -15,7 +15,8 @@ use mir.Val.{boolByte}
 use Rattle.laws.specs.Rows.{span, getD-span}
 use Rattle.codewords.specs.Bit.{Bits, val, lit}
 use Rattle.codewords.specs.BitLaws.{val-bit, byte-val, lit-none, lit-low, lit-more}
-use Rattle.codewords.specs.Code.{log2In, log2, interleaved, spreadBits, codeU, codeS}
+use Rattle.codewords.specs.Code.{log2In, log2, interleaved, codeU, codeS}
+use Rattle.codewords.specs.Spread.{spreadBits}
 use Rattle.codewords.specs.CodeLaws.{interleaved-none, interleaved-append, codeU-is, codeS-none}
 
 -- ---- the bits of a number, each at twice its place

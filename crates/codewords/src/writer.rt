@@ -7,7 +7,8 @@ ghost use lib.ListN.{length};
 ghost use Rattle.laws.specs.Laid.{Lays};
 ghost use Rattle.codewords.specs.Bit.{lit, ones, zeros};
 ghost use Rattle.codewords.specs.Bytes.{toBytes};
-ghost use Rattle.codewords.specs.Code.{interleaved, spreadBits, codeU, codeS};
+ghost use Rattle.codewords.specs.Code.{interleaved, codeU, codeS};
+ghost use Rattle.codewords.specs.Spread.{spreadBits};
 ghost use Rattle.codewords.specs.Writer.{Room, Wrote, Aligns, padding};
 
 // The place of the byte that is begun, the bits that it has so far, and how many they are.

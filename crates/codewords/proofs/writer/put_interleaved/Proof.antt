@@ -10,7 +10,8 @@ use borrow.Author.Needs.{needs}
 use Rattle.codewords.specs.declared.writer.BitWriter.{BitWriter}
 use Rattle.codewords.specs.Bit.{lit}
 use Rattle.codewords.specs.BitLaws.{length-lit, lit-none, lit-split, byte-up}
-use Rattle.codewords.specs.Code.{interleaved, spreadBits}
+use Rattle.codewords.specs.Code.{interleaved}
+use Rattle.codewords.specs.Spread.{spreadBits}
 use Rattle.codewords.specs.CodeLaws.{interleaved-none, interleaved-append, length-interleaved}
 use Rattle.codewords.specs.WordLaws.{interleaved-spread, word-lit}
 use Rattle.codewords.specs.Writer.{Sound, Room, Wrote}

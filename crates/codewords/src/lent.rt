@@ -1,0 +1,70 @@
+// The writer of bits lent by reference: each put copies the writer out, calls the put of the same name on it, and stores what that gave.
+ghost use mathlib.Core.List.{[], _∷_};
+ghost use Prim.Native.Nat.{_≤_};
+ghost use lib.ListN.{length};
+ghost use Rattle.codewords.specs.Bit.{lit, ones};
+ghost use Rattle.codewords.specs.Code.{codeU, codeS};
+ghost use Rattle.codewords.specs.Writer.{Room, Wrote, Aligns, padding, fresh};
+use crate::writer::BitWriter;
+
+// One bit.
+pub fn put_bit(out: &mut [u8], w: &mut BitWriter, bit: bool)
+    requires { ⌜ Room (now out) (now w) 1 ⌝ }
+    ensures { λ _. ⌜ Wrote (now (out .entry)) (now (w .entry)) (bit ∷ []) (now (out .exit)) (now (w .exit)) ⌝ }
+{
+    *w = crate::writer::put_bit(out, *w, bit);
+}
+
+// The n low bits of v.
+pub fn put_nbits(out: &mut [u8], w: &mut BitWriter, v: u64, n: u32)
+    requires { ⌜ Room (now out) (now w) n × (n ≤ 64) ⌝ }
+    ensures { λ _. ⌜ Wrote (now (out .entry)) (now (w .entry)) (lit n v) (now (out .exit)) (now (w .exit)) ⌝ }
+{
+    *w = crate::writer::put_nbits(out, *w, v, n);
+}
+
+// The unsigned code word of v.
+pub fn put_uint(out: &mut [u8], w: &mut BitWriter, v: u32)
+    requires { ⌜ Room (now out) (now w) (length (codeU v)) ⌝ }
+    ensures { λ _. ⌜ Wrote (now (out .entry)) (now (w .entry)) (codeU v) (now (out .exit)) (now (w .exit)) ⌝ }
+{
+    *w = crate::writer::put_uint(out, *w, v);
+}
+
+// The signed code word of v.
+pub fn put_sint(out: &mut [u8], w: &mut BitWriter, v: i64)
+    requires { ⌜ Room (now out) (now w) (length (codeS v)) ⌝ }
+    ensures { λ _. ⌜ Wrote (now (out .entry)) (now (w .entry)) (codeS v) (now (out .exit)) (now (w .exit)) ⌝ }
+{
+    *w = crate::writer::put_sint(out, *w, v);
+}
+
+// Zeros up to the end of the byte.
+pub fn byte_align(out: &mut [u8], w: &mut BitWriter)
+    requires { ⌜ Room (now out) (now w) (padding (now w)) ⌝ }
+    ensures { λ _. ⌜ Aligns (now (out .entry)) (now (w .entry)) (now (out .exit)) (now (w .exit)) ⌝ }
+{
+    *w = crate::writer::byte_align(out, *w);
+}
+
+// n ones.
+pub fn put_ones(out: &mut [u8], w: &mut BitWriter, n: u64)
+    requires { ⌜ Room (now out) (now w) n ⌝ }
+    ensures { λ _. ⌜ Wrote (now (out .entry)) (now (w .entry)) (ones n) (now (out .exit)) (now (w .exit)) ⌝ }
+{
+    *w = crate::writer::put_ones(out, *w, n);
+}
+
+// The n low bits of v from the byte at on: a writer is made there, lent for the put, and given back.
+pub fn put_word(out: &mut [u8], at: usize, v: u64, n: u32) -> BitWriter
+    requires { ⌜ Room (now out) (fresh at) n × (n ≤ 64) ⌝ }
+    ensures { λ r. ⌜ Wrote (now (out .entry)) (fresh at) (lit n v) (now (out .exit)) r ⌝ }
+{
+    let mut w = BitWriter {
+        at,
+        pending: 0,
+        pending_bits: 0,
+    };
+    put_nbits(out, &mut w, v, n);
+    w
+}
