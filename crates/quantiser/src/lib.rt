@@ -10,7 +10,7 @@ ghost use Rattle.codewords.specs.Code.{log2, codeS};
 ghost use Rattle.quantiser.specs.Answer.{Answered};
 ghost use Rattle.quantiser.specs.Standard.{signed};
 ghost use Rattle.quantiser.specs.Quant.{cap, quantFactor, quantOffset, forwardBy, forwardQuant, inverseBy, inverseQuant};
-ghost use Rattle.quantiser.specs.Step.{Doubles, Step};
+ghost use Rattle.quantiser.specs.Step.{Doubles};
 
 // A call's value, or its refusal's number in document 01.
 pub enum QuantAnswer {
@@ -172,20 +172,4 @@ pub fn inverse_by(q: i64, f: u64, off: u64) -> i64
     let product = capped_mul(cap(m), f);
     let sum = cap(cap(product + off) + 2);
     signed(q, sum / 4)
-}
-
-// A coefficient's number and what is rebuilt of it.
-pub struct Quantised {
-    pub number: i64,
-    pub rebuilt: i64,
-}
-
-// The quantising step: both together. For the layers above.
-pub fn quantise(c: i64, f: u64, off: u64) -> Quantised
-    requires { ⌜ (4 ≤ f) × ((f < 2 ^ 63) × (off < 2 ^ 63)) ⌝ }
-    ensures { λ r. ⌜ Step f off c r ⌝ }
-{
-    let number = forward_by(c, f);
-    let rebuilt = inverse_by(number, f, off);
-    Quantised { number, rebuilt }
 }
