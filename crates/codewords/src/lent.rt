@@ -1,11 +1,11 @@
 // The writer of bits lent by reference: each put copies the writer out, calls the put of the same name on it, and stores what that gave.
+use crate::writer::BitWriter;
 ghost use mathlib.Core.List.{[], _∷_};
 ghost use Prim.Native.Nat.{_≤_};
 ghost use lib.ListN.{length};
 ghost use Rattle.codewords.specs.Bit.{lit, ones};
 ghost use Rattle.codewords.specs.Code.{codeU, codeS};
 ghost use Rattle.codewords.specs.Writer.{Room, Wrote, Aligns, padding, fresh};
-use crate::writer::BitWriter;
 
 // One bit.
 pub fn put_bit(out: &mut [u8], w: &mut BitWriter, bit: bool)

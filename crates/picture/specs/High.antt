@@ -110,7 +110,7 @@ pub record PlansTo (w : List ℤ) (p : Picture) (t : Terms) (from n : ℕ) (r : 
   pub largest : r .largest ≡ largestNeed (plansIn w p t n)
   pub few : r .largest ≤ 2 ^ 30
 
--- v is w with the indices of the first n slices noted behind the coefficients, as far as it reaches
+-- v has what w has before its end, and behind it the indices of the first n slices, as far as v reaches
 pub record Notes (w : List ℤ) (p : Picture) (t : Terms) (n : ℕ) (v : List ℤ) : Type 0 where
   pub size : length v ≡ length w
   pub same : (i : ℕ) → i < p .end → at v i ≡ at w i
