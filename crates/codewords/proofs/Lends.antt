@@ -120,7 +120,7 @@ stayed ss ks hs = (gave-slice (0 ∷ []) tt (plain (λ _. u8)), (stay-ref (1 ∷
 -- ---- the walk
 module _ {M : Type 1} {𝓤 : URA M} {H : Heap 𝓤} {A : Atoms 𝓤} {K : Type 0} {W : Given 𝓤 H A} {Γ : List (Item 𝓤)} {E : Env 𝓤 H} where
   -- a place in a local whose type and block are known by an equation
-  from-at : K → {i : ℕ} {st : List PStep} {e : Ty × ℕ} {sp : Spot 𝓤 H} → getD E i (noLocal 𝓤 H) ≡ e → Walks K W Γ E (e .0, e .1, zero) st sp → Finds K W Γ E (place i st) sp
+  pub from-at : K → {i : ℕ} {st : List PStep} {e : Ty × ℕ} {sp : Spot 𝓤 H} → getD E i (noLocal 𝓤 H) ≡ e → Walks K W Γ E (e .0, e .1, zero) st sp → Finds K W Γ E (place i st) sp
   from-at t {i} {st} {e} {sp} p w = record { go = λ Kt h. subst (λ (x : Ty × ℕ). ent 𝓤 (⋆ 𝓤 H A Γ) (walkWp 𝓤 H E (x .0, x .1, zero) st Kt)) (sym p) (w .go Kt h) }
 
 -- the output and the lent writer as the function is passed them, and the output's machine value

@@ -39,7 +39,3 @@ padding w = (8 - w .«pending_bits») % 8
 pub record Aligns (o : List ℕ) (w : BitWriter) (o′ : List ℕ) (w′ : BitWriter) : Type 0 where
   pub wrote : Wrote o w (zeros (padding w)) o′ w′
   pub whole : w′ .«pending_bits» ≡ 0
-
--- a writer with nothing begun
-abbrev pub fresh : ℕ → BitWriter
-fresh i = record { at = i; pending = 0; «pending_bits» = 0 }

@@ -5,7 +5,7 @@ ghost use Prim.Native.Nat.{_≤_};
 ghost use lib.ListN.{length};
 ghost use Rattle.codewords.specs.Bit.{lit, ones};
 ghost use Rattle.codewords.specs.Code.{codeU, codeS};
-ghost use Rattle.codewords.specs.Writer.{Room, Wrote, Aligns, padding, fresh};
+ghost use Rattle.codewords.specs.Writer.{Room, Wrote, Aligns, padding};
 
 // One bit.
 pub fn put_bit(out: &mut [u8], w: &mut BitWriter, bit: bool)
@@ -53,18 +53,4 @@ pub fn put_ones(out: &mut [u8], w: &mut BitWriter, n: u64)
     ensures { λ _. ⌜ Wrote (now (out .entry)) (now (w .entry)) (ones n) (now (out .exit)) (now (w .exit)) ⌝ }
 {
     *w = crate::writer::put_ones(out, *w, n);
-}
-
-// The n low bits of v from the byte at on: a writer is made there, lent for the put, and given back.
-pub fn put_word(out: &mut [u8], at: usize, v: u64, n: u32) -> BitWriter
-    requires { ⌜ Room (now out) (fresh at) n × (n ≤ 64) ⌝ }
-    ensures { λ r. ⌜ Wrote (now (out .entry)) (fresh at) (lit n v) (now (out .exit)) r ⌝ }
-{
-    let mut w = BitWriter {
-        at,
-        pending: 0,
-        pending_bits: 0,
-    };
-    put_nbits(out, &mut w, v, n);
-    w
 }

@@ -1,4 +1,5 @@
 // Code words: their lengths, and the writer of bits. The port of bitio.rs.
+pub mod bitio;
 pub mod lent;
 pub mod writer;
 

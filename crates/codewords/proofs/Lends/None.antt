@@ -33,10 +33,10 @@ use Rattle.codewords.proofs.writer.BitWriter as T
 use Rattle.codewords.proofs.writer.BitWriter.Laws as T′
 use Rattle.codewords.proofs.Lends.{function, covered, lent, stayed, out, outVal, ref, Takes, Gives, Has, enters, leaves, middle}
 
-abbrev Covered : Ended
+abbrev pub Covered : Ended
 Covered = covered ([]) tt
 
-abbrev Lent : Ended
+abbrev pub Lent : Ended
 Lent = lent ([]) tt
 
 abbrev Stayed : Stays (Lent .signature .params) (Lent .kept)
@@ -47,10 +47,10 @@ code f = function f ([]) ([]) 2 3 4 5 6
 
 -- pre is what is required of the output, the writer and the arguments, and post what is ensured of those and of the output and the writer after
 module _ (pre : List ℕ → BitWriter → Type 0) (post : List ℕ → BitWriter → List ℕ → BitWriter → Type 0) {M : Type 1} (𝓤 : URA M) where
-  abbrev covered-clauses : Clauses 𝓤 Covered
+  abbrev pub covered-clauses : Clauses 𝓤 Covered
   covered-clauses = λ κs a. record { ghost = Unit {0}; requires = λ g. fact 𝓤 (pre (now (a .0)) (a .1 .0)); ensures = λ g r e. fact 𝓤 (post (now (a .0)) (a .1 .0) (now (e .0)) r) }
 
-  abbrev lent-clauses : Clauses 𝓤 Lent
+  abbrev pub lent-clauses : Clauses 𝓤 Lent
   lent-clauses = λ κs a. record { ghost = Unit {0}; requires = λ g. fact 𝓤 (pre (now (a .0)) (now (a .1 .0))); ensures = λ g r e. fact 𝓤 (post (now (a .0)) (now (a .1 .0)) (now (e .0)) (now (e .1 .0))) }
 
   module _ (H : Heap 𝓤) (A : Atoms 𝓤) where

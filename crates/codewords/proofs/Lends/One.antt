@@ -36,10 +36,10 @@ use Rattle.codewords.proofs.writer.BitWriter.Laws as T′
 use Rattle.codewords.proofs.Lends.{Arg, row, function, covered, lent, stayed, out, outVal, ref, Takes, Gives, Has, enters, leaves, middle}
 
 module _ (R : Arg) where
-  abbrev Covered : Ended
+  abbrev pub Covered : Ended
   Covered = covered (plain (λ _. row R) ∷ []) (yes, tt)
 
-  abbrev Lent : Ended
+  abbrev pub Lent : Ended
   Lent = lent (plain (λ _. row R) ∷ []) (yes, tt)
 
   abbrev Stayed : Stays (Lent .signature .params) (Lent .kept)
@@ -50,10 +50,10 @@ module _ (R : Arg) where
 
   -- pre is what is required of the output, the writer and the arguments, and post what is ensured of those and of the output and the writer after
   module _ (pre : List ℕ → BitWriter → R .X → Type 0) (post : List ℕ → BitWriter → R .X → List ℕ → BitWriter → Type 0) {M : Type 1} (𝓤 : URA M) where
-    abbrev covered-clauses : Clauses 𝓤 Covered
+    abbrev pub covered-clauses : Clauses 𝓤 Covered
     covered-clauses = λ κs a. record { ghost = Unit {0}; requires = λ g. fact 𝓤 (pre (now (a .0)) (a .1 .0) (a .1 .1 .0)); ensures = λ g r e. fact 𝓤 (post (now (a .0)) (a .1 .0) (a .1 .1 .0) (now (e .0)) r) }
 
-    abbrev lent-clauses : Clauses 𝓤 Lent
+    abbrev pub lent-clauses : Clauses 𝓤 Lent
     lent-clauses = λ κs a. record { ghost = Unit {0}; requires = λ g. fact 𝓤 (pre (now (a .0)) (now (a .1 .0)) (a .1 .1 .0)); ensures = λ g r e. fact 𝓤 (post (now (a .0)) (now (a .1 .0)) (a .1 .1 .0) (now (e .0)) (now (e .1 .0))) }
 
     module _ (H : Heap 𝓤) (A : Atoms 𝓤) where

@@ -1,0 +1,68 @@
+// The puts that slices and header use, with plain parameters: each lends the writer to the put of the same name in `lent` and gives it back.
+use crate::writer::BitWriter;
+ghost use mathlib.Core.List.{[], _∷_};
+ghost use Prim.Native.Nat.{_≤_};
+ghost use lib.ListN.{length};
+ghost use Rattle.codewords.specs.Bit.{lit, ones};
+ghost use Rattle.codewords.specs.Code.{codeU, codeS};
+ghost use Rattle.codewords.specs.Writer.{Room, Wrote, Aligns, padding};
+
+// One bit.
+pub fn put_bit(out: &mut [u8], w: BitWriter, bit: bool) -> BitWriter
+    requires { ⌜ Room (now out) w 1 ⌝ }
+    ensures { λ r. ⌜ Wrote (now (out .entry)) w (bit ∷ []) (now (out .exit)) r ⌝ }
+{
+    let mut s = w;
+    crate::lent::put_bit(out, &mut s, bit);
+    s
+}
+
+// The n low bits of v.
+pub fn put_nbits(out: &mut [u8], w: BitWriter, v: u64, n: u32) -> BitWriter
+    requires { ⌜ Room (now out) w n × (n ≤ 64) ⌝ }
+    ensures { λ r. ⌜ Wrote (now (out .entry)) w (lit n v) (now (out .exit)) r ⌝ }
+{
+    let mut s = w;
+    crate::lent::put_nbits(out, &mut s, v, n);
+    s
+}
+
+// The unsigned code word of v.
+pub fn put_uint(out: &mut [u8], w: BitWriter, v: u32) -> BitWriter
+    requires { ⌜ Room (now out) w (length (codeU v)) ⌝ }
+    ensures { λ r. ⌜ Wrote (now (out .entry)) w (codeU v) (now (out .exit)) r ⌝ }
+{
+    let mut s = w;
+    crate::lent::put_uint(out, &mut s, v);
+    s
+}
+
+// The signed code word of v.
+pub fn put_sint(out: &mut [u8], w: BitWriter, v: i64) -> BitWriter
+    requires { ⌜ Room (now out) w (length (codeS v)) ⌝ }
+    ensures { λ r. ⌜ Wrote (now (out .entry)) w (codeS v) (now (out .exit)) r ⌝ }
+{
+    let mut s = w;
+    crate::lent::put_sint(out, &mut s, v);
+    s
+}
+
+// Zeros up to the end of the byte.
+pub fn byte_align(out: &mut [u8], w: BitWriter) -> BitWriter
+    requires { ⌜ Room (now out) w (padding w) ⌝ }
+    ensures { λ r. ⌜ Aligns (now (out .entry)) w (now (out .exit)) r ⌝ }
+{
+    let mut s = w;
+    crate::lent::byte_align(out, &mut s);
+    s
+}
+
+// n ones.
+pub fn put_ones(out: &mut [u8], w: BitWriter, n: u64) -> BitWriter
+    requires { ⌜ Room (now out) w n ⌝ }
+    ensures { λ r. ⌜ Wrote (now (out .entry)) w (ones n) (now (out .exit)) r ⌝ }
+{
+    let mut s = w;
+    crate::lent::put_ones(out, &mut s, n);
+    s
+}
