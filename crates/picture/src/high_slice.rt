@@ -46,7 +46,7 @@ fn put_component(
     let l = p.layout;
     let t = crate::run::cost_run(work, p.front, p.end, l, c, c, false, k, q, none);
     let n = crate::high_index::scalers((t.kept_bits + 7) / 8, scaler);
-    let a = codewords::writer::put_nbits(out, w, n, 8);
+    let a = codewords::bitio::put_nbits(out, w, n, 8);
     let b = crate::run::put_run(
         out,
         Put {
@@ -64,7 +64,7 @@ fn put_component(
         q,
     );
     let v = b.writer;
-    codewords::writer::put_ones(out, v, 8 * (n * scaler as u64) - t.kept_bits)
+    codewords::bitio::put_ones(out, v, 8 * (n * scaler as u64) - t.kept_bits)
 }
 
 // n prefix bytes, which are zeros.
@@ -75,7 +75,7 @@ fn put_prefix(out: &mut [u8], w: BitWriter, n: u32) -> BitWriter
     let mut s = w;
     let mut i = 0;
     while i < n {
-        s = codewords::writer::put_nbits(out, s, 0, 8);
+        s = codewords::bitio::put_nbits(out, s, 0, 8);
         i += 1;
     }
     s
@@ -123,7 +123,7 @@ pub fn put_hq_slice(
         pending_bits: 0,
     };
     let a = put_prefix(out, w, t.prefix);
-    let b = codewords::writer::put_nbits(out, a, q as u64, 8);
+    let b = codewords::bitio::put_nbits(out, a, q as u64, 8);
     let c = put_components(out, b, work, p, t.scaler, k, q);
     c.at
 }

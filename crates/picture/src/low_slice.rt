@@ -153,10 +153,10 @@ pub fn put_ld_slice(
         pending: 0,
         pending_bits: 0,
     };
-    let a = codewords::writer::put_nbits(out, w, q as u64, 7);
-    let b = codewords::writer::put_nbits(out, a, r.luma_bits, crate::low_index::length_bits(n));
+    let a = codewords::bitio::put_nbits(out, w, q as u64, 7);
+    let b = codewords::bitio::put_nbits(out, a, r.luma_bits, crate::low_index::length_bits(n));
     let c = put_runs(out, b, work, p, k, q, r);
-    let d = codewords::writer::put_ones(out, c, room - r.luma_bits - r.colour_bits);
+    let d = codewords::bitio::put_ones(out, c, room - r.luma_bits - r.colour_bits);
     d.at
 }
 

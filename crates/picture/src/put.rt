@@ -22,7 +22,7 @@ pub fn put_number(out: &mut [u8], p: Put, z: i64) -> Put
         return p;
     }
     let w = p.writer;
-    let writer = codewords::writer::put_sint(out, w, z);
+    let writer = codewords::bitio::put_sint(out, w, z);
     Put {
         writer,
         left: p.left - 1,

@@ -38,9 +38,9 @@ fn put_one(out: &mut [u8], w: BitWriter, p: Put) -> BitWriter
     ensures { λ r. ⌜ Wrote (now (out .entry)) w (bitsOf p) (now (out .exit)) r ⌝ }
 {
     match p {
-        Put::Uint(v) => codewords::writer::put_uint(out, w, v),
-        Put::Sint(v) => codewords::writer::put_sint(out, w, v),
-        Put::Nbits(n, v) => codewords::writer::put_nbits(out, w, v, n),
+        Put::Uint(v) => codewords::bitio::put_uint(out, w, v),
+        Put::Sint(v) => codewords::bitio::put_sint(out, w, v),
+        Put::Nbits(n, v) => codewords::bitio::put_nbits(out, w, v, n),
     }
 }
 
@@ -53,10 +53,10 @@ fn put_all(out: &mut [u8], s: u64, p: Put) -> u64
         pending: 0,
         pending_bits: 0,
     };
-    let a = codewords::writer::put_ones(out, w, s);
+    let a = codewords::bitio::put_ones(out, w, s);
     let b = put_one(out, a, p);
     let bits = b.at as u64 * 8 + b.pending_bits as u64;
-    codewords::writer::byte_align(out, b);
+    codewords::bitio::byte_align(out, b);
     bits
 }
 

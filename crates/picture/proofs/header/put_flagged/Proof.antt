@@ -9,8 +9,8 @@ use Rattle.picture.proofs.header.put_flagged.Statement.{statement}
 use Rattle.picture.proofs.header.put_flagged.Tie as tie
 use Rattle.picture.proofs.header.put_flagged.Reads as reads
 use Rattle.picture.proofs.header.put_flagged.Lts as lts
-use Rattle.codewords.proofs.writer.put_bit.Reads as put-bit-reads
-use Rattle.codewords.proofs.writer.put_uint.Reads as put-uint-reads
+use Rattle.codewords.proofs.bitio.put_bit.Reads as put-bit-reads
+use Rattle.codewords.proofs.bitio.put_uint.Reads as put-uint-reads
 
 put-bit-requires : tie.Need-put-bit-requires
 put-bit-requires c κs = room-less 1 (c .before .before .pre) (flagged-pos (c .before .before .args .flag) (c .before .before .args .v))

@@ -16,7 +16,7 @@ use Rattle.picture.proofs.header.put_header.Statement.{statement}
 use Rattle.picture.proofs.header.put_header.Tie as tie
 use Rattle.picture.proofs.header.put_header.Reads as reads
 use Rattle.picture.proofs.header.put_header.Lts as lts
-use Rattle.codewords.proofs.writer.byte_align.Reads as byte-align-reads
+use Rattle.codewords.proofs.bitio.byte_align.Reads as byte-align-reads
 use Rattle.picture.proofs.header.put_word.Reads as put-word-reads
 use Rattle.picture.proofs.header.write_parse_info.Reads as write-parse-info-reads
 use Rattle.picture.proofs.header.write_transform_parameters.Reads as write-transform-parameters-reads

@@ -10,7 +10,7 @@ use Rattle.picture.proofs.header.put_matrix.Statement.{statement}
 use Rattle.picture.proofs.header.put_matrix.Tie as tie
 use Rattle.picture.proofs.header.put_matrix.Reads as reads
 use Rattle.picture.proofs.header.put_matrix.Lts as lts
-use Rattle.codewords.proofs.writer.put_bit.Reads as put-bit-reads
+use Rattle.codewords.proofs.bitio.put_bit.Reads as put-bit-reads
 use Rattle.picture.proofs.header.put_values.Reads as put-values-reads
 
 put-bit-requires : tie.Need-put-bit-requires

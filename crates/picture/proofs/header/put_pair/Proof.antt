@@ -7,7 +7,7 @@ use Rattle.picture.proofs.header.put_pair.Statement.{statement}
 use Rattle.picture.proofs.header.put_pair.Tie as tie
 use Rattle.picture.proofs.header.put_pair.Reads as reads
 use Rattle.picture.proofs.header.put_pair.Lts as lts
-use Rattle.codewords.proofs.writer.put_uint.Reads as put-uint-reads
+use Rattle.codewords.proofs.bitio.put_uint.Reads as put-uint-reads
 
 put-uint-requires : tie.Need-put-uint-requires
 put-uint-requires c κs =

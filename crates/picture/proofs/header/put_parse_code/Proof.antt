@@ -7,7 +7,7 @@ use Rattle.picture.proofs.header.put_parse_code.Statement.{statement}
 use Rattle.picture.proofs.header.put_parse_code.Tie as tie
 use Rattle.picture.proofs.header.put_parse_code.Reads as reads
 use Rattle.picture.proofs.header.put_parse_code.Lts as lts
-use Rattle.codewords.proofs.writer.put_nbits.Reads as put-nbits-reads
+use Rattle.codewords.proofs.bitio.put_nbits.Reads as put-nbits-reads
 use Rattle.picture.proofs.header.parse_code.Reads as parse-code-reads
 
 parse-code-requires : tie.Need-parse-code-requires

@@ -13,7 +13,7 @@ use Rattle.picture.proofs.header.put_values.Statement.{statement}
 use Rattle.picture.proofs.header.put_values.Tie as tie
 use Rattle.picture.proofs.header.put_values.Reads as reads
 use Rattle.picture.proofs.header.put_values.Lts as lts
-use Rattle.codewords.proofs.writer.put_uint.Reads as put-uint-reads
+use Rattle.codewords.proofs.bitio.put_uint.Reads as put-uint-reads
 
 abbrev Inv-loop : tie.InvT-loop
 Inv-loop out₀ matrix s₀ i₀ out s i = (i ≤ length matrix) × Wrote out₀ s₀ (codesU (take i matrix)) out s

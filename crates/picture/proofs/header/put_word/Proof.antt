@@ -6,7 +6,7 @@ use Rattle.picture.proofs.header.put_word.Statement.{statement}
 use Rattle.picture.proofs.header.put_word.Tie as tie
 use Rattle.picture.proofs.header.put_word.Reads as reads
 use Rattle.picture.proofs.header.put_word.Lts as lts
-use Rattle.codewords.proofs.writer.put_nbits.Reads as put-nbits-reads
+use Rattle.codewords.proofs.bitio.put_nbits.Reads as put-nbits-reads
 
 put-nbits-requires : tie.Need-put-nbits-requires
 put-nbits-requires c κs =

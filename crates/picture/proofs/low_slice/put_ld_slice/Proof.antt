@@ -6,8 +6,8 @@ use Rattle.picture.proofs.low_slice.put_ld_slice.Statement.{statement}
 use Rattle.picture.proofs.low_slice.put_ld_slice.Tie as tie
 use Rattle.picture.proofs.low_slice.put_ld_slice.Reads as reads
 use Rattle.picture.proofs.low_slice.put_ld_slice.Lts as lts
-use Rattle.codewords.proofs.writer.put_nbits.Reads as put-nbits-reads
-use Rattle.codewords.proofs.writer.put_ones.Reads as put-ones-reads
+use Rattle.codewords.proofs.bitio.put_nbits.Reads as put-nbits-reads
+use Rattle.codewords.proofs.bitio.put_ones.Reads as put-ones-reads
 use Rattle.picture.proofs.low_index.length_bits.Reads as length-bits-reads
 use Rattle.picture.proofs.low_index.room_of.Reads as room-of-reads
 use Rattle.picture.proofs.low_slice.kept_runs.Reads as kept-runs-reads

@@ -12,8 +12,8 @@ use Rattle.replay.proofs.words.put_all.Statement.{statement}
 use Rattle.replay.proofs.words.put_all.Tie as tie
 use Rattle.replay.proofs.words.put_all.Reads as reads
 use Rattle.replay.proofs.words.put_all.Lts as lts
-use Rattle.codewords.proofs.writer.byte_align.Reads as byte-align-reads
-use Rattle.codewords.proofs.writer.put_ones.Reads as put-ones-reads
+use Rattle.codewords.proofs.bitio.byte_align.Reads as byte-align-reads
+use Rattle.codewords.proofs.bitio.put_ones.Reads as put-ones-reads
 use Rattle.replay.proofs.words.put_one.Reads as put-one-reads
 
 -- a case's bits fit the 24 bytes

@@ -12,9 +12,9 @@ use Rattle.replay.proofs.words.put_one.Statement.{statement}
 use Rattle.replay.proofs.words.put_one.Tie as tie
 use Rattle.replay.proofs.words.put_one.Reads as reads
 use Rattle.replay.proofs.words.put_one.Lts as lts
-use Rattle.codewords.proofs.writer.put_nbits.Reads as put-nbits-reads
-use Rattle.codewords.proofs.writer.put_sint.Reads as put-sint-reads
-use Rattle.codewords.proofs.writer.put_uint.Reads as put-uint-reads
+use Rattle.codewords.proofs.bitio.put_nbits.Reads as put-nbits-reads
+use Rattle.codewords.proofs.bitio.put_sint.Reads as put-sint-reads
+use Rattle.codewords.proofs.bitio.put_uint.Reads as put-uint-reads
 
 enum-known-p : tie.Need-enum-known-p
 enum-known-p c = search needs
