@@ -24,7 +24,7 @@ unfolding cap
 cap-le n = omega arith
 
 -- ---- factors
-factorBy-least : (r base : ℕ) → 4 * base ≤ factorBy r base
+pub factorBy-least : (r base : ℕ) → 4 * base ≤ factorBy r base
 factorBy-least zero base = omega arith
 factorBy-least (suc zero) base = omega arith
 factorBy-least (suc (suc zero)) base = omega arith

@@ -14,7 +14,7 @@ use Rattle.quantiser.specs.CapLaws.{cap-same}
 use Rattle.quantiser.specs.SignLaws.{abs-signed}
 
 -- ---- the place of the leading one
-log2-mono : (a b : ℕ) → 0 < a → a ≤ b → log2 a ≤ log2 b
+pub log2-mono : (a b : ℕ) → 0 < a → a ≤ b → log2 a ≤ log2 b
 log2-mono a b p h =
     let s = log2-top a p in
     let t = log2-top b (omega arith) in

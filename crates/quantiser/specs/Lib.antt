@@ -12,4 +12,5 @@ pub mod SignLaws
 pub mod StepLaws
 pub mod LengthLaws
 pub mod QuantLaws
+pub mod RisesLaws
 pub mod Examples
