@@ -20,6 +20,7 @@ pub mod HighIndexLaws
 pub mod ElectLoopLaws
 pub mod HighPlanLaws
 pub mod NotedLaws
+pub mod RisesLaws
 pub mod HighSliceLaws
 pub mod Low
 pub mod AgainLaws
