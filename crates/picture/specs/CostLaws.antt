@@ -233,7 +233,7 @@ pub cost-of : (room : ℕ) (xs : List ℤ) → CostOf room xs (addAll (noCost ro
 cost-of room xs = cost-more room [] xs (noCost room) (no-cost room)
 
 -- ---- runs from the start
-trimmed-prefix : (xs : List ℤ) → trimmed xs ≡ take (length (trimmed xs)) xs
+pub trimmed-prefix : (xs : List ℤ) → trimmed xs ≡ take (length (trimmed xs)) xs
 unfolding trimmed
 trimmed-prefix [] = refl
 trimmed-prefix (x ∷ xs) = by x (trimmed xs) (trimmed-prefix xs)
@@ -243,6 +243,17 @@ trimmed-prefix (x ∷ xs) = by x (trimmed xs) (trimmed-prefix xs)
     by (pos zero) [] e = refl
     by (pos (suc n)) [] e = refl
     by (negsuc n) [] e = refl
+
+pub trimmed-most : (xs : List ℤ) → length (trimmed xs) ≤ length xs
+unfolding trimmed
+trimmed-most [] = omega arith
+trimmed-most (x ∷ xs) = by x (trimmed xs) (trimmed-most xs)
+  where
+    by : (x : ℤ) (ts : List ℤ) → length ts ≤ length xs → length (trimCons x ts) ≤ length (x ∷ xs)
+    by x (t ∷ ts) h = omega (arith, h)
+    by (pos zero) [] h = omega arith
+    by (pos (suc n)) [] h = omega arith
+    by (negsuc n) [] h = omega arith
 
 fit-take : (k : ℕ) (xs : List ℤ) (n : ℕ) → fitPrefix (take k xs) n ≡ take k (fitPrefix xs n)
 unfolding fitPrefix

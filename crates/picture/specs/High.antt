@@ -4,8 +4,8 @@ use mathlib.Core.Bool.{Bool, true, false}
 use mathlib.Core.List.{List, _++_}
 use Prim.Native.Nat.{ℕ, _+_, _*_, _^_, _≤_, _<_, max}
 use lib.Dec.{leb}
-use lib.IntN.{ℤ, pos}
-use lib.ListN.{length}
+use lib.IntN.{ℤ, pos, natAbs}
+use lib.ListN.{length, set}
 use Rattle.laws.specs.Rows.{at, span}
 use Rattle.laws.specs.Chunks.{chunks}
 use Rattle.codewords.specs.Bit.{Bits}
@@ -15,14 +15,17 @@ use Rattle.unit.specs.declared.PictureKind.the-variants.{HighQuality}
 use Rattle.unit.specs.declared.RateControl.{RateControl}
 use Rattle.unit.specs.declared.RateControl.the-variants.{Lossless, FixedQuantIndex, PictureBytes}
 use Rattle.unit.specs.Three.{Three}
+use Rattle.unit.specs.Trim.{trimmed, trimmedCost}
 use Rattle.unit.specs.Elect.{elect}
 use Rattle.unit.specs.Plan.{SlicePlan}
 use Rattle.unit.specs.Valid.{RateFits}
 use Rattle.unit.specs.Parameters.{parameterBytes}
-use Rattle.unit.specs.HighQuality.{needOf, sliceSize, componentBits, highBits, shareOf, largestNeed, scalerFrom}
+use Rattle.unit.specs.HighQuality.{ceiling, needOf, sliceSize, componentBits, highBits, shareOf, largestNeed, scalerFrom}
 use Rattle.unit.specs.Unit.{majorVersion, highParameters, highBytes}
 use Rattle.picture.specs.declared.layout.Picture.{Picture}
 use Rattle.picture.specs.declared.high_index.Needs.{Needs}
+use Rattle.picture.specs.declared.high_index.Trimmed.{Trimmed}
+use Rattle.picture.specs.declared.high_index.Choice.{Choice}
 use Rattle.picture.specs.declared.high_index.Terms.{Terms}
 use Rattle.picture.specs.declared.high_index.Range.{Range}
 use Rattle.picture.specs.declared.slice_coder.SliceCoder.{SliceCoder}
@@ -69,6 +72,46 @@ slicesBy w p s m c = plansIn w p (termsOf s m c) (slicesIn p)
 abbrev pub threeBits : ℕ → Three (List ℤ) → Bits
 threeBits c z = componentBits c (z .y) ++ (componentBits c (z .c1) ++ componentBits c (z .c2))
 
+-- a run without trailing zeros: how many numbers, and their bits
+abbrev pub trimmedOf : List ℤ → Trimmed
+trimmedOf xs = record { count = length (trimmed xs); bits = trimmedCost xs }
+
+-- the choice of index q for a slice whose numbers at an index are z
+abbrev pub choiceBy : (ℕ → Three (List ℤ)) → ℕ → Choice
+choiceBy z q = record { index = q; y = trimmedOf (z q .y); c1 = trimmedOf (z q .c1); c2 = trimmedOf (z q .c2) }
+
+-- of slice k
+abbrev pub choiceIn : List ℤ → Picture → Terms → ℕ → Choice
+choiceIn w p t k = choiceBy (numbersIn w p k) (indexIn w p t k)
+
+-- the bytes that a choice needs
+abbrev pub needsBy : Choice → Needs
+needsBy c = record { y = ceiling (c .y .bits) 8; c1 = ceiling (c .c1 .bits) 8; c2 = ceiling (c .c2 .bits) 8 }
+
+-- a slice of choice c planned behind others
+abbrev pub plannedBy : Terms → Choice → SliceCoder → SliceCoder
+plannedBy t c b =
+    let n = needsBy c in
+    record {
+      at = b .at + (4 + t .prefix + (ceiling (n .y) (t .scaler) * t .scaler + ceiling (n .c1) (t .scaler) * t .scaler + ceiling (n .c2) (t .scaler) * t .scaler));
+      «cut_slices» = b .«cut_slices»;
+      largest = max (max (n .y) (max (n .c1) (n .c2))) (b .largest);
+      index = c .index;
+    }
+
+-- a run, and a choice, noted in w from place i on
+abbrev pub noteRun : List ℤ → ℕ → Trimmed → List ℤ
+noteRun w i r = set (set w i (pos (r .count))) (i + 1) (pos (r .bits))
+
+abbrev pub noteIn : List ℤ → ℕ → Choice → List ℤ
+noteIn w i c = noteRun (noteRun (noteRun (set w i (pos (c .index))) (i + 1) (c .y)) (i + 3) (c .c1)) (i + 5) (c .c2)
+
+-- whether a rate is a byte target
+unfoldable pub isTarget : RateControl → Bool
+isTarget Lossless = false
+isTarget (FixedQuantIndex q) = false
+isTarget (PictureBytes b) = true
+
 -- the half of a range that the search goes on in
 abbrev pub halfOf : Range → ℕ → Bool → Range
 halfOf r mid true = record { lo = r .lo; hi = mid }
@@ -110,11 +153,39 @@ pub record PlansTo (w : List ℤ) (p : Picture) (t : Terms) (from n : ℕ) (r : 
   pub largest : r .largest ≡ largestNeed (plansIn w p t n)
   pub few : r .largest ≤ 2 ^ 30
 
--- v has what w has before its end, and behind it the indices of the first n slices, as far as v reaches
+-- few enough bits
+pub record FewBits (c : Choice) : Type 0 where
+  pub index : c .index ≤ 255
+  pub counts : (c .y .count < 2 ^ 63) × ((c .c1 .count < 2 ^ 63) × (c .c2 .count < 2 ^ 63))
+  pub bits : (c .y .bits ≤ 2 ^ 33) × ((c .c1 .bits ≤ 2 ^ 33) × (c .c2 .bits ≤ 2 ^ 33))
+
+-- in v two numbers that no sign has stand from place i on
+pub record RunAt (v : List ℤ) (i : ℕ) : Type 0 where
+  pub reach : i + 1 < length v
+  pub count : natAbs (at v i) < 2 ^ 63
+  pub count-is : at v i ≡ pos (natAbs (at v i))
+  pub bits : natAbs (at v (i + 1)) < 2 ^ 63
+  pub bits-is : at v (i + 1) ≡ pos (natAbs (at v (i + 1)))
+
+-- in v the choice c stands from place i on
+pub record ChoiceAt (v : List ℤ) (i : ℕ) (c : Choice) : Type 0 where
+  pub index : at v i ≡ pos (c .index)
+  pub y-count : at v (i + 1) ≡ pos (c .y .count)
+  pub y-bits : at v (i + 1 + 1) ≡ pos (c .y .bits)
+  pub c1-count : at v (i + 3) ≡ pos (c .c1 .count)
+  pub c1-bits : at v (i + 3 + 1) ≡ pos (c .c1 .bits)
+  pub c2-count : at v (i + 5) ≡ pos (c .c2 .count)
+  pub c2-bits : at v (i + 5 + 1) ≡ pos (c .c2 .bits)
+
+-- v has what w has before its end, and behind it the choices of the first n slices, as far as v reaches
 pub record Notes (w : List ℤ) (p : Picture) (t : Terms) (n : ℕ) (v : List ℤ) : Type 0 where
   pub size : length v ≡ length w
   pub same : (i : ℕ) → i < p .end → at v i ≡ at w i
-  pub index : (k : ℕ) → k < n → p .end + k < length v → at v (p .end + k) ≡ pos (indexIn w p t k)
+  pub choice : (k : ℕ) → k < n → p .end + 7 * k + 6 < length v → ChoiceAt v (p .end + 7 * k) (choiceIn w p t k)
+
+-- where there is no byte target the choices that stand in w are those of any terms
+pub record Standing (s : Settings) (p : Picture) (w : List ℤ) : Type 0 where
+  pub notes : isTarget (s .rate) ≡ false → (t : Terms) → t .rate ≡ s .rate → Notes w p t (slicesIn p) w
 
 -- what a call's settings ask of the planning
 pub record HighIn (s : Settings) (p : Picture) (w : List ℤ) : Type 0 where

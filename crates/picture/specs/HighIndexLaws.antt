@@ -1,6 +1,6 @@
 -- Laws of the index of a high-quality slice: what a component needs, a slice's size, the shares of a target, and the index by its rate. Assumes
 -- nothing.
-use mathlib.Core.Path.{_≡_, refl, sym, ap, _∙_, subst}
+use mathlib.Core.Path.{_≡_, refl, sym, ap, ap₂, _∙_, subst}
 use mathlib.Core.Bool.{false}
 use mathlib.Core.List.{List}
 use Prim.Native.Nat.{ℕ, zero, suc, _+_, _*_, _-_, _/_, _%_, _^_, _≤_, _<_}
@@ -16,10 +16,11 @@ use Rattle.unit.specs.declared.RateControl.the-variants.{Lossless, FixedQuantIn
 use Rattle.unit.specs.Three.{Three}
 use Rattle.unit.specs.Slices.{partSize}
 use Rattle.unit.specs.SliceLaws.{partSize-most}
-use Rattle.unit.specs.Trim.{trimmedCost}
+use Rattle.unit.specs.Trim.{trimmed, trimmedCost}
 use Rattle.unit.specs.TrimLaws.{cost-most}
 use Rattle.unit.specs.Elect.{elect}
 use Rattle.unit.specs.ElectLaws.{elected}
+use Rattle.unit.specs.TestLaws.{no-truth}
 use Rattle.unit.specs.Valid.{RateFits}
 use Rattle.unit.specs.HighQuality.{ceiling, needOf, sliceSize, shareOf}
 use Rattle.picture.specs.declared.cost.Cost.{Cost}
@@ -27,15 +28,17 @@ use Rattle.picture.specs.declared.layout.Component.{Component}
 use Rattle.picture.specs.declared.layout.Layout.{Layout}
 use Rattle.picture.specs.declared.layout.Picture.{Picture}
 use Rattle.picture.specs.declared.high_index.Needs.{Needs}
+use Rattle.picture.specs.declared.high_index.Trimmed.{Trimmed}
+use Rattle.picture.specs.declared.high_index.Choice.{Choice}
 use Rattle.picture.specs.declared.high_index.Terms.{Terms}
 use Rattle.picture.specs.Cost.{addAll, noCost}
-use Rattle.picture.specs.CostLaws.{cost-of}
+use Rattle.picture.specs.CostLaws.{cost-of, trimmed-most}
 use Rattle.picture.specs.Layout.{bandCount, gridIn, bandSize, startOf, stripOf, runNumbers}
 use Rattle.picture.specs.LayoutLaws.{start-next, band-fits, bandNumbers, run-none, run-next, run-small}
 use Rattle.picture.specs.StripLaws.{strip-part}
 use Rattle.picture.specs.NumberLaws.{length-region}
-use Rattle.picture.specs.Picture.{slicesIn, runOf, numbersIn, SliceIn}
-use Rattle.picture.specs.High.{fitsBy, indexBy, indexIn, TermsIn, PlanIn, NeedsOf}
+use Rattle.picture.specs.Picture.{slicesIn, runOf, numbersIn, Arranged, SliceIn}
+use Rattle.picture.specs.High.{fitsBy, indexBy, indexIn, trimmedOf, choiceBy, choiceIn, needsBy, isTarget, FewBits, TermsIn, PlanIn, NeedsOf}
 
 -- ---- what a component needs
 module _ (w : List ℤ) (l : Layout) (c : Component) (k q : ℕ) where
@@ -55,24 +58,77 @@ module _ (w : List ℤ) (l : Layout) (c : Component) (k q : ℕ) where
       let e : bandCount l ≡ suc n = omega arith in
       omega (arith, run-many (bandCount l), ap (startOf l c) e, start-next l c n, band-fits l c n (omega arith))
 
--- the cost of the component's run says its need
-module _ (w : List ℤ) (p : Picture) (c : Component) (k q : ℕ) (few : c .width * c .height ≤ 67108864) (r : Cost) (e : r ≡ addAll (noCost 0) (runOf w p c k q)) where
-  kept-is : r .«kept_bits» ≡ trimmedCost (runOf w p c k q)
-  kept-is = ap (λ (r : Cost). r .«kept_bits») e ∙ cost-of 0 (runOf w p c k q) .kept-bits
+-- the cost of numbers says what they are without trailing zeros
+pub trimmed-is : (xs : List ℤ) (r : Cost) → r ≡ addAll (noCost 0) xs → _≡_ {A = Trimmed} (record { count = r .keep; bits = r .«kept_bits» }) (trimmedOf xs)
+trimmed-is xs r e =
+    let h = cost-of 0 xs in
+    ap (λ (r : Cost). record { count = r .keep; bits = r .«kept_bits» }) e ∙ ap₂ (λ (n b : ℕ). record { count = n; bits = b }) (h .keep) (h .kept-bits)
 
-  pub kept-most : r .«kept_bits» ≤ 2 ^ 33
-  kept-most =
-      omega (arith, kept-is, cost-most (runOf w p c k q) (run-small w (p .layout) c c false k q (bandCount (p .layout))), run-most w (p .layout) c k q)
+-- a component's run is short
+run-few : (w : List ℤ) (p : Picture) (c : Component) (k q : ℕ) → c .width * c .height ≤ 67108864
+    → (length (trimmed (runOf w p c k q)) < 2 ^ 63) × (trimmedCost (runOf w p c k q) ≤ 2 ^ 33)
+run-few w p c k q few =
+    let xs = runOf w p c k q in
+    let m = run-most w (p .layout) c k q in
+    (omega (arith, trimmed-most xs, m), omega (arith, cost-most xs (run-small w (p .layout) c c false k q (bandCount (p .layout))), m))
 
-  pub need-is : ((r .«kept_bits» + 7) / 8 ≡ needOf (runOf w p c k q)) × ((r .«kept_bits» + 7) / 8 ≤ 2 ^ 30)
-  need-is = (ap (λ (n : ℕ). (n + 7) / 8) kept-is, omega (arith, kept-most))
+pub run-bits : (w : List ℤ) (p : Picture) (c : Component) (k q : ℕ) → c .width * c .height ≤ 67108864 → (t : Trimmed) → t ≡ trimmedOf (runOf w p c k q) → t .bits ≤ 2 ^ 33
+run-bits w p c k q few t e = omega (arith, run-few w p c k q few .1, ap (λ (t : Trimmed). t .bits) e)
 
--- of the three
-pub needs-are : (w : List ℤ) (p : Picture) (k q y c1 c2 : ℕ) → (y ≡ needOf (runOf w p (p .y) k q)) × (y ≤ 2 ^ 30)
-    → (c1 ≡ needOf (runOf w p (p .c1) k q)) × (c1 ≤ 2 ^ 30) → (c2 ≡ needOf (runOf w p (p .c2) k q)) × (c2 ≤ 2 ^ 30)
-    → NeedsOf (numbersIn w p k q) (record { y = y; c1 = c1; c2 = c2 })
+-- a slice's choices have few bits
+pub choice-few : (w : List ℤ) (p : Picture) (k q : ℕ) → Arranged p → q ≤ 255 → FewBits (choiceBy (numbersIn w p k) q)
 unfolding numbersIn
-needs-are w p k q y c1 c2 a b d = record { y = a .0; c1 = b .0; c2 = d .0; few = (a .1, (b .1, d .1)) }
+choice-few w p k q a h =
+    let y = run-few w p (p .y) k q (a .y .area) in
+    let c1 = run-few w p (p .c1) k q (a .c1 .area) in
+    let c2 = run-few w p (p .c2) k q (a .c2 .area) in
+    record { index = h; counts = (y .0, (c1 .0, c2 .0)); bits = (y .1, (c1 .1, c2 .1)) }
+
+-- put together of the three runs
+pub choice-is : (w : List ℤ) (p : Picture) (k q : ℕ) (y c1 c2 : Trimmed) → y ≡ trimmedOf (runOf w p (p .y) k q) → c1 ≡ trimmedOf (runOf w p (p .c1) k q)
+    → c2 ≡ trimmedOf (runOf w p (p .c2) k q) → _≡_ {A = Choice} (record { index = q; y = y; c1 = c1; c2 = c2 }) (choiceBy (numbersIn w p k) q)
+unfolding numbersIn
+choice-is w p k q y c1 c2 a b d =
+    ap (λ (y : Trimmed). record { index = q; y = y; c1 = c1; c2 = c2 }) a
+    ∙ ap₂ (λ (c1 c2 : Trimmed). record { index = q; y = trimmedOf (runOf w p (p .y) k q); c1 = c1; c2 = c2 }) b d
+
+pub runs-few : (w : List ℤ) (p : Picture) (k q : ℕ) (y c1 c2 : Trimmed) → Arranged p → q ≤ 255 → y ≡ trimmedOf (runOf w p (p .y) k q)
+    → c1 ≡ trimmedOf (runOf w p (p .c1) k q) → c2 ≡ trimmedOf (runOf w p (p .c2) k q) → FewBits (record { index = q; y = y; c1 = c1; c2 = c2 })
+runs-few w p k q y c1 c2 a h e d f = subst FewBits (sym (choice-is w p k q y c1 c2 e d f)) (choice-few w p k q a h)
+
+-- the choice of a slice has few bits
+pub own-few : (w : List ℤ) (p : Picture) (t : Terms) (k : ℕ) (c : Choice) → Arranged p → indexIn w p t k ≤ 255 → c ≡ choiceIn w p t k → FewBits c
+own-few w p t k c a h e = subst FewBits (sym e) (choice-few w p k (indexIn w p t k) a h)
+
+-- where luma stands alone
+pub alone-few : (w : List ℤ) (p : Picture) (k q : ℕ) (y c1 c2 : Trimmed) → Arranged p → q ≤ 255 → y ≡ trimmedOf (runOf w p (p .y) k q)
+    → c1 ≡ record { count = 0; bits = 0 } → c2 ≡ record { count = 0; bits = 0 } → FewBits (record { index = q; y = y; c1 = c1; c2 = c2 })
+alone-few w p k q y c1 c2 a h e d f =
+    let r = run-few w p (p .y) k q (a .y .area) in
+    let g = ap (λ (t : Trimmed). t .count) e in
+    let b = ap (λ (t : Trimmed). t .bits) e in
+    record {
+      index = h;
+      counts = (omega (arith, r .0, g), (omega (arith, ap (λ (t : Trimmed). t .count) d), omega (arith, ap (λ (t : Trimmed). t .count) f)));
+      bits = (omega (arith, r .1, b), (omega (arith, ap (λ (t : Trimmed). t .bits) d), omega (arith, ap (λ (t : Trimmed). t .bits) f)));
+    }
+
+-- the bytes that a choice needs are those that its numbers need
+pub needs-chosen : (z : ℕ → Three (List ℤ)) (q : ℕ) → FewBits (choiceBy z q) → NeedsOf (z q) (needsBy (choiceBy z q))
+needs-chosen z q h = record {
+  y = refl;
+  c1 = refl;
+  c2 = refl;
+  few = (omega (arith, h .bits .0), (omega (arith, h .bits .1 .0), omega (arith, h .bits .1 .1)));
+}
+
+pub needs-by : (c : Choice) (y c1 c2 : ℕ) → (y ≡ ceiling (c .y .bits) 8) × (y ≤ 2 ^ 30) → (c1 ≡ ceiling (c .c1 .bits) 8) × (c1 ≤ 2 ^ 30)
+    → (c2 ≡ ceiling (c .c2 .bits) 8) × (c2 ≤ 2 ^ 30)
+    → (_≡_ {A = Needs} (record { y = y; c1 = c1; c2 = c2 }) (needsBy c)) × ((y ≤ 2 ^ 30) × ((c1 ≤ 2 ^ 30) × (c2 ≤ 2 ^ 30)))
+needs-by c y c1 c2 a b d = (
+  ap (λ (y : ℕ). record { y = y; c1 = c1; c2 = c2 }) (a .0) ∙ ap₂ (λ (c1 c2 : ℕ). record { y = ceiling (c .y .bits) 8; c1 = c1; c2 = c2 }) (b .0) (d .0),
+  (a .1, (b .1, d .1)),
+)
 
 -- ---- sizes
 pub ceiling-near : (n c : ℕ) → n ≤ 2 ^ 30 → c ≤ 2 ^ 24 → ceiling n c * c ≤ 2 ^ 31
@@ -98,6 +154,12 @@ fits-is z n p c share size h e =
     ∙ ap (λ (c1 : ℕ). 4 + p + (ceiling (needOf (z .y)) c * c + ceiling c1 c * c + ceiling (n .c2) c * c)) (h .c1)
     ∙ ap (λ (c2 : ℕ). 4 + p + (ceiling (needOf (z .y)) c * c + ceiling (needOf (z .c1)) c * c + ceiling c2 c * c)) (h .c2))
 
+pub fits-chosen : (z : ℕ → Three (List ℤ)) (q : ℕ) (c : Choice) (n : Needs) (p s share size : ℕ) → FewBits c → c ≡ choiceBy z q → n ≡ needsBy c
+    → size ≡ 4 + p + (ceiling (n .y) s * s + ceiling (n .c1) s * s + ceiling (n .c2) s * s) → leb size share ≡ fitsBy p s share z q
+fits-chosen z q c n p s share size few e d h =
+    fits-is (z q) (needsBy (choiceBy z q)) p s share size (needs-chosen z q (subst FewBits e few))
+    (h ∙ ap (λ (n : Needs). 4 + p + (ceiling (n .y) s * s + ceiling (n .c1) s * s + ceiling (n .c2) s * s)) (d ∙ ap needsBy e))
+
 -- no bytes take no scalers
 ceiling-none : (c : ℕ) → 1 ≤ c → ceiling 0 c * c ≡ 0
 ceiling-none c h = let e : 0 + (c - 1) < c = omega arith in rw (div-eq-of-lt e, zero-mul)
@@ -110,6 +172,13 @@ fits-not w p k q y x c share size h e f l =
     let z = numbersIn w p k q in
     let n : ceiling y c * c ≡ ceiling (needOf (z .y)) c * c = ap (λ (n : ℕ). ceiling n c * c) e in
     sym (lt-leb (sliceSize x c z) share (omega (arith, f, l, n, ceiling-none c h)))
+
+pub alone-not : (w : List ℤ) (p : Picture) (k q : ℕ) (y : Trimmed) (n : Needs) (x c share size : ℕ) → 1 ≤ c → y ≡ trimmedOf (runOf w p (p .y) k q)
+    → n ≡ needsBy (record { index = q; y = y; c1 = record { count = 0; bits = 0 }; c2 = record { count = 0; bits = 0 } })
+    → size ≡ 4 + x + (ceiling (n .y) c * c + ceiling (n .c1) c * c + ceiling (n .c2) c * c) → share < size → false ≡ fitsBy x c share (numbersIn w p k) q
+alone-not w p k q y n x c share size h e d f l =
+    fits-not w p k q (ceiling (y .bits) 8) x c share size h (ap (λ (t : Trimmed). ceiling (t .bits) 8) e)
+    (f ∙ ap (λ (n : Needs). 4 + x + (ceiling (n .y) c * c + ceiling (n .c1) c * c + ceiling (n .c2) c * c)) d) l
 
 -- ---- shares
 module _ (n d k : ℕ) where
@@ -146,6 +215,10 @@ module _ (w : List ℤ) (p : Picture) (t : Terms) (k : ℕ) where
       h ∙ ap (λ (s : ℕ). elect 0 255 (fitsBy (t .prefix) (t .scaler) s (numbersIn w p k))) (g ∙ ap (λ (d : ℕ). shareOf (t .bytes) d k) f)
       ∙ sym (index-by (PictureBytes b) e)
 
+  -- the choice by its index
+  pub choice-by : (q : ℕ) (c : Choice) → c ≡ choiceBy (numbersIn w p k) q → q ≡ indexIn w p t k → c ≡ choiceIn w p t k
+  choice-by q c e d = e ∙ ap (choiceBy (numbersIn w p k)) d
+
   pub index-most : TermsIn t → indexIn w p t k ≤ 255
   index-most h = by (t .rate) refl
     where
@@ -157,3 +230,16 @@ module _ (w : List ℤ) (p : Picture) (t : Terms) (k : ℕ) where
           let share : ℕ = shareOf (t .bytes) d k in
           let f = fitsBy (t .prefix) (t .scaler) share (numbersIn w p k) in
           omega (arith, index-elected b d share (elect 0 255 f) e refl refl refl, elected f 0 255 (omega arith) .high)
+
+-- without a byte target the terms of one rate have the same index
+pub index-stands : (w : List ℤ) (p : Picture) (t x : Terms) (k : ℕ) → x .rate ≡ t .rate → isTarget (t .rate) ≡ false → indexIn w p x k ≡ indexIn w p t k
+unfolding indexIn indexBy isTarget
+index-stands w p t x k e f =
+    ap (λ (r : RateControl). indexBy r (x .prefix) (x .scaler) (shareOf (x .bytes) (slicesIn p) k) (numbersIn w p k)) e ∙ by (t .rate) f
+  where
+    by : (r : RateControl) → isTarget r ≡ false
+        → indexBy r (x .prefix) (x .scaler) (shareOf (x .bytes) (slicesIn p) k) (numbersIn w p k)
+        ≡ indexBy r (t .prefix) (t .scaler) (shareOf (t .bytes) (slicesIn p) k) (numbersIn w p k)
+    by Lossless h = refl
+    by (FixedQuantIndex q) h = refl
+    by (PictureBytes b) h = no-truth h

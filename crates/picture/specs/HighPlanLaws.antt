@@ -27,10 +27,12 @@ use Rattle.unit.specs.HighQualityLaws.{length-high, next-rises}
 use Rattle.unit.specs.Unit.{majorVersion, highParameters, targetOf}
 use Rattle.picture.specs.declared.layout.Picture.{Picture}
 use Rattle.picture.specs.declared.high_index.Needs.{Needs}
+use Rattle.picture.specs.declared.high_index.Choice.{Choice}
 use Rattle.picture.specs.declared.high_index.Terms.{Terms}
 use Rattle.picture.specs.declared.slice_coder.SliceCoder.{SliceCoder}
 use Rattle.picture.specs.Picture.{slicesIn, numbersIn}
-use Rattle.picture.specs.High.{indexIn, planIn, plansIn, termsOf, slicesBy, PlanIn, NeedsOf, PlansOn, PlansTo, HighIn, Settles}
+use Rattle.picture.specs.High.{indexIn, planIn, plansIn, choiceBy, choiceIn, needsBy, plannedBy, isTarget, termsOf, slicesBy, FewBits, PlanIn, NeedsOf, PlansOn, PlansTo, HighIn, Settles}
+use Rattle.picture.specs.HighIndexLaws.{needs-chosen}
 
 -- ---- a slice
 -- its bytes are its size
@@ -48,7 +50,7 @@ plans-on : (p c q : ℕ) (z : Three (List ℤ)) (n : Needs) (b : SliceCoder) (si
     → size ≡ 4 + p + (ceiling (n .y) c * c + ceiling (n .c1) c * c + ceiling (n .c2) c * c) → size ≤ 2 ^ 34
     → most ≡ max (max (n .y) (max (n .c1) (n .c2))) (b .largest)
     → PlansOn p c (record { index = q; numbers = z; kept = z; bits = highBits p c q z }) b
-    (record { at = b .at + size; «cut_slices» = b .«cut_slices»; largest = most })
+    (record { at = b .at + size; «cut_slices» = b .«cut_slices»; largest = most; index = q })
 plans-on p c q z n b size most some h e few m = record {
   at = ap (λ (k : ℕ). b .at + k) (e ∙ sym (size-needs p c z n h) ∙ sym (bytes-high p c q z some));
   near = omega arith;
@@ -57,16 +59,33 @@ plans-on p c q z n b size most some h e few m = record {
   few = λ l. omega (arith, m, h .few);
 }
 
--- the same of slice k, at the index q that it has
-pub slice-planned : (w : List ℤ) (p : Picture) (t : Terms) (k q : ℕ) (n : Needs) (b : SliceCoder) (size most : ℕ) → 1 ≤ t .scaler
-    → q ≡ indexIn w p t k → NeedsOf (numbersIn w p k q) n
+-- as the code puts it together, by the needs n of choice c
+pub planned-is : (t : Terms) (c : Choice) (b : SliceCoder) (n : Needs) (size most : ℕ) → n ≡ needsBy c
     → size ≡ 4 + t .prefix + (ceiling (n .y) (t .scaler) * t .scaler + ceiling (n .c1) (t .scaler) * t .scaler + ceiling (n .c2) (t .scaler) * t .scaler)
     → size ≤ 2 ^ 34 → most ≡ max (max (n .y) (max (n .c1) (n .c2))) (b .largest)
-    → PlansOn (t .prefix) (t .scaler) (planIn w p t k) b (record { at = b .at + size; «cut_slices» = b .«cut_slices»; largest = most })
+    → (_≡_ {A = SliceCoder} (record { at = b .at + size; «cut_slices» = b .«cut_slices»; largest = most; index = c .index }) (plannedBy t c b))
+    × (b .at + size ≤ b .at + 2 ^ 34)
+planned-is t c b n size most e d l m = (
+  ap₂ (λ (s m : ℕ). record { at = b .at + s; «cut_slices» = b .«cut_slices»; largest = m; index = c .index })
+      (d ∙ ap (λ (n : Needs). 4 + t .prefix + (ceiling (n .y) (t .scaler) * t .scaler + ceiling (n .c1) (t .scaler) * t .scaler + ceiling (n .c2) (t .scaler) * t .scaler)) e)
+      (m ∙ ap (λ (n : Needs). max (max (n .y) (max (n .c1) (n .c2))) (b .largest)) e),
+  omega (arith, l),
+)
+
+-- the same of slice k and its choice
+pub slice-planned : (w : List ℤ) (p : Picture) (t : Terms) (k : ℕ) (c : Choice) (b r : SliceCoder) → 1 ≤ t .scaler → FewBits c → c ≡ choiceIn w p t k
+    → r ≡ plannedBy t c b → r .at ≤ b .at + 2 ^ 34 → PlansOn (t .prefix) (t .scaler) (planIn w p t k) b r
 unfolding planIn
-slice-planned w p t k q n b size most some e h =
+slice-planned w p t k c b r some few e d near =
     let i : ℕ = indexIn w p t k in
-    plans-on (t .prefix) (t .scaler) i (numbersIn w p k i) n b size most some (subst (λ (j : ℕ). NeedsOf (numbersIn w p k j) n) e h)
+    let z : ℕ → Three (List ℤ) = numbersIn w p k in
+    let n : Needs = needsBy (choiceBy z i) in
+    let s : ℕ = t .scaler in
+    let size : ℕ = 4 + t .prefix + (ceiling (n .y) s * s + ceiling (n .c1) s * s + ceiling (n .c2) s * s) in
+    let f : r ≡ plannedBy t (choiceIn w p t k) b = d ∙ ap (λ (c : Choice). plannedBy t c b) e in
+    let l : b .at + size ≤ b .at + 2 ^ 34 = subst (λ (r : SliceCoder). r .at ≤ b .at + 2 ^ 34) f near in
+    subst (PlansOn (t .prefix) (t .scaler) (planIn w p t k) b) (sym f)
+    (plans-on (t .prefix) s i (z i) n b size (max (max (n .y) (max (n .c1) (n .c2))) (b .largest)) some (needs-chosen z i (subst FewBits e few)) refl (omega (arith, l)) refl)
 
 -- ---- slices one behind the other
 -- the largest need of a slice
@@ -239,3 +258,16 @@ module _ (w : List ℤ) (p : Picture) (s : Settings) (m : List ℕ) where
         fits = k;
         end = h .plan .at;
       }
+
+-- ---- whether a rate is a byte target
+pub target-lossless : (r : RateControl) → r ≡ Lossless → false ≡ isTarget r
+unfolding isTarget
+target-lossless r e = sym (ap isTarget e)
+
+pub target-fixed : (r : RateControl) (q : ℕ) → r ≡ FixedQuantIndex q → false ≡ isTarget r
+unfolding isTarget
+target-fixed r q e = sym (ap isTarget e)
+
+pub target-bytes : (r : RateControl) (b : ℕ) → r ≡ PictureBytes b → true ≡ isTarget r
+unfolding isTarget
+target-bytes r b e = sym (ap isTarget e)

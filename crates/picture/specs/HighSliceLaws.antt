@@ -20,50 +20,53 @@ use Rattle.codewords.specs.WriterLaws.{wrote-then, room-after, bytes-laid}
 use Rattle.codewords.specs.declared.writer.BitWriter.{BitWriter}
 use Rattle.unit.specs.Three.{Three}
 use Rattle.unit.specs.Plan.{SlicePlan}
-use Rattle.unit.specs.Trim.{trimmedCost}
+use Rattle.unit.specs.Trim.{trimmed, trimmedCost}
 use Rattle.unit.specs.HighQuality.{ceiling, scalersOf, componentBits, highBits, largestNeed}
 use Rattle.unit.specs.HighQualityLaws.{Needs, cost-held, length-component, length-high, needs-split}
-use Rattle.picture.specs.declared.cost.Cost.{Cost}
 use Rattle.picture.specs.declared.layout.Component.{Component}
 use Rattle.picture.specs.declared.layout.Picture.{Picture}
+use Rattle.picture.specs.declared.high_index.Trimmed.{Trimmed}
+use Rattle.picture.specs.declared.high_index.Choice.{Choice}
 use Rattle.picture.specs.declared.high_index.Terms.{Terms}
-use Rattle.picture.specs.Cost.{addAll, noCost}
-use Rattle.picture.specs.CostLaws.{CostOf, cost-of, kept-run}
+use Rattle.picture.specs.CostLaws.{trimmed-prefix}
 use Rattle.picture.specs.HeadLaws.{room-less, room-first, room-rest}
 use Rattle.picture.specs.Picture.{slicesIn, runOf, numbersIn, SliceIn}
-use Rattle.picture.specs.High.{indexIn, planIn, plansIn, highRuns, threeBits, PlanIn}
+use Rattle.picture.specs.High.{indexIn, planIn, plansIn, highRuns, threeBits, trimmedOf, choiceBy, choiceIn, PlanIn}
 
 -- ---- a component
 -- its kept numbers, and the ones that fill n scalers of c bytes
-abbrev pub keptOf : List ℤ → Cost → Bits
-keptOf xs r = codes (take (r .keep) xs)
+abbrev pub keptOf : List ℤ → Trimmed → Bits
+keptOf xs r = codes (take (r .count) xs)
 
-abbrev pub fillOf : ℕ → ℕ → Cost → ℕ
-fillOf c n r = 8 * (n * c) - r .«kept_bits»
+abbrev pub fillOf : ℕ → ℕ → Trimmed → ℕ
+fillOf c n r = 8 * (n * c) - r .bits
 
--- numbers xs cost r, and take n scalers of c bytes
-pub record Counted (c : ℕ) (xs : List ℤ) (r : Cost) (n : ℕ) : Type 0 where
+-- numbers xs are r without trailing zeros, and take n scalers of c bytes
+pub record Counted (c : ℕ) (xs : List ℤ) (r : Trimmed) (n : ℕ) : Type 0 where
   pub some : 1 ≤ c
-  pub cost : r ≡ addAll (noCost 0) xs
-  pub scalers : n ≡ ceiling ((r .«kept_bits» + 7) / 8) c
+  pub run : r ≡ trimmedOf xs
+  pub scalers : n ≡ ceiling (ceiling (r .bits) 8) c
 
-module _ {c : ℕ} {xs : List ℤ} {r : Cost} {n : ℕ} (h : Counted c xs r n) where
-  costs : CostOf 0 xs r
-  costs = rw (h .cost) (cost-of 0 xs)
+module _ {c : ℕ} {xs : List ℤ} {r : Trimmed} {n : ℕ} (h : Counted c xs r n) where
+  count-is : r .count ≡ length (trimmed xs)
+  count-is = ap (λ (r : Trimmed). r .count) (h .run)
+
+  bits-are : r .bits ≡ trimmedCost xs
+  bits-are = ap (λ (r : Trimmed). r .bits) (h .run)
 
   scalers-are : n ≡ scalersOf c xs
-  scalers-are = h .scalers ∙ ap (λ (b : ℕ). ceiling ((b + 7) / 8) c) (costs .kept-bits)
+  scalers-are = h .scalers ∙ ap (λ (b : ℕ). ceiling (ceiling b 8) c) bits-are
 
   -- the scalers hold the numbers
-  pub kept-held : r .«kept_bits» ≤ 8 * (n * c)
-  kept-held = rw (costs .kept-bits, scalers-are) (cost-held c xs (h .some))
+  pub kept-held : r .bits ≤ 8 * (n * c)
+  kept-held = rw (bits-are, scalers-are) (cost-held c xs (h .some))
 
   -- as the code puts it together
   component-parts : componentBits c xs ≡ lit 8 n ++ (keptOf xs r ++ ones (fillOf c n r))
   unfolding componentBits
   component-parts =
-      sym (ap₂ (λ (n b : ℕ). lit 8 n ++ (keptOf xs r ++ ones (8 * (n * c) - b))) scalers-are (costs .kept-bits)
-      ∙ ap (λ (ys : List ℤ). lit 8 (scalersOf c xs) ++ (codes ys ++ ones (8 * (scalersOf c xs * c) - trimmedCost xs))) (sym (kept-run costs)))
+      sym (ap₂ (λ (n b : ℕ). lit 8 n ++ (keptOf xs r ++ ones (8 * (n * c) - b))) scalers-are bits-are
+      ∙ ap (λ (ys : List ℤ). lit 8 (scalersOf c xs) ++ (codes ys ++ ones (8 * (scalersOf c xs * c) - trimmedCost xs))) (sym (trimmed-prefix xs ∙ ap (λ (k : ℕ). take k xs) (sym count-is))))
 
   module _ {o : List ℕ} {w : BitWriter} (room : Room o w (length (componentBits c xs))) where
     parts-room : Room o w (length (lit 8 n ++ (keptOf xs r ++ ones (fillOf c n r))))
@@ -189,18 +192,11 @@ pub slice-in : {p : Picture} {t : Terms} {w : List ℤ} {k q : ℕ} → PlanIn p
 slice-in h l m = record { arranged = h .arranged; small = h .small; slice = l; index = m }
 
 module _ (w : List ℤ) (p : Picture) (t : Terms) (k q : ℕ) (e : q ≡ indexIn w p t k) where
-  plan-numbers : planIn w p t k .numbers ≡ numbersIn w p k q
-  unfolding planIn
-  plan-numbers = ap (numbersIn w p k) (sym e)
-
   plan-bits : planIn w p t k .bits ≡ highBits (t .prefix) (t .scaler) q (numbersIn w p k q)
   unfolding planIn
   plan-bits = ap (λ (q : ℕ). highBits (t .prefix) (t .scaler) q (numbersIn w p k q)) (sym e)
 
-  -- its needs and its room
-  pub plan-needs : (n : ℕ) → Needs n (planIn w p t k .numbers) → Needs n (numbersIn w p k q)
-  plan-needs n h = rw plan-numbers at h
-
+  -- its room
   pub plan-room : (at n : ℕ) → at + length (toBytes (planIn w p t k .bits)) ≤ n
       → at + length (toBytes (highBits (t .prefix) (t .scaler) q (numbersIn w p k q))) ≤ n
   plan-room at n h = rw plan-bits at h
@@ -208,6 +204,24 @@ module _ (w : List ℤ) (p : Picture) (t : Terms) (k q : ℕ) (e : q ≡ indexIn
   pub plan-laid : {o o′ : List ℕ} {at r : ℕ} → Lays o at (toBytes (highBits (t .prefix) (t .scaler) q (numbersIn w p k q))) o′ r
       → Lays o at (toBytes (planIn w p t k .bits)) o′ r
   plan-laid h = rw plan-bits h
+
+-- the choice of slice k by its own index
+pub own-index : (w : List ℤ) (p : Picture) (t : Terms) (k : ℕ) (c : Choice) → c ≡ choiceIn w p t k → (c .index ≡ indexIn w p t k) × (c ≡ choiceBy (numbersIn w p k) (c .index))
+own-index w p t k c e = let i = ap (λ (c : Choice). c .index) e in (i, e ∙ ap (choiceBy (numbersIn w p k)) (sym i))
+
+-- the runs of a slice's choice
+module _ (w : List ℤ) (p : Picture) (k : ℕ) (c : Choice) (e : c ≡ choiceBy (numbersIn w p k) (c .index)) where
+  pub choice-y : c .y ≡ trimmedOf (runOf w p (p .y) k (c .index))
+  unfolding numbersIn
+  choice-y = ap (λ (c : Choice). c .y) e
+
+  pub choice-c1 : c .c1 ≡ trimmedOf (runOf w p (p .c1) k (c .index))
+  unfolding numbersIn
+  choice-c1 = ap (λ (c : Choice). c .c1) e
+
+  pub choice-c2 : c .c2 ≡ trimmedOf (runOf w p (p .c2) k (c .index))
+  unfolding numbersIn
+  choice-c2 = ap (λ (c : Choice). c .c2) e
 
 -- ---- slice after slice
 -- the needs of the k-th of a span

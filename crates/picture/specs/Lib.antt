@@ -21,6 +21,7 @@ pub mod ElectLoopLaws
 pub mod HighPlanLaws
 pub mod NotedLaws
 pub mod RisesLaws
+pub mod SearchLaws
 pub mod HighSliceLaws
 pub mod Low
 pub mod AgainLaws

@@ -3,6 +3,7 @@ use crate::header::SliceParameters;
 use crate::high_index::Terms;
 use crate::layout::Picture;
 use crate::slice_coder::SliceCoder;
+use unit::RateControl;
 use unit::Settings;
 ghost use mathlib.Core.Path.{_≡_};
 ghost use Prim.Native.Nat.{ℕ, _+_, _*_, _^_, _≤_, _<_};
@@ -11,7 +12,7 @@ ghost use Rattle.unit.specs.Parameters.{parameterBytes};
 ghost use Rattle.unit.specs.Unit.{majorVersion, highParameters, highBytes};
 ghost use Rattle.picture.specs.Head.{CanCarry};
 ghost use Rattle.picture.specs.Picture.{slicesIn};
-ghost use Rattle.picture.specs.High.{termsOf, PlanIn, PlansTo, HighIn, Settles, Notes};
+ghost use Rattle.picture.specs.High.{termsOf, isTarget, PlanIn, PlansTo, HighIn, Settles, Notes, Standing};
 
 // The scaler, and where the unit ends.
 pub struct Settled {
@@ -19,7 +20,7 @@ pub struct Settled {
     pub end: usize,
 }
 
-// All slices, planned from place at on, and their indices noted.
+// All slices, planned from place at on, and their choices noted.
 fn plan_slices(work: &mut [i64], p: Picture, t: Terms, at: usize) -> SliceCoder
     requires { ⌜ PlanIn p t (now work) × (at < 2 ^ 16) ⌝ }
     ensures { λ r. ⌜ PlansTo (now (work .entry)) p t at (slicesIn p) r × Notes (now (work .entry)) p t (slicesIn p) (now (work .exit)) ⌝ }
@@ -29,6 +30,21 @@ fn plan_slices(work: &mut [i64], p: Picture, t: Terms, at: usize) -> SliceCoder
     let mut k = 0;
     while k < slices {
         c = c.plan_hq_slice(work, p, t, k);
+        k += 1;
+    }
+    c
+}
+
+// All slices, planned from place at on by the choices noted.
+fn plan_noted(work: &[i64], p: Picture, t: Terms, at: usize) -> SliceCoder
+    requires { ⌜ PlanIn p t (now work) × (Notes (now work) p t (slicesIn p) (now work) × (at < 2 ^ 16)) ⌝ }
+    ensures { λ r. ⌜ PlansTo (now (work .entry)) p t at (slicesIn p) r ⌝ }
+{
+    let slices = crate::low_index::slice_count(p);
+    let mut c = SliceCoder::new(at);
+    let mut k = 0;
+    while k < slices {
+        c = c.plan_noted(work, p, t, k);
         k += 1;
     }
     c
@@ -70,8 +86,40 @@ fn plan_picture(s: Settings, matrix: &[u32], work: &mut [i64], p: Picture, c: u3
     plan_slices(work, p, t, at as usize)
 }
 
+// Whether there is a byte target.
+fn is_target(r: RateControl) -> bool
+    ensures { λ b. ⌜ b ≡ isTarget r ⌝ }
+{
+    match r {
+        RateControl::Lossless => false,
+        RateControl::FixedQuantIndex(_) => false,
+        RateControl::PictureBytes(_) => true,
+    }
+}
+
+// The pass with scaler c behind another, whose choices are noted. They stand where there is no byte target.
+fn plan_again(s: Settings, matrix: &[u32], work: &mut [i64], p: Picture, c: u32) -> SliceCoder
+    requires { ⌜ HighIn s p (now work) × (CanCarry s (now matrix) × (((1 ≤ c) × (c ≤ 2 ^ 24))
+        × Standing s p (now work))) ⌝ }
+    ensures { λ r. ⌜ PlansTo (now (work .entry)) p (termsOf s (now (matrix .entry)) c)
+        (17 + parameterBytes (majorVersion s) (highParameters s (now (matrix .entry)) c)) (slicesIn p) r
+        × Notes (now (work .entry)) p (termsOf s (now (matrix .entry)) c) (slicesIn p) (now (work .exit)) ⌝ }
+{
+    let rate = s.rate;
+    if is_target(rate) {
+        return plan_picture(s, matrix, work, p, c);
+    }
+    let t = terms_of(s, matrix, c);
+    let at = crate::header::overhead(
+        s,
+        matrix,
+        SliceParameters::HighQuality(s.slice_prefix_bytes, c),
+    );
+    plan_noted(work, p, t, at as usize)
+}
+
 // While a component needs more than 255 scalers the scaler becomes the largest need over 255, rounded up.
-// The indices of the last pass are noted.
+// The choices of the last pass are noted.
 pub fn settle(s: Settings, matrix: &[u32], work: &mut [i64], p: Picture) -> Settled
     requires { ⌜ HighIn s p (now work) × CanCarry s (now matrix) ⌝ }
     ensures { λ r. ⌜ Settles (now (work .entry)) p s (now (matrix .entry)) r
@@ -81,7 +129,7 @@ pub fn settle(s: Settings, matrix: &[u32], work: &mut [i64], p: Picture) -> Sett
     let mut r = plan_picture(s, matrix, work, p, c);
     while r.largest > 255 * c as u64 {
         c = ((r.largest + 254) / 255) as u32;
-        r = plan_picture(s, matrix, work, p, c);
+        r = plan_again(s, matrix, work, p, c);
     }
     Settled {
         scaler: c,

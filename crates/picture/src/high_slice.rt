@@ -1,6 +1,7 @@
 // A high-quality slice, written. All of it is for the picture call.
-use crate::cost::Cost;
+use crate::high_index::Choice;
 use crate::high_index::Terms;
+use crate::high_index::Trimmed;
 use crate::layout::Component;
 use crate::layout::Picture;
 use crate::put::Put;
@@ -13,13 +14,12 @@ ghost use Rattle.laws.specs.Laid.{Lays};
 ghost use Rattle.codewords.specs.Bit.{zeros};
 ghost use Rattle.codewords.specs.Bytes.{toBytes};
 ghost use Rattle.codewords.specs.Writer.{Room, Wrote};
-ghost use Rattle.unit.specs.HighQuality.{needOf, componentBits, highBits, largestNeed};
-ghost use Rattle.unit.specs.HighQualityLaws.{Needs};
+ghost use Rattle.unit.specs.HighQuality.{componentBits, highBits, largestNeed};
 ghost use Rattle.picture.specs.Layout.{RunIn};
 ghost use Rattle.picture.specs.Picture.{slicesIn, runOf, numbersIn, SliceIn};
-ghost use Rattle.picture.specs.High.{threeBits, plansIn, highRuns, TermsIn, PlanIn, Notes};
+ghost use Rattle.picture.specs.High.{threeBits, plansIn, highRuns, trimmedOf, choiceBy, TermsIn, PlanIn, Notes};
 
-// A component of slice k at index q: a byte that counts scalers, its numbers without trailing zeros, and ones.
+// A component of slice k at index q, whose run is t: a byte that counts scalers, its numbers without trailing zeros, and ones.
 fn put_component(
     out: &mut [u8],
     w: BitWriter,
@@ -29,29 +29,21 @@ fn put_component(
     scaler: u32,
     k: u32,
     q: u32,
+    t: Trimmed,
 ) -> BitWriter
     requires { ⌜ RunIn (p .layout) c c (p .front) (p .end) k q (now work) × ((c .width * c .height ≤ 67108864)
-        × (((1 ≤ scaler) × (scaler ≤ 2 ^ 24)) × Room (now out) w (length (componentBits scaler (runOf (now work) p c k q))))) ⌝ }
+        × ((t ≡ trimmedOf (runOf (now work) p c k q))
+        × (((1 ≤ scaler) × (scaler ≤ 2 ^ 24)) × Room (now out) w (length (componentBits scaler (runOf (now work) p c k q)))))) ⌝ }
     ensures { λ r. ⌜ Wrote (now (out .entry)) w (componentBits scaler (runOf (now (work .entry)) p c k q)) (now (out .exit)) r ⌝ }
 {
-    let none = Cost {
-        room: 0,
-        bits: 0,
-        count: 0,
-        kept_bits: 0,
-        keep: 0,
-        fit_bits: 0,
-        fit: 0,
-    };
     let l = p.layout;
-    let t = crate::run::cost_run(work, p.front, p.end, l, c, c, false, k, q, none);
-    let n = crate::high_index::scalers((t.kept_bits + 7) / 8, scaler);
+    let n = crate::high_index::scalers(crate::high_index::need(t.bits), scaler);
     let a = codewords::bitio::put_nbits(out, w, n, 8);
     let b = crate::run::put_run(
         out,
         Put {
             writer: a,
-            left: t.keep,
+            left: t.count,
         },
         work,
         p.front,
@@ -64,7 +56,7 @@ fn put_component(
         q,
     );
     let v = b.writer;
-    codewords::bitio::put_ones(out, v, 8 * (n * scaler as u64) - t.kept_bits)
+    codewords::bitio::put_ones(out, v, 8 * (n * scaler as u64) - t.bits)
 }
 
 // n prefix bytes, which are zeros.
@@ -89,21 +81,25 @@ fn put_components(
     p: Picture,
     scaler: u32,
     k: u32,
-    q: u32,
+    c: Choice,
 ) -> BitWriter
-    requires { ⌜ SliceIn p (now work) k q × (((1 ≤ scaler) × (scaler ≤ 2 ^ 24))
-        × Room (now out) w (length (threeBits scaler (numbersIn (now work) p k q)))) ⌝ }
-    ensures { λ r. ⌜ Wrote (now (out .entry)) w (threeBits scaler (numbersIn (now (work .entry)) p k q)) (now (out .exit)) r ⌝ }
+    requires { ⌜ SliceIn p (now work) k (c .index) × ((c ≡ choiceBy (numbersIn (now work) p k) (c .index)) × (((1 ≤ scaler) × (scaler ≤ 2 ^ 24))
+        × Room (now out) w (length (threeBits scaler (numbersIn (now work) p k (c .index)))))) ⌝ }
+    ensures { λ r. ⌜ Wrote (now (out .entry)) w (threeBits scaler (numbersIn (now (work .entry)) p k (c .index))) (now (out .exit)) r ⌝ }
 {
     let y = p.y;
     let c1 = p.c1;
     let c2 = p.c2;
-    let a = put_component(out, w, work, p, y, scaler, k, q);
-    let b = put_component(out, a, work, p, c1, scaler, k, q);
-    put_component(out, b, work, p, c2, scaler, k, q)
+    let q = c.index;
+    let ty = c.y;
+    let t1 = c.c1;
+    let t2 = c.c2;
+    let a = put_component(out, w, work, p, y, scaler, k, q, ty);
+    let b = put_component(out, a, work, p, c1, scaler, k, q, t1);
+    put_component(out, b, work, p, c2, scaler, k, q, t2)
 }
 
-// Slice k at index q from place at on: where it ends.
+// Slice k of choice c from place at on: where it ends.
 pub fn put_hq_slice(
     out: &mut [u8],
     at: usize,
@@ -111,11 +107,11 @@ pub fn put_hq_slice(
     p: Picture,
     t: Terms,
     k: u32,
-    q: u32,
+    c: Choice,
 ) -> usize
-    requires { ⌜ SliceIn p (now work) k q × (TermsIn t × (Needs (255 * t .scaler) (numbersIn (now work) p k q)
-        × (at + length (toBytes (highBits (t .prefix) (t .scaler) q (numbersIn (now work) p k q))) ≤ length (now out)))) ⌝ }
-    ensures { λ r. ⌜ Lays (now (out .entry)) at (toBytes (highBits (t .prefix) (t .scaler) q (numbersIn (now (work .entry)) p k q))) (now (out .exit)) r ⌝ }
+    requires { ⌜ SliceIn p (now work) k (c .index) × ((c ≡ choiceBy (numbersIn (now work) p k) (c .index)) × (TermsIn t
+        × (at + length (toBytes (highBits (t .prefix) (t .scaler) (c .index) (numbersIn (now work) p k (c .index)))) ≤ length (now out)))) ⌝ }
+    ensures { λ r. ⌜ Lays (now (out .entry)) at (toBytes (highBits (t .prefix) (t .scaler) (c .index) (numbersIn (now (work .entry)) p k (c .index)))) (now (out .exit)) r ⌝ }
 {
     let w = BitWriter {
         at,
@@ -123,12 +119,12 @@ pub fn put_hq_slice(
         pending_bits: 0,
     };
     let a = put_prefix(out, w, t.prefix);
-    let b = codewords::bitio::put_nbits(out, a, q as u64, 8);
-    let c = put_components(out, b, work, p, t.scaler, k, q);
-    c.at
+    let b = codewords::bitio::put_nbits(out, a, c.index as u64, 8);
+    let v = put_components(out, b, work, p, t.scaler, k, c);
+    v.at
 }
 
-// All slices from place at on, at the indices noted.
+// All slices from place at on, of the choices noted.
 pub fn put_hq_slices(out: &mut [u8], at: usize, work: &[i64], p: Picture, t: Terms) -> SliceCoder
     requires { ⌜ PlanIn p t (now work) × (Notes (now work) p t (slicesIn p) (now work) × ((largestNeed (plansIn (now work) p t (slicesIn p)) ≤ 255 * t .scaler)
         × (at + length (highRuns (now work) p t (slicesIn p)) ≤ length (now out)))) ⌝ }

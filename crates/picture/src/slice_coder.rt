@@ -1,23 +1,25 @@
 // The state that goes from slice to slice. All of it is for the picture call.
+use crate::high_index::Choice;
 use crate::high_index::Terms;
 use crate::layout::Picture;
 ghost use mathlib.Core.Path.{_≡_};
 ghost use Prim.Native.Nat.{ℕ, _+_, _*_, _^_, _≤_, _<_};
-ghost use lib.IntN.{pos};
-ghost use lib.ListN.{length, set};
+ghost use lib.ListN.{length};
 ghost use Rattle.laws.specs.Laid.{Lays};
 ghost use Rattle.codewords.specs.Bytes.{toBytes};
 ghost use Rattle.unit.specs.HighQualityLaws.{Needs};
 ghost use Rattle.picture.specs.Run.{Small};
 ghost use Rattle.picture.specs.Picture.{slicesIn};
-ghost use Rattle.picture.specs.High.{indexIn, planIn, PlanIn, PlansOn, Notes};
+ghost use Rattle.picture.specs.High.{planIn, choiceIn, noteIn, plannedBy, FewBits, TermsIn, PlanIn, PlansOn, Notes};
 ghost use Rattle.picture.specs.Low.{isLast, lowIndexIn, lowBitsIn, lowWorkIn, LowIn};
 
-// Where the next slice goes in the output, how many low-delay slices carry index 127, and the largest need of a component.
+// Where the next slice goes in the output, how many low-delay slices carry index 127, the largest need of a component, and the index
+// chosen last.
 pub struct SliceCoder {
     pub at: usize,
     pub cut_slices: u32,
     pub largest: u64,
+    pub index: u32,
 }
 
 impl SliceCoder {
@@ -29,23 +31,42 @@ impl SliceCoder {
             at,
             cut_slices: 0,
             largest: 0,
+            index: 0,
         }
     }
 
-    // High-quality slice k, planned, and its index noted.
-    pub fn plan_hq_slice(self, work: &mut [i64], p: Picture, t: Terms, k: u32) -> SliceCoder
-        requires { ⌜ PlanIn p t (now work) × ((k < slicesIn p) × (self .at < 2 ^ 60)) ⌝ }
-        ensures { λ r. ⌜ PlansOn (t .prefix) (t .scaler) (planIn (now (work .entry)) p t k) self r
-            × (now (work .exit) ≡ set (now (work .entry)) (p .end + k) (pos (indexIn (now (work .entry)) p t k))) ⌝ }
+    // A high-quality slice of choice c, planned.
+    fn plan_choice(self, t: Terms, c: Choice) -> SliceCoder
+        requires { ⌜ TermsIn t × (FewBits c × (self .at < 2 ^ 60)) ⌝ }
+        ensures { λ r. ⌜ (r ≡ plannedBy t c self) × (r .at ≤ self .at + 2 ^ 34) ⌝ }
     {
-        let q = crate::high_index::index_of(work, p, t, k);
-        let n = crate::high_index::needs_of(work, p, k, q);
-        crate::high_index::note_index(work, p.end + k as usize, q);
+        let n = crate::high_index::needs_of(c);
         SliceCoder {
             at: self.at + crate::high_index::slice_size(n, t) as usize,
             cut_slices: self.cut_slices,
             largest: crate::high_index::largest(n, self.largest),
+            index: c.index,
         }
+    }
+
+    // High-quality slice k, planned, and its choice noted.
+    pub fn plan_hq_slice(self, work: &mut [i64], p: Picture, t: Terms, k: u32) -> SliceCoder
+        requires { ⌜ PlanIn p t (now work) × ((k < slicesIn p) × (self .at < 2 ^ 60)) ⌝ }
+        ensures { λ r. ⌜ PlansOn (t .prefix) (t .scaler) (planIn (now (work .entry)) p t k) self r
+            × (now (work .exit) ≡ noteIn (now (work .entry)) (p .end + 7 * k) (choiceIn (now (work .entry)) p t k)) ⌝ }
+    {
+        let c = crate::high_index::choice_of(work, p, t, k, self.index);
+        crate::high_index::note_choice(work, p.end + 7 * k as usize, c);
+        self.plan_choice(t, c)
+    }
+
+    // High-quality slice k, planned by the choice noted.
+    pub fn plan_noted(self, work: &[i64], p: Picture, t: Terms, k: u32) -> SliceCoder
+        requires { ⌜ PlanIn p t (now work) × ((k < slicesIn p) × (Notes (now work) p t (slicesIn p) (now work) × (self .at < 2 ^ 60))) ⌝ }
+        ensures { λ r. ⌜ PlansOn (t .prefix) (t .scaler) (planIn (now (work .entry)) p t k) self r ⌝ }
+    {
+        let c = crate::high_index::noted_choice(work, p, t, k);
+        self.plan_choice(t, c)
     }
 
     // High-quality slice k, written.
@@ -62,11 +83,12 @@ impl SliceCoder {
         ensures { λ r. ⌜ Lays (now (out .entry)) (self .at) (toBytes (planIn (now (work .entry)) p t k .bits)) (now (out .exit)) (r .at)
             × ((r .«cut_slices» ≡ self .«cut_slices») × (r .largest ≡ self .largest)) ⌝ }
     {
-        let q = crate::high_index::noted_index(work, p, t, k);
+        let c = crate::high_index::noted_choice(work, p, t, k);
         SliceCoder {
-            at: crate::high_slice::put_hq_slice(out, self.at, work, p, t, k, q),
+            at: crate::high_slice::put_hq_slice(out, self.at, work, p, t, k, c),
             cut_slices: self.cut_slices,
             largest: self.largest,
+            index: self.index,
         }
     }
 
@@ -92,6 +114,7 @@ impl SliceCoder {
             at: crate::low_slice::put_ld_slice(out, self.at, work, p, bytes, k, q),
             cut_slices: self.cut_slices + crate::low_index::is_last(q),
             largest: self.largest,
+            index: self.index,
         }
     }
 }

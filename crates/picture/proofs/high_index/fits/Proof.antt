@@ -1,27 +1,38 @@
 -- `high_index::fits` meets its contract. Assumes nothing.
-use Rattle.picture.specs.HighIndexLaws.{fits-not}
+use mathlib.Core.Path.{refl, sym}
+use Rattle.unit.specs.TestLaws.{no-truth}
+use Rattle.picture.specs.HighIndexLaws.{alone-few, alone-not}
 use borrow.Author.Needs.{needs}
 use Rattle.picture.proofs.high_index.fits.Statement.{statement}
 use Rattle.picture.proofs.high_index.fits.Tie as tie
 use Rattle.picture.proofs.high_index.fits.Reads as reads
 use Rattle.picture.proofs.high_index.fits.Lts as lts
 use Rattle.picture.proofs.high_index.fits_with.Reads as fits-with-reads
-use Rattle.picture.proofs.high_index.need.Reads as need-reads
+use Rattle.picture.proofs.high_index.needs_of.Reads as needs-of-reads
 use Rattle.picture.proofs.high_index.slice_size.Reads as slice-size-reads
+use Rattle.picture.proofs.high_index.trimmed_run.Reads as trimmed-run-reads
 
-need-requires : tie.Need-need-requires
-need-requires c κs = search needs
+trimmed-run-requires : tie.Need-trimmed-run-requires
+trimmed-run-requires c κs = search needs
+
+needs-of-requires : tie.Need-needs-of-requires
+needs-of-requires c κs =
+    let st = c .before .before in
+    let a = st .args in
+    alone-few (a .work .now) (a .p) (a .k) (a .q) _ _ _ (st .pre .0 .arranged) (st .pre .0 .index) (c .trimmed-run .ensures) refl refl
 
 slice-size-requires : tie.Need-slice-size-requires
 slice-size-requires c κs = search needs
 
 returns : tie.Need-returns
 returns c =
-    let st = c .before .before .before .before in
+    let st = c .before .before .before .before .before in
     let a = st .args in
-    let n = c .before .before .need in
-    let z = c .before .slice-size in
-    fits-not (a .work .now) (a .p) (a .k) (a .q) (n .result) (a .t .prefix) (a .t .scaler) (a .share) (z .result) (st .pre .1 .scaler .0) (n .ensures .0) (z .ensures .0) (c .if1 .taken)
+    let z = c .before .slice-size in (
+      alone-not (a .work .now) (a .p) (a .k) (a .q) (c .before .before .before .trimmed-run .result) (c .before .before .needs-of .result) (a .t .prefix) (a .t .scaler) (a .share) (z .result)
+          (st .pre .1 .scaler .0) (c .before .before .before .trimmed-run .ensures) (c .before .before .needs-of .ensures .0) (z .ensures .0) (c .if1 .taken),
+      λ h. no-truth (sym h),
+    )
 
 fits-with-requires : tie.Need-fits-with-requires
 fits-with-requires c κs = search needs
@@ -31,4 +42,11 @@ returns-2 c = search needs
 
 pub fits-spec : {M : Type 1} → statement M
 fits-spec =
-    tie.close (tie.spec need-requires slice-size-requires returns fits-with-requires returns-2)
+    tie.close
+    (tie.spec
+    trimmed-run-requires
+    needs-of-requires
+    slice-size-requires
+    returns
+    fits-with-requires
+    returns-2)

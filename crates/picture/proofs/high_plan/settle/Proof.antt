@@ -1,16 +1,17 @@
--- `high_plan::settle` meets its contract. The invariant: r is the plan with scaler c, whose indices are noted, and the turns from c end where those
+-- `high_plan::settle` meets its contract. The invariant: r is the plan with scaler c, whose choices are noted, and the turns from c end where those
 -- from the first scaler do. Assumes nothing.
-use mathlib.Core.Path.{_∙_}
+use mathlib.Core.Path.{refl, _∙_}
 use Prim.Native.Nat.{_-_, _^_}
 use Rattle.picture.specs.Picture.{slicesIn}
 use Rattle.picture.specs.High.{termsOf, Notes}
 use Rattle.picture.specs.HighPlanLaws.{Settling, settling-first, settling-turn, settling-ends}
-use Rattle.picture.specs.NotedLaws.{notes-high, notes-own, notes-after, plans-after, plans-before, settles-after}
+use Rattle.picture.specs.NotedLaws.{notes-high, notes-own, notes-stand, notes-after, plans-after, plans-before, settles-after}
 use native.Mathlib.Omega.{arith}
 use Rattle.picture.proofs.high_plan.settle.Statement.{statement}
 use Rattle.picture.proofs.high_plan.settle.Tie as tie
 use Rattle.picture.proofs.high_plan.settle.Reads as reads
 use Rattle.picture.proofs.high_plan.settle.Lts as lts
+use Rattle.picture.proofs.high_plan.plan_again.Reads as plan-again-reads
 use Rattle.picture.proofs.high_plan.plan_picture.Reads as plan-picture-reads
 
 abbrev Inv-loop : tie.InvT-loop
@@ -46,12 +47,20 @@ add-c c = omega arith
 cast-c : tie.Need-cast-c Inv-loop μ-loop
 cast-c c = omega (arith, c .before .before .before .loop .inv .0 .plan .few)
 
-plan-picture-requires-2 : tie.Need-plan-picture-requires-2 Inv-loop μ-loop
-plan-picture-requires-2 c κs =
+plan-again-requires : tie.Need-plan-again-requires Inv-loop μ-loop
+plan-again-requires c κs =
     let v = c .before .before .before .before .loop in
     let st = c .before .before .before .before .before .before .before .before .before in
-    let o = c .before .before .before .before .before .before .plan-picture .ensures .1 in
-    (notes-high (v .inv .1) (notes-high o (st .pre .0)), (st .pre .1, (omega (arith, c .before .before .if1 .taken), omega (arith, v .inv .0 .plan .few))))
+    let h = notes-high (c .before .before .before .before .before .before .plan-picture .ensures .1) (st .pre .0) in (
+      notes-high (v .inv .1) h,
+      (
+        st .pre .1,
+        (
+          (omega (arith, c .before .before .if1 .taken), omega (arith, v .inv .0 .plan .few)),
+          record { notes = notes-stand (st .args .s) refl (notes-own (h .arranged) (h .small) (v .inv .1)) },
+        ),
+      ),
+    )
 
 loop-less : tie.Need-loop-less Inv-loop μ-loop
 loop-less c =
@@ -65,7 +74,7 @@ loop-again c =
     let a = st .args in
     let w = c .before .before .before .before .before .before .before .before .plan-picture in
     let h = notes-high (w .ensures .1) (st .pre .0) in
-    let r = c .before .plan-picture2 in (
+    let r = c .before .plan-again in (
       settling-turn _ (a .p) (a .s) (a .matrix .now) (v .c) (v .r) (r .result) (v .inv .0) (c .before .before .before .before .if1 .taken)
           (plans-after (h .arranged) (h .small) (v .inv .1) (r .ensures .0)),
       notes-after (h .arranged) (h .small) (v .inv .1) (r .ensures .1),
@@ -98,7 +107,7 @@ settle-spec =
     mul-if1
     add-c
     cast-c
-    plan-picture-requires-2
+    plan-again-requires
     loop-less
     loop-again
     same-length

@@ -1,41 +1,37 @@
 -- `high_slice::put_component` meets its contract. Assumes nothing.
+use mathlib.Core.Path.{ap, _∙_}
+use Prim.Native.Nat.{ℕ}
 use native.Mathlib.Omega.{arith}
 use borrow.Author.Needs.{needs}
+use Rattle.unit.specs.HighQuality.{ceiling}
 use Rattle.picture.specs.Picture.{runOf}
-use Rattle.picture.specs.HighIndexLaws.{kept-most}
+use Rattle.picture.specs.HighIndexLaws.{run-bits}
 use Rattle.picture.specs.HighSliceLaws.{Counted, kept-held, byte-room, kept-room, ones-room, component-wrote}
 use Rattle.picture.proofs.high_slice.put_component.Statement.{statement}
 use Rattle.picture.proofs.high_slice.put_component.Tie as tie
 
--- the cost of the numbers, and the scalers
-counted : (c : tie.After-scalers) → let a = c .before .before .before .before .before .args in
-    Counted (a .scaler) (runOf (a .work .now) (a .p) (a .c) (a .k) (a .q)) (c .before .before .cost-run .result) (c .scalers .result)
-counted c = record { some = c .before .before .before .before .before .pre .1 .1 .0 .0; cost = c .before .before .cost-run .ensures; scalers = c .scalers .ensures .0 }
-
-cost-run-requires : tie.Need-cost-run-requires
-cost-run-requires c κs = search needs
-
-add-scalers : tie.Need-add-scalers
-add-scalers c =
+-- the run, and its scalers
+counted : (c : tie.After-scalers) → let a = c .before .before .before .before .args in Counted (a .scaler) (runOf (a .work .now) (a .p) (a .c) (a .k) (a .q)) (a .t) (c .scalers .result)
+counted c =
     let st = c .before .before .before .before in
+    record { some = st .pre .1 .1 .1 .0 .0; run = st .pre .1 .1 .0; scalers = c .scalers .ensures .0 ∙ ap (λ (n : ℕ). ceiling n (st .args .scaler)) (c .before .need .ensures .0) }
+
+need-requires : tie.Need-need-requires
+need-requires c κs =
+    let st = c .before .before in
     let a = st .args in
-    let t = c .before .cost-run in
-    omega (arith, kept-most (a .work .now) (a .p) (a .c) (a .k) (a .q) (st .pre .1 .0) (t .result) (t .ensures))
+    run-bits (a .work .now) (a .p) (a .c) (a .k) (a .q) (st .pre .1 .0) (a .t) (st .pre .1 .1 .0)
 
 scalers-requires : tie.Need-scalers-requires
-scalers-requires c κs =
-    let st = c .before .before .before .before in
-    let a = st .args in
-    let t = c .before .cost-run in
-    (omega (arith, kept-most (a .work .now) (a .p) (a .c) (a .k) (a .q) (st .pre .1 .0) (t .result) (t .ensures)), st .pre .1 .1 .0)
+scalers-requires c κs = (c .need .ensures .1, c .before .before .before .pre .1 .1 .1 .0)
 
 put-nbits-requires : tie.Need-put-nbits-requires
-put-nbits-requires c κs = (byte-room (counted (c .before)) (c .before .before .before .before .before .before .pre .1 .1 .1), omega arith)
+put-nbits-requires c κs = (byte-room (counted (c .before)) (c .before .before .before .before .before .pre .1 .1 .1 .1), omega arith)
 
 put-run-requires : tie.Need-put-run-requires
 put-run-requires c κs =
-    let st = c .before .before .before .before .before .before .before .before .before .before in
-    (st .pre .0, kept-room (counted (c .before .before .before .before .before)) (st .pre .1 .1 .1) (c .before .before .before .put-nbits .ensures))
+    let st = c .before .before .before .before .before .before .before .before .before in
+    (st .pre .0, kept-room (counted (c .before .before .before .before .before)) (st .pre .1 .1 .1 .1) (c .before .before .before .put-nbits .ensures))
 
 mul-put-ones : tie.Need-mul-put-ones
 mul-put-ones c = search needs
@@ -48,22 +44,23 @@ sub-put-ones c = omega (arith, kept-held (counted (c .before .before .before .be
 
 put-ones-requires : tie.Need-put-ones-requires
 put-ones-requires c κs =
-    ones-room (counted (c .before .before .before .before .before .before .before .before .before .before .before)) (c .before .before .before .before .before .before .before .before .before .before .before .before .before .before .before .before .pre .1 .1 .1) (c .before .before .before .before .before .before .before .before .before .put-nbits .ensures) (c .before .before .before .before .before .put-run .ensures .wrote)
+    let s = c .before .before .before .before .before .before .before .before .before .before .before in
+    ones-room (counted s) (s .before .before .before .before .pre .1 .1 .1 .1) (c .before .before .before .before .before .before .before .before .before .put-nbits .ensures) (c .before .before .before .before .before .put-run .ensures .wrote)
 
 same-length : tie.Need-same-length
 same-length c = search needs
 
 returns : tie.Need-returns
 returns c =
-    component-wrote (counted (c .before .before .before .before .before .before .before .before .before .before .before .before .before .before)) (c .before .before .before .before .before .before .before .before .before .before .before .before .before .before .before .before .before .before .before .pre .1 .1 .1) (c .before .before .before .before .before .before .before .before .before .before .before .before .put-nbits .ensures) (c .before .before .before .before .before .before .before .before .put-run .ensures .wrote)
+    let s = c .before .before .before .before .before .before .before .before .before .before .before .before .before .before in
+    component-wrote (counted s) (s .before .before .before .before .pre .1 .1 .1 .1) (c .before .before .before .before .before .before .before .before .before .before .before .before .put-nbits .ensures) (c .before .before .before .before .before .before .before .before .put-run .ensures .wrote)
     (c .before .before .put-ones .ensures)
 
 pub put-component-spec : {M : Type 1} → statement M
 put-component-spec =
     tie.close
     (tie.spec
-    cost-run-requires
-    add-scalers
+    need-requires
     scalers-requires
     put-nbits-requires
     put-run-requires

@@ -10,34 +10,37 @@ put-prefix-requires : tie.Need-put-prefix-requires
 put-prefix-requires c κs =
     let st = c .before .before in
     let a = st .args in
-    let t = st .pre .1 .0 in
-    (prefix-room (a .t .prefix) (a .t .scaler) (a .q) (numbersIn (a .work .now) (a .p) (a .k) (a .q)) (a .at) (t .scaler .0) (st .pre .1 .1 .1), t .prefix)
+    let t = st .pre .1 .1 .0 in
+    (prefix-room (a .t .prefix) (a .t .scaler) (a .c .index) (numbersIn (a .work .now) (a .p) (a .k) (a .c .index)) (a .at) (t .scaler .0) (st .pre .1 .1 .1), t .prefix)
+
+cast-put-nbits : tie.Need-cast-put-nbits
+cast-put-nbits c = search needs
 
 put-nbits-requires : tie.Need-put-nbits-requires
 put-nbits-requires c κs =
-    let st = c .before .before .before .before .before .before in
+    let st = c .before .before .before .before .before .before .before in
     let a = st .args in
-    let t = st .pre .1 .0 in
-    (index-room (a .t .prefix) (a .t .scaler) (a .q) (numbersIn (a .work .now) (a .p) (a .k) (a .q)) (a .at) (t .scaler .0) (st .pre .1 .1 .1) (c .before .before .before .put-prefix .ensures), omega arith)
+    let t = st .pre .1 .1 .0 in
+    (index-room (a .t .prefix) (a .t .scaler) (a .c .index) (numbersIn (a .work .now) (a .p) (a .k) (a .c .index)) (a .at) (t .scaler .0) (st .pre .1 .1 .1) (c .before .before .before .before .put-prefix .ensures), omega arith)
 
 put-components-requires : tie.Need-put-components-requires
 put-components-requires c κs =
-    let st = c .before .before .before .before .before .before .before .before .before .before in
+    let st = c .before .before .before .before .before .before .before .before .before .before .before in
     let a = st .args in
-    let t = st .pre .1 .0 in
-    (st .pre .0, (t .scaler, components-room (a .t .prefix) (a .t .scaler) (a .q) (numbersIn (a .work .now) (a .p) (a .k) (a .q)) (a .at) (t .scaler .0) (st .pre .1 .1 .1) (c .before .before .before .before .before .before .before .put-prefix .ensures) (c .before .before .before .put-nbits .ensures)))
+    let t = st .pre .1 .1 .0 in
+    (st .pre .0, (st .pre .1 .0, (t .scaler, components-room (a .t .prefix) (a .t .scaler) (a .c .index) (numbersIn (a .work .now) (a .p) (a .k) (a .c .index)) (a .at) (t .scaler .0) (st .pre .1 .1 .1) (c .before .before .before .before .before .before .before .before .put-prefix .ensures) (c .before .before .before .put-nbits .ensures))))
 
 same-length : tie.Need-same-length
 same-length c = search needs
 
 returns : tie.Need-returns
 returns c =
-    let st = c .before .before .before .before .before .before .before .before .before .before .before .before .before in
+    let st = c .before .before .before .before .before .before .before .before .before .before .before .before .before .before in
     let a = st .args in
-    let t = st .pre .1 .0 in
-    slice-laid (a .t .prefix) (a .t .scaler) (a .q) (numbersIn (a .work .now) (a .p) (a .k) (a .q)) (a .at) (t .scaler .0) (st .pre .1 .1 .1) (c .before .before .before .before .before .before .before .before .before .before .put-prefix .ensures) (c .before .before .before .before .before .before .put-nbits .ensures) (c .before .before .put-components .ensures)
+    let t = st .pre .1 .1 .0 in
+    slice-laid (a .t .prefix) (a .t .scaler) (a .c .index) (numbersIn (a .work .now) (a .p) (a .k) (a .c .index)) (a .at) (t .scaler .0) (st .pre .1 .1 .1) (c .before .before .before .before .before .before .before .before .before .before .before .put-prefix .ensures) (c .before .before .before .before .before .before .put-nbits .ensures) (c .before .before .put-components .ensures)
 
 pub put-hq-slice-spec : {M : Type 1} → statement M
 put-hq-slice-spec =
     tie.close
-    (tie.spec put-prefix-requires put-nbits-requires put-components-requires same-length returns)
+    (tie.spec put-prefix-requires cast-put-nbits put-nbits-requires put-components-requires same-length returns)

@@ -1,4 +1,4 @@
--- `high_index::note_index` meets its contract. Assumes nothing.
+-- `high_index::note` meets its contract. Assumes nothing.
 use mathlib.Core.Path.{sym, ap}
 use lib.ListN.{set}
 use lib.Seq.{set-out}
@@ -6,10 +6,10 @@ use mir.Syntax.{w64}
 use mir.Facts.{toZ-pos}
 use native.Mathlib.Omega.{arith}
 use borrow.Author.Needs.{needs}
-use Rattle.picture.proofs.high_index.note_index.Statement.{statement}
-use Rattle.picture.proofs.high_index.note_index.Tie as tie
-use Rattle.picture.proofs.high_index.note_index.Reads as reads
-use Rattle.picture.proofs.high_index.note_index.Lts as lts
+use Rattle.picture.proofs.high_index.note.Statement.{statement}
+use Rattle.picture.proofs.high_index.note.Tie as tie
+use Rattle.picture.proofs.high_index.note.Reads as reads
+use Rattle.picture.proofs.high_index.note.Lts as lts
 
 cast-work : tie.Need-cast-work
 cast-work c = search needs
@@ -26,13 +26,12 @@ same-length c = search needs
 returns : tie.Need-returns
 returns c =
     let a = c .before .args in
-    ap (set (a .work .now) (a .i)) (toZ-pos w64 (omega arith))
+    ap (set (a .work .now) (a .i)) (toZ-pos w64 (omega (arith, c .before .pre)))
 
 returns-2 : tie.Need-returns-2
 returns-2 c =
     let a = c .before .args in
     sym (set-out (a .work .now) (a .i) _ (omega (arith, c .if1 .left)))
 
-pub note-index-spec : {M : Type 1} → statement M
-note-index-spec =
-    tie.close (tie.spec cast-work mul-t7 slice-set-from-work same-length returns returns-2)
+pub note-spec : {M : Type 1} → statement M
+note-spec = tie.close (tie.spec cast-work mul-t7 slice-set-from-work same-length returns returns-2)

@@ -1,0 +1,71 @@
+-- `high_plan::plan_again` meets its contract. Assumes nothing.
+use mathlib.Core.Path.{refl, sym, ap, _∙_}
+use Rattle.picture.specs.declared.high_index.Terms.{Terms}
+use Rattle.picture.specs.Picture.{slicesIn}
+use Rattle.picture.specs.High.{termsOf}
+use Rattle.picture.specs.HighPlanLaws.{plan-in, plans-same, slicesFrom}
+use borrow.Author.Needs.{needs}
+use Rattle.picture.proofs.high_plan.plan_again.Statement.{statement}
+use Rattle.picture.proofs.high_plan.plan_again.Tie as tie
+use Rattle.picture.proofs.high_plan.plan_again.Reads as reads
+use Rattle.picture.proofs.high_plan.plan_again.Lts as lts
+use Rattle.picture.proofs.header.overhead.Reads as overhead-reads
+use Rattle.picture.proofs.high_plan.is_target.Reads as is-target-reads
+use Rattle.picture.proofs.high_plan.plan_noted.Reads as plan-noted-reads
+use Rattle.picture.proofs.high_plan.plan_picture.Reads as plan-picture-reads
+use Rattle.picture.proofs.high_plan.terms_of.Reads as terms-of-reads
+
+is-target-requires : tie.Need-is-target-requires
+is-target-requires c κs = search needs
+
+plan-picture-requires : tie.Need-plan-picture-requires
+plan-picture-requires c κs = search needs
+
+same-length : tie.Need-same-length
+same-length c = search needs
+
+returns : tie.Need-returns
+returns c = search needs
+
+terms-of-requires : tie.Need-terms-of-requires
+terms-of-requires c κs = search needs
+
+overhead-requires : tie.Need-overhead-requires
+overhead-requires c κs = search needs
+
+plan-noted-requires : tie.Need-plan-noted-requires
+plan-noted-requires c κs =
+    let st = c .before .before .before .before .before .before in
+    let t = c .before .before .terms-of in (
+      plan-in (st .args .matrix .now) (st .args .c) (st .pre .0) (st .pre .1 .1 .0 .0) (st .pre .1 .1 .0 .1) (t .result) (t .ensures),
+      (st .pre .1 .1 .1 .notes (sym (c .before .before .before .before .is-target .ensures) ∙ c .before .before .before .if1 .left) (t .result) (ap (λ (t : Terms). t .rate) (t .ensures)), c .before .overhead .ensures .1),
+    )
+
+same-length-2 : tie.Need-same-length-2
+same-length-2 c = search needs
+
+returns-2 : tie.Need-returns-2
+returns-2 c =
+    let st = c .before .before .before .before .before .before .before in
+    let a = st .args in
+    let t = c .before .before .before .terms-of in
+    let o = c .before .before .overhead in
+    let r = c .plan-noted in (
+      plans-same (a .work .now) (a .p) (t .result) (termsOf (a .s) (a .matrix .now) (a .c)) (o .result) (slicesFrom (a .s) (a .matrix .now) (a .c)) (slicesIn (a .p))
+          (r .result) (t .ensures) (o .ensures .0) (r .ensures),
+      st .pre .1 .1 .1 .notes (sym (c .before .before .before .before .before .is-target .ensures) ∙ c .before .before .before .before .if1 .left) (termsOf (a .s) (a .matrix .now) (a .c)) refl,
+    )
+
+pub plan-again-spec : {M : Type 1} → statement M
+plan-again-spec =
+    tie.close
+    (tie.spec
+    is-target-requires
+    plan-picture-requires
+    same-length
+    returns
+    terms-of-requires
+    overhead-requires
+    plan-noted-requires
+    same-length-2
+    returns-2)

@@ -1,0 +1,33 @@
+-- `SliceCoder::plan_choice` meets its contract. Assumes nothing.
+use Rattle.picture.specs.HighPlanLaws.{planned-is}
+use borrow.Author.Needs.{needs}
+use Rattle.picture.proofs.slice_coder.SliceCoder.plan_choice.Statement.{statement}
+use Rattle.picture.proofs.slice_coder.SliceCoder.plan_choice.Tie as tie
+use Rattle.picture.proofs.slice_coder.SliceCoder.plan_choice.Reads as reads
+use Rattle.picture.proofs.slice_coder.SliceCoder.plan_choice.Lts as lts
+use Rattle.picture.proofs.high_index.largest.Reads as largest-reads
+use Rattle.picture.proofs.high_index.needs_of.Reads as needs-of-reads
+use Rattle.picture.proofs.high_index.slice_size.Reads as slice-size-reads
+
+needs-of-requires : tie.Need-needs-of-requires
+needs-of-requires c κs = search needs
+
+slice-size-requires : tie.Need-slice-size-requires
+slice-size-requires c κs = search needs
+
+add-t7 : tie.Need-add-t7
+add-t7 c = search needs
+
+largest-requires : tie.Need-largest-requires
+largest-requires c κs = search needs
+
+returns : tie.Need-returns
+returns c =
+    let a = c .before .before .before .before .args in
+    let n = c .before .before .before .needs-of in
+    let z = c .before .before .slice-size in
+    planned-is (a .t) (a .c) (a .self) (n .result) (z .result) (c .largest .result) (n .ensures .0) (z .ensures .0) (z .ensures .1) (c .largest .ensures)
+
+pub plan-choice-spec : {M : Type 1} → statement M
+plan-choice-spec =
+    tie.close (tie.spec needs-of-requires slice-size-requires add-t7 largest-requires returns)

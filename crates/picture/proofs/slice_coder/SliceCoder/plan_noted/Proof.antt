@@ -1,0 +1,35 @@
+-- `SliceCoder::plan_noted` meets its contract. Assumes nothing.
+use Rattle.picture.specs.High.{FewBits}
+use Rattle.picture.specs.HighIndexLaws.{index-most, own-few}
+use Rattle.picture.specs.HighPlanLaws.{slice-planned}
+use borrow.Author.Needs.{needs}
+use Rattle.picture.proofs.slice_coder.SliceCoder.plan_noted.Statement.{statement}
+use Rattle.picture.proofs.slice_coder.SliceCoder.plan_noted.Tie as tie
+use Rattle.picture.proofs.slice_coder.SliceCoder.plan_noted.Reads as reads
+use Rattle.picture.proofs.slice_coder.SliceCoder.plan_noted.Lts as lts
+use Rattle.picture.proofs.high_index.noted_choice.Reads as noted-choice-reads
+use Rattle.picture.proofs.slice_coder.SliceCoder.plan_choice.Reads as plan-choice-reads
+
+-- the choice has few bits
+few : (c : tie.After-noted-choice) → FewBits (c .noted-choice .result)
+few c =
+    let st = c .before in
+    let a = st .args in
+    own-few (a .work .now) (a .p) (a .t) (a .k) _ (st .pre .0 .arranged) (index-most (a .work .now) (a .p) (a .t) (a .k) (st .pre .0 .terms)) (c .noted-choice .ensures)
+
+noted-choice-requires : tie.Need-noted-choice-requires
+noted-choice-requires c κs = search needs
+
+plan-choice-requires : tie.Need-plan-choice-requires
+plan-choice-requires c κs = let st = c .before in (st .pre .0 .terms, (few c, st .pre .1 .1 .1))
+
+returns : tie.Need-returns
+returns c =
+    let st = c .before .before in
+    let a = st .args in
+    let q = c .before .noted-choice in
+    let r = c .plan-choice in
+    slice-planned (a .work .now) (a .p) (a .t) (a .k) (q .result) (a .self) (r .result) (st .pre .0 .terms .scaler .0) (few (c .before)) (q .ensures) (r .ensures .0) (r .ensures .1)
+
+pub plan-noted-spec : {M : Type 1} → statement M
+plan-noted-spec = tie.close (tie.spec noted-choice-requires plan-choice-requires returns)
