@@ -1,4 +1,4 @@
-// The writer of bits lent by reference: each put copies the writer out, calls the put of the same name on it, and stores what that gave.
+// The writer of bits lent by reference: each put copies the writer out, calls the put of the same name in `writer` on it, and stores what that gave.
 use crate::writer::BitWriter;
 ghost use mathlib.Core.List.{[], _∷_};
 ghost use Prim.Native.Nat.{_≤_};

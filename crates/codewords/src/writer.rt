@@ -1,4 +1,4 @@
-// The writer of bits into a lent slice of bytes, high bits first. Its functions serve the layers above, which see to the room.
+// The writer of bits into a lent slice of bytes, high bits first. Its puts are for `lent`; the layers above go through `bitio` and see to the room.
 ghost use mathlib.Core.Path.{_≡_};
 ghost use Prim.Native.Nat.{_+_, _-_, _*_, _≤_, _<_, _^_};
 ghost use mathlib.Core.Bool.{true};
@@ -14,7 +14,7 @@ ghost use Rattle.codewords.specs.Writer.{Room, Wrote, Aligns, padding};
 // The place of the byte that is begun, the bits that it has so far, and how many they are.
 pub struct BitWriter {
     pub at: usize,
-    pub pending: u8,
+    pub pending: u32,
     pub pending_bits: u32,
 }
 
@@ -24,9 +24,9 @@ pub fn put_bit(out: &mut [u8], w: BitWriter, bit: bool) -> BitWriter
     ensures { λ r. ⌜ Wrote (now (out .entry)) w (bit ∷ []) (now (out .exit)) r ⌝ }
 {
     let at = w.at;
-    let next = w.pending * 2 + bit as u8;
+    let next = w.pending * 2 + bit as u32;
     if w.pending_bits == 7 {
-        out[at] = next;
+        out[at] = next as u8;
         BitWriter {
             at: at + 1,
             pending: 0,
@@ -68,7 +68,7 @@ fn put_short(out: &mut [u8], w: BitWriter, v: u64, n: u32) -> BitWriter
     let rest: u64 = 1 << (k % 8);
     BitWriter {
         at,
-        pending: (x % rest) as u8,
+        pending: (x % rest) as u32,
         pending_bits: k % 8,
     }
 }

@@ -19,14 +19,19 @@ add-next : tie.Need-add-next
 add-next c =
     omega (arith, pending-small (c .before .args .w) (c .before .pre .sound), byte-val (c .before .args .bit), val-lt (c .before .args .bit))
 
+cast-out : tie.Need-cast-out
+cast-out c =
+    let s = c .before .before .before in
+    omega (arith, pending-small (s .args .w) (s .pre .sound), byte-val (s .args .bit), val-lt (s .args .bit))
+
 slice-write-out : tie.Need-slice-write-out
 slice-write-out c = search needs
 
-add-t11 : tie.Need-add-t11
-add-t11 c = search needs
-
 add-t12 : tie.Need-add-t12
 add-t12 c = search needs
+
+add-t13 : tie.Need-add-t13
+add-t13 c = search needs
 
 same-length : tie.Need-same-length
 same-length c = search needs
@@ -43,4 +48,4 @@ returns-2 c =
     (wrote-part (s .args .out .now) (s .args .w) (s .args .bit) (s .pre .sound) (omega (arith, c .before .if1 .left, s .pre .sound .part)))
 
 pub put-bit-spec : {M : Type 1} → statement M
-put-bit-spec = tie.close (tie.spec mul-next cast-next add-next slice-write-out add-t11 add-t12 same-length returns returns-2)
+put-bit-spec = tie.close (tie.spec mul-next cast-next add-next cast-out slice-write-out add-t12 add-t13 same-length returns returns-2)

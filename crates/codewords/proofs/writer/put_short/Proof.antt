@@ -60,8 +60,8 @@ rem-t12 c =
     let k = a .w .«pending_bits» + a .n in
     rw (rest-is k) (pow-pos (k % 8))
 
-cast-t16 : tie.Need-cast-t16
-cast-t16 c =
+cast-t15 : tie.Need-cast-t15
+cast-t15 c =
     let s = c .before .before .before .before .before .before .before in
     let a = s .args in
     let k = a .w .«pending_bits» + a .n in
@@ -91,6 +91,6 @@ put-short-spec =
     cast-rest
     shl-rest
     rem-t12
-    cast-t16
+    cast-t15
     same-length
     returns)
