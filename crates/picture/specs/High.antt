@@ -1,4 +1,5 @@
--- High quality as the code has it: needs, index and bits of a slice by its numbers in the work slice. Assumes nothing.
+-- High quality as the code has it: needs, index, choice and bits of a slice by its numbers in the work slice, and the choices noted there. Assumes
+-- nothing.
 use mathlib.Core.Path.{_≡_}
 use mathlib.Core.Bool.{Bool, true, false}
 use mathlib.Core.List.{List, _++_}
@@ -138,14 +139,14 @@ pub record NeedsOf (z : Three (List ℤ)) (n : Needs) : Type 0 where
   pub few : (n .y ≤ 2 ^ 30) × ((n .c1 ≤ 2 ^ 30) × (n .c2 ≤ 2 ^ 30))
 
 -- a slice planned behind others: its place, and the largest component
-pub record PlansOn (p c : ℕ) (a : SlicePlan) (b r : SliceCoder) : Type 0 where
+pub record PlansOn (a : SlicePlan) (b r : SliceCoder) : Type 0 where
   pub at : r .at ≡ b .at + length (toBytes (a .bits))
   pub near : r .at ≤ b .at + 2 ^ 34
   pub cut : r .«cut_slices» ≡ b .«cut_slices»
   pub largest : r .largest ≡ max (max (needOf (a .numbers .y)) (max (needOf (a .numbers .c1)) (needOf (a .numbers .c2)))) (b .largest)
   pub few : b .largest ≤ 2 ^ 30 → r .largest ≤ 2 ^ 30
 
--- the first n slices planned from place at on
+-- the first n slices planned from place from on
 pub record PlansTo (w : List ℤ) (p : Picture) (t : Terms) (from n : ℕ) (r : SliceCoder) : Type 0 where
   pub at : r .at ≡ from + length (highRuns w p t n)
   pub near : r .at ≤ from + n * 2 ^ 34
@@ -153,13 +154,13 @@ pub record PlansTo (w : List ℤ) (p : Picture) (t : Terms) (from n : ℕ) (r : 
   pub largest : r .largest ≡ largestNeed (plansIn w p t n)
   pub few : r .largest ≤ 2 ^ 30
 
--- few enough bits
+-- index, counts and bits of a choice are small enough to be added up and noted
 pub record FewBits (c : Choice) : Type 0 where
   pub index : c .index ≤ 255
   pub counts : (c .y .count < 2 ^ 63) × ((c .c1 .count < 2 ^ 63) × (c .c2 .count < 2 ^ 63))
   pub bits : (c .y .bits ≤ 2 ^ 33) × ((c .c1 .bits ≤ 2 ^ 33) × (c .c2 .bits ≤ 2 ^ 33))
 
--- in v two numbers that no sign has stand from place i on
+-- from place i on v has two numbers that are not below 0, each below 2^63
 pub record RunAt (v : List ℤ) (i : ℕ) : Type 0 where
   pub reach : i + 1 < length v
   pub count : natAbs (at v i) < 2 ^ 63
@@ -177,13 +178,14 @@ pub record ChoiceAt (v : List ℤ) (i : ℕ) (c : Choice) : Type 0 where
   pub c2-count : at v (i + 5) ≡ pos (c .c2 .count)
   pub c2-bits : at v (i + 5 + 1) ≡ pos (c .c2 .bits)
 
--- v has what w has before its end, and behind it the choices of the first n slices, as far as v reaches
+-- v is as long as w and the same before the picture's end; behind it stand the choices of w's first n slices, each for whose seven numbers there is
+-- room
 pub record Notes (w : List ℤ) (p : Picture) (t : Terms) (n : ℕ) (v : List ℤ) : Type 0 where
   pub size : length v ≡ length w
   pub same : (i : ℕ) → i < p .end → at v i ≡ at w i
   pub choice : (k : ℕ) → k < n → p .end + 7 * k + 6 < length v → ChoiceAt v (p .end + 7 * k) (choiceIn w p t k)
 
--- where there is no byte target the choices that stand in w are those of any terms
+-- without a byte target the choices noted in w are those of all terms of this rate
 pub record Standing (s : Settings) (p : Picture) (w : List ℤ) : Type 0 where
   pub notes : isTarget (s .rate) ≡ false → (t : Terms) → t .rate ≡ s .rate → Notes w p t (slicesIn p) w
 

@@ -26,7 +26,7 @@ use Rattle.unit.specs.Parameters.{parameterBytes}
 use Rattle.unit.specs.Coefficients.{coefficientsOf}
 use Rattle.unit.specs.Quantised.{numbersHQ}
 use Rattle.unit.specs.Plan.{SlicePlan, Plan}
-use Rattle.unit.specs.HighQuality.{shareOf, highNumbers, highIndex, highPlan, largestNeed, scalerFrom}
+use Rattle.unit.specs.HighQuality.{shareOf, highNumbers, highIndex, highPlan, scalerFrom}
 use Rattle.unit.specs.HighQualityLaws.{needs-most}
 use Rattle.unit.specs.Unit.{majorVersion, gridOf, targetOf, highParameters, highBytes, highSlicesOf, scalerOf, planOf, sliceRuns, joined, headBits, lengthOf}
 use Rattle.unit.specs.Unit as unit
@@ -40,7 +40,7 @@ use Rattle.picture.specs.declared.high_plan.Settled.{Settled}
 use Rattle.picture.specs.NumberLaws.{Bands, Holds, numbers-high}
 use Rattle.picture.specs.Picture.{slicesIn, runOf, numbersIn}
 use Rattle.picture.specs.High.{indexBy, planBy, indexIn, planIn, plansIn, highRuns, termsOf, slicesBy, PlanIn, HighIn, Settles, Notes}
-use Rattle.picture.specs.NotedLaws.{notes-plan, notes-own, plans-alike, runs-alike}
+use Rattle.picture.specs.NotedLaws.{notes-plan, notes-own, runs-alike}
 use Rattle.picture.specs.Analysed.{isLow, layoutOf, pictureOf, Called, Analysed}
 use Rattle.picture.specs.Encoded.{tooLong, Codes, Coding, CodesAny}
 use Rattle.picture.specs.AnalysedLaws.{called-arranged, grid-is, slices-are, values-in, bands-y, bands-c1, bands-c2, small-by, holds-y, holds-c1, holds-c2, joined-span, length-parts, not-long, slices-room, codes-refused, codes-written}
@@ -230,23 +230,22 @@ module _ {w : List ℤ} {p : Picture} {s : Settings} {m : List ℕ} (k : Coding 
       pub slices-ready : (t : Terms) (n at : ℕ) (o : List ℕ) → t ≡ termsOf s m (r .scaler) → n ≡ r .end
           → at ≡ 17 + parameterBytes (majorVersion s) (highParameters s m (r .scaler))
           → o ≡ toBytes (headBits s n (highParameters s m (r .scaler))) ++ drop at out
-          → PlanIn p t w × ((largestNeed (plansIn w p t (slicesIn p)) ≤ 255 * t .scaler) × (at + length (highRuns w p t (slicesIn p)) ≤ length o))
+          → PlanIn p t w × (at + length (highRuns w p t (slicesIn p)) ≤ length o)
       slices-ready t n at o et en ea eo =
-          subst (λ (t : Terms). PlanIn p t w × ((largestNeed (plansIn w p t (slicesIn p)) ≤ 255 * t .scaler) × (at + length (highRuns w p t (slicesIn p)) ≤ length o)))
-          (sym et) (plan-in, (z .fits, runs-room n at o en ea eo))
+          subst (λ (t : Terms). PlanIn p t w × (at + length (highRuns w p t (slicesIn p)) ≤ length o)) (sym et) (plan-in, runs-room n at o en ea eo)
 
       -- the same where the indices are noted in v
       pub slices-noted : {v : List ℤ} → Notes w p (termsOf s m (r .scaler)) (slicesIn p) v → (t : Terms) (n at : ℕ) (o : List ℕ) → t ≡ termsOf s m (r .scaler) → n ≡ r .end
           → at ≡ 17 + parameterBytes (majorVersion s) (highParameters s m (r .scaler))
           → o ≡ toBytes (headBits s n (highParameters s m (r .scaler))) ++ drop at out
           → PlanIn p t v
-          × (Notes v p t (slicesIn p) v × ((largestNeed (plansIn v p t (slicesIn p)) ≤ 255 * t .scaler) × (at + length (highRuns v p t (slicesIn p)) ≤ length o)))
+          × (Notes v p t (slicesIn p) v × (at + length (highRuns v p t (slicesIn p)) ≤ length o))
       slices-noted {v} h t n at o et en ea eo =
           let g = slices-ready t n at o et en ea eo in
           let i = subst (λ (t : Terms). Notes w p t (slicesIn p) v) (sym et) h in
           let a = high-in .arranged in
           let b = high-in .small in
-          (notes-plan i (g .0), (notes-own a b i, (rw (plans-alike p w v a b (h .same) t) (g .1 .0), rw (runs-alike p w v a b (h .same) t) (g .1 .1))))
+          (notes-plan i (g .0), (notes-own a b i, rw (runs-alike p w v a b (h .same) t) (g .1)))
 
   -- the slices' bytes are the same
   pub noted-laid : {v : List ℤ} {u : Terms} (t : Terms) {o o′ : List ℕ} {at end : ℕ} → Notes w p u (slicesIn p) v

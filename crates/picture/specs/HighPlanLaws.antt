@@ -49,7 +49,7 @@ size-needs p c z n h = rw (h .y, h .c1, h .c2)
 plans-on : (p c q : ℕ) (z : Three (List ℤ)) (n : Needs) (b : SliceCoder) (size most : ℕ) → 1 ≤ c → NeedsOf z n
     → size ≡ 4 + p + (ceiling (n .y) c * c + ceiling (n .c1) c * c + ceiling (n .c2) c * c) → size ≤ 2 ^ 34
     → most ≡ max (max (n .y) (max (n .c1) (n .c2))) (b .largest)
-    → PlansOn p c (record { index = q; numbers = z; kept = z; bits = highBits p c q z }) b
+    → PlansOn (record { index = q; numbers = z; kept = z; bits = highBits p c q z }) b
     (record { at = b .at + size; «cut_slices» = b .«cut_slices»; largest = most; index = q })
 plans-on p c q z n b size most some h e few m = record {
   at = ap (λ (k : ℕ). b .at + k) (e ∙ sym (size-needs p c z n h) ∙ sym (bytes-high p c q z some));
@@ -74,7 +74,7 @@ planned-is t c b n size most e d l m = (
 
 -- the same of slice k and its choice
 pub slice-planned : (w : List ℤ) (p : Picture) (t : Terms) (k : ℕ) (c : Choice) (b r : SliceCoder) → 1 ≤ t .scaler → FewBits c → c ≡ choiceIn w p t k
-    → r ≡ plannedBy t c b → r .at ≤ b .at + 2 ^ 34 → PlansOn (t .prefix) (t .scaler) (planIn w p t k) b r
+    → r ≡ plannedBy t c b → r .at ≤ b .at + 2 ^ 34 → PlansOn (planIn w p t k) b r
 unfolding planIn
 slice-planned w p t k c b r some few e d near =
     let i : ℕ = indexIn w p t k in
@@ -84,7 +84,7 @@ slice-planned w p t k c b r some few e d near =
     let size : ℕ = 4 + t .prefix + (ceiling (n .y) s * s + ceiling (n .c1) s * s + ceiling (n .c2) s * s) in
     let f : r ≡ plannedBy t (choiceIn w p t k) b = d ∙ ap (λ (c : Choice). plannedBy t c b) e in
     let l : b .at + size ≤ b .at + 2 ^ 34 = subst (λ (r : SliceCoder). r .at ≤ b .at + 2 ^ 34) f near in
-    subst (PlansOn (t .prefix) (t .scaler) (planIn w p t k) b) (sym f)
+    subst (PlansOn (planIn w p t k) b) (sym f)
     (plans-on (t .prefix) s i (z i) n b size (max (max (n .y) (max (n .c1) (n .c2))) (b .largest)) some (needs-chosen z i (subst FewBits e few)) refl (omega (arith, l)) refl)
 
 -- ---- slices one behind the other
@@ -115,7 +115,7 @@ module _ (w : List ℤ) (p : Picture) (t : Terms) (from : ℕ) where
   }
 
   -- slice k behind the first k
-  pub plans-more : (k : ℕ) (b r : SliceCoder) → PlansTo w p t from k b → PlansOn (t .prefix) (t .scaler) (planIn w p t k) b r → PlansTo w p t from (k + 1) r
+  pub plans-more : (k : ℕ) (b r : SliceCoder) → PlansTo w p t from k b → PlansOn (planIn w p t k) b r → PlansTo w p t from (k + 1) r
   plans-more k b r h o =
       let F : ℕ → List ℕ = λ k. toBytes (planIn w p t k .bits) in
       let e : plansIn w p t (k + 1) ≡ plansIn w p t k ++ (planIn w p t k ∷ []) =

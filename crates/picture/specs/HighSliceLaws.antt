@@ -2,12 +2,11 @@
 use mathlib.Core.Path.{_≡_, refl, sym, ap, ap₂, _∙_}
 use mathlib.Core.Bool.{true, false}
 use mathlib.Core.List.{List, _++_}
-use Prim.Native.Nat.{ℕ, zero, suc, _+_, _*_, _-_, _/_, _≤_, _<_}
+use Prim.Native.Nat.{ℕ, zero, suc, _+_, _*_, _-_, _≤_, _<_}
 use native.Mathlib.Decide.{ℕ-discrete}
 use native.Mathlib.Omega.{arith}
 use lib.IntN.{ℤ}
 use lib.ListN.{length, take, length-append, length-replicate, replicate-append-replicate}
-use Rattle.laws.specs.Rows.{span}
 use Rattle.laws.specs.Chunks.{chunks, chunks-none, chunks-more}
 use Rattle.laws.specs.Laid.{Lays, lays-start, lays-on}
 use Rattle.codewords.specs.Bit.{Bits, lit, ones, zeros}
@@ -19,10 +18,9 @@ use Rattle.codewords.specs.Writer.{Sound, Room, Wrote}
 use Rattle.codewords.specs.WriterLaws.{wrote-then, room-after, bytes-laid}
 use Rattle.codewords.specs.declared.writer.BitWriter.{BitWriter}
 use Rattle.unit.specs.Three.{Three}
-use Rattle.unit.specs.Plan.{SlicePlan}
 use Rattle.unit.specs.Trim.{trimmed, trimmedCost}
-use Rattle.unit.specs.HighQuality.{ceiling, scalersOf, componentBits, highBits, largestNeed}
-use Rattle.unit.specs.HighQualityLaws.{Needs, cost-held, length-component, length-high, needs-split}
+use Rattle.unit.specs.HighQuality.{ceiling, scalersOf, componentBits, highBits}
+use Rattle.unit.specs.HighQualityLaws.{cost-held, length-component, length-high}
 use Rattle.picture.specs.declared.layout.Component.{Component}
 use Rattle.picture.specs.declared.layout.Picture.{Picture}
 use Rattle.picture.specs.declared.high_index.Trimmed.{Trimmed}
@@ -31,7 +29,7 @@ use Rattle.picture.specs.declared.high_index.Terms.{Terms}
 use Rattle.picture.specs.CostLaws.{trimmed-prefix}
 use Rattle.picture.specs.HeadLaws.{room-less, room-first, room-rest}
 use Rattle.picture.specs.Picture.{slicesIn, runOf, numbersIn, SliceIn}
-use Rattle.picture.specs.High.{indexIn, planIn, plansIn, highRuns, threeBits, trimmedOf, choiceBy, choiceIn, PlanIn}
+use Rattle.picture.specs.High.{indexIn, planIn, highRuns, threeBits, trimmedOf, choiceBy, choiceIn, PlanIn}
 
 -- ---- a component
 -- its kept numbers, and the ones that fill n scalers of c bytes
@@ -224,14 +222,6 @@ module _ (w : List ℤ) (p : Picture) (k : ℕ) (c : Choice) (e : c ≡ choiceBy
   choice-c2 = ap (λ (c : Choice). c .c2) e
 
 -- ---- slice after slice
--- the needs of the k-th of a span
-needs-from : (f : ℕ → SlicePlan) (i n m k : ℕ) → largestNeed (span f i n) ≤ m → k < n → Needs m (f (i + k) .numbers)
-needs-from f i zero m k h l = absurd (omega arith)
-needs-from f i (suc n) m zero h l = let e : i + 0 ≡ i = omega arith in rw e (needs-split (f i) (span f (suc i) n) m h .0)
-needs-from f i (suc n) m (suc k) h l =
-    let e : i + suc k ≡ suc i + k = omega arith in
-    rw e (needs-from f (suc i) n m k (needs-split (f i) (span f (suc i) n) m h .1) (omega arith))
-
 -- a part and those before it are no longer than all parts
 chunks-within : (F : ℕ → List ℕ) (n k : ℕ) → k < n → length (chunks F k) + length (F k) ≤ length (chunks F n)
 unfolding chunks
@@ -243,10 +233,6 @@ chunks-within F (suc n) k h = by (ℕ-discrete k n) (λ l. chunks-within F n k l
     by (no d) f = omega (arith, length-append (chunks F n) (F n), f (omega arith))
 
 module _ (w : List ℤ) (p : Picture) (t : Terms) where
-  -- the k-th slice where the largest need of n slices is at most m
-  pub slice-needs : (n m k : ℕ) → largestNeed (plansIn w p t n) ≤ m → k < n → Needs m (planIn w p t k .numbers)
-  slice-needs n m k h l = let e : 0 + k ≡ k = omega arith in rw e at (needs-from (planIn w p t) 0 n m k h l)
-
   -- the bytes of one slice
   abbrev bytesIn : ℕ → List ℕ
   bytesIn k = toBytes (planIn w p t k .bits)

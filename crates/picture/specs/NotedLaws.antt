@@ -310,8 +310,8 @@ module _ {w : List ℤ} {p : Picture} {t : Terms} where
 
   -- the slices planned so far are those of w
   pub plans-noted : {v : List ℤ} (k : ℕ) (b r : SliceCoder) → PlanIn p t w → k < slicesIn p → Notes w p t k v
-      → PlansOn (t .prefix) (t .scaler) (planIn v p t k) b r → PlansOn (t .prefix) (t .scaler) (planIn w p t k) b r
-  plans-noted {v} k b r h s o = subst (λ (a : SlicePlan). PlansOn (t .prefix) (t .scaler) a b r) (plan-same p w v (h .arranged) (h .small) (o .same) t k s)
+      → PlansOn (planIn v p t k) b r → PlansOn (planIn w p t k) b r
+  plans-noted {v} k b r h s o = subst (λ (a : SlicePlan). PlansOn a b r) (plan-same p w v (h .arranged) (h .small) (o .same) t k s)
 
   -- all slices' choices stand in v
   pub notes-own : {v : List ℤ} → Arranged p → Small (p .front) (p .end) w → Notes w p t (slicesIn p) v → Notes v p t (slicesIn p) v

@@ -1,4 +1,5 @@
-// The index of a high-quality slice: what its components need, its size, and the election. All of it is for the picture call.
+// The choice of a high-quality slice: its index, the runs of its components there, what they need, the slice's size and share, the election, and
+// the choice noted in the work slice. All of it is for the picture call.
 use crate::cost::Cost;
 use crate::layout::Component;
 use crate::layout::Picture;
@@ -13,7 +14,7 @@ ghost use Rattle.unit.specs.Elect.{elect};
 ghost use Rattle.unit.specs.HighQuality.{ceiling, shareOf};
 ghost use Rattle.picture.specs.Layout.{RunIn};
 ghost use Rattle.picture.specs.Picture.{slicesIn, runOf, numbersIn, SliceIn};
-ghost use Rattle.picture.specs.High.{fitsBy, halfOf, trimmedOf, choiceBy, choiceIn, needsBy, noteIn, RunAt, FewBits, TermsIn, PlanIn, Notes};
+ghost use Rattle.picture.specs.High.{fitsBy, halfOf, trimmedOf, choiceBy, choiceIn, needsBy, noteRun, noteIn, RunAt, FewBits, TermsIn, PlanIn, Notes};
 
 // The bytes that the components of a slice need.
 pub struct Needs {
@@ -56,7 +57,7 @@ pub struct Trial {
     pub choice: Choice,
 }
 
-// The run of a component of slice k at index q.
+// The run of a component of slice k at index q, without its trailing zeros.
 fn trimmed_run(work: &[i64], p: Picture, c: Component, k: u32, q: u32) -> Trimmed
     requires { ⌜ RunIn (p .layout) c c (p .front) (p .end) k q (now work) × (c .width * c .height ≤ 67108864) ⌝ }
     ensures { λ r. ⌜ r ≡ trimmedOf (runOf (now (work .entry)) p c k q) ⌝ }
@@ -151,7 +152,7 @@ pub fn slice_size(z: Needs, t: Terms) -> u64
     4 + t.prefix as u64 + (y + c1 + c2)
 }
 
-// Whether slice k fits its share at index q, where y is luma's run.
+// Whether slice k fits its share at index q, and the choice of this index, where y is luma's run.
 fn fits_with(work: &[i64], p: Picture, t: Terms, share: u64, k: u32, q: u32, y: Trimmed) -> Trial
     requires { ⌜ SliceIn p (now work) k q × (TermsIn t × (y ≡ trimmedOf (runOf (now work) p (p .y) k q))) ⌝ }
     ensures { λ r. ⌜ (r .fits ≡ fitsBy (t .prefix) (t .scaler) share (numbersIn (now (work .entry)) p k) q)
@@ -220,7 +221,8 @@ pub fn narrowed(r: Range, mid: u32, fits: bool) -> Range
     }
 }
 
-// An index from lo to below hi, near g or near the end that was moved last; any of them leads the search to the same end.
+// An index from lo to below hi: g at first, then in widening steps from the end that was moved, and the middle once both were. Any index of this
+// range leads the search to the same end.
 fn next_index(lo: u32, hi: u32, g: u32, step: u32) -> u32
     requires { ⌜ (lo < hi) × ((hi ≤ 255) × ((1 ≤ step) × (step ≤ 256))) ⌝ }
     ensures { λ r. ⌜ (lo ≤ r) × (r < hi) ⌝ }
@@ -237,7 +239,7 @@ fn next_index(lo: u32, hi: u32, g: u32, step: u32) -> u32
     (lo + hi) / 2
 }
 
-// Where the search goes on: below q nothing fits where q does not.
+// The low end behind a trial of q: as it was where q fits, else q + 1.
 fn raised(lo: u32, q: u32, fits: bool) -> u32
     requires { ⌜ q ≤ 255 ⌝ }
     ensures { λ r. ⌜ r ≡ cond fits lo (q + 1) ⌝ }
@@ -245,7 +247,7 @@ fn raised(lo: u32, q: u32, fits: bool) -> u32
     if fits { lo } else { q + 1 }
 }
 
-// The trial's choice where it fits.
+// The trial's choice where it fits, else the best so far.
 fn better(t: Trial, best: Choice) -> Choice
     ensures { λ r. ⌜ r ≡ cond (t .fits) (t .choice) best ⌝ }
 {
@@ -261,7 +263,7 @@ fn wider(step: u32) -> u32
     if step < 128 { 2 * step } else { 256 }
 }
 
-// The search for the least index below 255 that fits, from the guess g on; the choice of index 255 is not worked out.
+// The search for the least index that fits, from the guess g on; where none below 255 fits, 255 without its runs.
 fn search(work: &[i64], p: Picture, t: Terms, share: u64, k: u32, g: u32) -> Choice
     requires { ⌜ PlanIn p t (now work) × (k < slicesIn p) ⌝ }
     ensures { λ r. ⌜ (r .index ≡ elect 0 255 (fitsBy (t .prefix) (t .scaler) share (numbersIn (now (work .entry)) p k)))
@@ -340,7 +342,7 @@ fn note(work: &mut [i64], i: usize, v: u64)
 // A run is noted from place i on.
 fn note_run(work: &mut [i64], i: usize, r: Trimmed)
     requires { ⌜ (i < 2 ^ 40) × ((r .count < 2 ^ 63) × (r .bits < 2 ^ 63)) ⌝ }
-    ensures { λ _. ⌜ now (work .exit) ≡ set (set (now (work .entry)) i (pos (r .count))) (i + 1) (pos (r .bits)) ⌝ }
+    ensures { λ _. ⌜ now (work .exit) ≡ noteRun (now (work .entry)) i r ⌝ }
 {
     note(work, i, r.count as u64);
     note(work, i + 1, r.bits);

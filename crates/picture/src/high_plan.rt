@@ -36,7 +36,7 @@ fn plan_slices(work: &mut [i64], p: Picture, t: Terms, at: usize) -> SliceCoder
 }
 
 // All slices, planned from place at on by the choices noted.
-fn plan_noted(work: &[i64], p: Picture, t: Terms, at: usize) -> SliceCoder
+fn plan_noted_slices(work: &[i64], p: Picture, t: Terms, at: usize) -> SliceCoder
     requires { ⌜ PlanIn p t (now work) × (Notes (now work) p t (slicesIn p) (now work) × (at < 2 ^ 16)) ⌝ }
     ensures { λ r. ⌜ PlansTo (now (work .entry)) p t at (slicesIn p) r ⌝ }
 {
@@ -44,7 +44,7 @@ fn plan_noted(work: &[i64], p: Picture, t: Terms, at: usize) -> SliceCoder
     let mut c = SliceCoder::new(at);
     let mut k = 0;
     while k < slices {
-        c = c.plan_noted(work, p, t, k);
+        c = c.plan_noted_slice(work, p, t, k);
         k += 1;
     }
     c
@@ -97,7 +97,7 @@ fn is_target(r: RateControl) -> bool
     }
 }
 
-// The pass with scaler c behind another, whose choices are noted. They stand where there is no byte target.
+// The pass with scaler c behind another, whose choices are noted. Without a byte target these are the choices for scaler c too.
 fn plan_again(s: Settings, matrix: &[u32], work: &mut [i64], p: Picture, c: u32) -> SliceCoder
     requires { ⌜ HighIn s p (now work) × (CanCarry s (now matrix) × (((1 ≤ c) × (c ≤ 2 ^ 24))
         × Standing s p (now work))) ⌝ }
@@ -115,7 +115,7 @@ fn plan_again(s: Settings, matrix: &[u32], work: &mut [i64], p: Picture, c: u32)
         matrix,
         SliceParameters::HighQuality(s.slice_prefix_bytes, c),
     );
-    plan_noted(work, p, t, at as usize)
+    plan_noted_slices(work, p, t, at as usize)
 }
 
 // While a component needs more than 255 scalers the scaler becomes the largest need over 255, rounded up.

@@ -14,10 +14,10 @@ ghost use Rattle.laws.specs.Laid.{Lays};
 ghost use Rattle.codewords.specs.Bit.{zeros};
 ghost use Rattle.codewords.specs.Bytes.{toBytes};
 ghost use Rattle.codewords.specs.Writer.{Room, Wrote};
-ghost use Rattle.unit.specs.HighQuality.{componentBits, highBits, largestNeed};
+ghost use Rattle.unit.specs.HighQuality.{componentBits, highBits};
 ghost use Rattle.picture.specs.Layout.{RunIn};
 ghost use Rattle.picture.specs.Picture.{slicesIn, runOf, numbersIn, SliceIn};
-ghost use Rattle.picture.specs.High.{threeBits, plansIn, highRuns, trimmedOf, choiceBy, TermsIn, PlanIn, Notes};
+ghost use Rattle.picture.specs.High.{threeBits, highRuns, trimmedOf, choiceBy, TermsIn, PlanIn, Notes};
 
 // A component of slice k at index q, whose run is t: a byte that counts scalers, its numbers without trailing zeros, and ones.
 fn put_component(
@@ -124,10 +124,10 @@ pub fn put_hq_slice(
     v.at
 }
 
-// All slices from place at on, of the choices noted.
+// All slices from place at on, by the choices noted.
 pub fn put_hq_slices(out: &mut [u8], at: usize, work: &[i64], p: Picture, t: Terms) -> SliceCoder
-    requires { ⌜ PlanIn p t (now work) × (Notes (now work) p t (slicesIn p) (now work) × ((largestNeed (plansIn (now work) p t (slicesIn p)) ≤ 255 * t .scaler)
-        × (at + length (highRuns (now work) p t (slicesIn p)) ≤ length (now out)))) ⌝ }
+    requires { ⌜ PlanIn p t (now work) × (Notes (now work) p t (slicesIn p) (now work)
+        × (at + length (highRuns (now work) p t (slicesIn p)) ≤ length (now out))) ⌝ }
     ensures { λ r. ⌜ Lays (now (out .entry)) at (highRuns (now (work .entry)) p t (slicesIn p)) (now (out .exit)) (r .at) × (r .«cut_slices» ≡ 0) ⌝ }
 {
     let slices = crate::low_index::slice_count(p);

@@ -7,14 +7,13 @@ ghost use Prim.Native.Nat.{ℕ, _+_, _*_, _^_, _≤_, _<_};
 ghost use lib.ListN.{length};
 ghost use Rattle.laws.specs.Laid.{Lays};
 ghost use Rattle.codewords.specs.Bytes.{toBytes};
-ghost use Rattle.unit.specs.HighQualityLaws.{Needs};
 ghost use Rattle.picture.specs.Run.{Small};
 ghost use Rattle.picture.specs.Picture.{slicesIn};
 ghost use Rattle.picture.specs.High.{planIn, choiceIn, noteIn, plannedBy, FewBits, TermsIn, PlanIn, PlansOn, Notes};
 ghost use Rattle.picture.specs.Low.{isLast, lowIndexIn, lowBitsIn, lowWorkIn, LowIn};
 
-// Where the next slice goes in the output, how many low-delay slices carry index 127, the largest need of a component, and the index
-// chosen last.
+// Where the next slice goes in the output, how many low-delay slices carry index 127, the largest need of a component, and in a planning pass
+// the index of the slice before, where the next election begins.
 pub struct SliceCoder {
     pub at: usize,
     pub cut_slices: u32,
@@ -52,7 +51,7 @@ impl SliceCoder {
     // High-quality slice k, planned, and its choice noted.
     pub fn plan_hq_slice(self, work: &mut [i64], p: Picture, t: Terms, k: u32) -> SliceCoder
         requires { ⌜ PlanIn p t (now work) × ((k < slicesIn p) × (self .at < 2 ^ 60)) ⌝ }
-        ensures { λ r. ⌜ PlansOn (t .prefix) (t .scaler) (planIn (now (work .entry)) p t k) self r
+        ensures { λ r. ⌜ PlansOn (planIn (now (work .entry)) p t k) self r
             × (now (work .exit) ≡ noteIn (now (work .entry)) (p .end + 7 * k) (choiceIn (now (work .entry)) p t k)) ⌝ }
     {
         let c = crate::high_index::choice_of(work, p, t, k, self.index);
@@ -61,9 +60,9 @@ impl SliceCoder {
     }
 
     // High-quality slice k, planned by the choice noted.
-    pub fn plan_noted(self, work: &[i64], p: Picture, t: Terms, k: u32) -> SliceCoder
+    pub fn plan_noted_slice(self, work: &[i64], p: Picture, t: Terms, k: u32) -> SliceCoder
         requires { ⌜ PlanIn p t (now work) × ((k < slicesIn p) × (Notes (now work) p t (slicesIn p) (now work) × (self .at < 2 ^ 60))) ⌝ }
-        ensures { λ r. ⌜ PlansOn (t .prefix) (t .scaler) (planIn (now (work .entry)) p t k) self r ⌝ }
+        ensures { λ r. ⌜ PlansOn (planIn (now (work .entry)) p t k) self r ⌝ }
     {
         let c = crate::high_index::noted_choice(work, p, t, k);
         self.plan_choice(t, c)
@@ -79,7 +78,7 @@ impl SliceCoder {
         k: u32,
     ) -> SliceCoder
         requires { ⌜ PlanIn p t (now work) × ((k < slicesIn p) × (Notes (now work) p t (slicesIn p) (now work)
-            × (Needs (255 * t .scaler) (planIn (now work) p t k .numbers) × (self .at + length (toBytes (planIn (now work) p t k .bits)) ≤ length (now out))))) ⌝ }
+            × (self .at + length (toBytes (planIn (now work) p t k .bits)) ≤ length (now out)))) ⌝ }
         ensures { λ r. ⌜ Lays (now (out .entry)) (self .at) (toBytes (planIn (now (work .entry)) p t k .bits)) (now (out .exit)) (r .at)
             × ((r .«cut_slices» ≡ self .«cut_slices») × (r .largest ≡ self .largest)) ⌝ }
     {

@@ -11,7 +11,7 @@ use Rattle.picture.proofs.high_plan.plan_again.Reads as reads
 use Rattle.picture.proofs.high_plan.plan_again.Lts as lts
 use Rattle.picture.proofs.header.overhead.Reads as overhead-reads
 use Rattle.picture.proofs.high_plan.is_target.Reads as is-target-reads
-use Rattle.picture.proofs.high_plan.plan_noted.Reads as plan-noted-reads
+use Rattle.picture.proofs.high_plan.plan_noted_slices.Reads as plan-noted-slices-reads
 use Rattle.picture.proofs.high_plan.plan_picture.Reads as plan-picture-reads
 use Rattle.picture.proofs.high_plan.terms_of.Reads as terms-of-reads
 
@@ -33,8 +33,8 @@ terms-of-requires c κs = search needs
 overhead-requires : tie.Need-overhead-requires
 overhead-requires c κs = search needs
 
-plan-noted-requires : tie.Need-plan-noted-requires
-plan-noted-requires c κs =
+plan-noted-slices-requires : tie.Need-plan-noted-slices-requires
+plan-noted-slices-requires c κs =
     let st = c .before .before .before .before .before .before in
     let t = c .before .before .terms-of in (
       plan-in (st .args .matrix .now) (st .args .c) (st .pre .0) (st .pre .1 .1 .0 .0) (st .pre .1 .1 .0 .1) (t .result) (t .ensures),
@@ -50,7 +50,7 @@ returns-2 c =
     let a = st .args in
     let t = c .before .before .before .terms-of in
     let o = c .before .before .overhead in
-    let r = c .plan-noted in (
+    let r = c .plan-noted-slices in (
       plans-same (a .work .now) (a .p) (t .result) (termsOf (a .s) (a .matrix .now) (a .c)) (o .result) (slicesFrom (a .s) (a .matrix .now) (a .c)) (slicesIn (a .p))
           (r .result) (t .ensures) (o .ensures .0) (r .ensures),
       st .pre .1 .1 .1 .notes (sym (c .before .before .before .before .before .is-target .ensures) ∙ c .before .before .before .before .if1 .left) (termsOf (a .s) (a .matrix .now) (a .c)) refl,
@@ -66,6 +66,6 @@ plan-again-spec =
     returns
     terms-of-requires
     overhead-requires
-    plan-noted-requires
+    plan-noted-slices-requires
     same-length-2
     returns-2)

@@ -1,11 +1,11 @@
 -- `high_slice::put_hq_slices` meets its contract. The loop's invariant: k slices are written. Assumes nothing.
 use mathlib.Core.Path.{_≡_, _∙_}
-use Prim.Native.Nat.{_*_, _-_, _≤_, _<_}
+use Prim.Native.Nat.{_-_, _≤_, _<_}
 use native.Mathlib.Omega.{arith}
 use Rattle.laws.specs.Laid.{Lays}
 use Rattle.picture.specs.Picture.{slicesIn}
 use Rattle.picture.specs.High.{highRuns}
-use Rattle.picture.specs.HighSliceLaws.{slice-needs, slices-none, slices-room, slices-next, slices-all}
+use Rattle.picture.specs.HighSliceLaws.{slices-none, slices-room, slices-next, slices-all}
 use Rattle.picture.proofs.high_slice.put_hq_slices.Statement.{statement}
 use Rattle.picture.proofs.high_slice.put_hq_slices.Tie as tie
 
@@ -33,7 +33,7 @@ code-hq-slice-requires c κs =
     let a = st .args in
     let v = c .before .before .loop in
     let l : v .k < slicesIn (a .p) = omega (arith, c .before .loop-test .taken, c .before .before .before .before .slice-count .ensures .0) in
-    (st .pre .0, (l, (st .pre .1 .0, (slice-needs (a .work .now) (a .p) (a .t) (slicesIn (a .p)) (255 * a .t .scaler) (v .k) (st .pre .1 .1 .0) l, slices-room (a .work .now) (a .p) (a .t) (v .k) (v .inv .1 .0) (slicesIn (a .p)) l (st .pre .1 .1 .1)))))
+    (st .pre .0, (l, (st .pre .1 .0, slices-room (a .work .now) (a .p) (a .t) (v .k) (v .inv .1 .0) (slicesIn (a .p)) l (st .pre .1 .1))))
 
 add-k : tie.Need-add-k Inv-loop μ-loop
 add-k c = omega arith

@@ -27,7 +27,7 @@ put-hq-slice-requires c κs =
         o .1,
         (
           st .pre .0 .terms,
-          plan-room (a .work .now) (a .p) (a .t) (a .k) (q .result .index) (o .0) (a .self .at) (length (a .out .now)) (st .pre .1 .1 .1 .1),
+          plan-room (a .work .now) (a .p) (a .t) (a .k) (q .result .index) (o .0) (a .self .at) (length (a .out .now)) (st .pre .1 .1 .1),
         ),
       ),
     )

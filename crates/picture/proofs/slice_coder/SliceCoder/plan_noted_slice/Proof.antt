@@ -1,12 +1,12 @@
--- `SliceCoder::plan_noted` meets its contract. Assumes nothing.
+-- `SliceCoder::plan_noted_slice` meets its contract. Assumes nothing.
 use Rattle.picture.specs.High.{FewBits}
 use Rattle.picture.specs.HighIndexLaws.{index-most, own-few}
 use Rattle.picture.specs.HighPlanLaws.{slice-planned}
 use borrow.Author.Needs.{needs}
-use Rattle.picture.proofs.slice_coder.SliceCoder.plan_noted.Statement.{statement}
-use Rattle.picture.proofs.slice_coder.SliceCoder.plan_noted.Tie as tie
-use Rattle.picture.proofs.slice_coder.SliceCoder.plan_noted.Reads as reads
-use Rattle.picture.proofs.slice_coder.SliceCoder.plan_noted.Lts as lts
+use Rattle.picture.proofs.slice_coder.SliceCoder.plan_noted_slice.Statement.{statement}
+use Rattle.picture.proofs.slice_coder.SliceCoder.plan_noted_slice.Tie as tie
+use Rattle.picture.proofs.slice_coder.SliceCoder.plan_noted_slice.Reads as reads
+use Rattle.picture.proofs.slice_coder.SliceCoder.plan_noted_slice.Lts as lts
 use Rattle.picture.proofs.high_index.noted_choice.Reads as noted-choice-reads
 use Rattle.picture.proofs.slice_coder.SliceCoder.plan_choice.Reads as plan-choice-reads
 
@@ -31,5 +31,5 @@ returns c =
     let r = c .plan-choice in
     slice-planned (a .work .now) (a .p) (a .t) (a .k) (q .result) (a .self) (r .result) (st .pre .0 .terms .scaler .0) (few (c .before)) (q .ensures) (r .ensures .0) (r .ensures .1)
 
-pub plan-noted-spec : {M : Type 1} → statement M
-plan-noted-spec = tie.close (tie.spec noted-choice-requires plan-choice-requires returns)
+pub plan-noted-slice-spec : {M : Type 1} → statement M
+plan-noted-slice-spec = tie.close (tie.spec noted-choice-requires plan-choice-requires returns)
