@@ -58,6 +58,12 @@ lit-more k p b =
     let m : (p * 2 + val b) % 2 ≡ val b = omega arith in
     rw (add-one k, lit-low k (p * 2 + val b), d, m, bit-val b)
 
+-- a bool as one bit
+pub lit-bit : (b : Bool) → lit 1 (boolByte b) ≡ b ∷ []
+unfolding lit
+lit-bit true = refl
+lit-bit false = refl
+
 -- the j bits from place k on, and then the k low ones
 pub lit-split : (j k v : ℕ) → lit (j + k) v ≡ lit j (v / 2 ^ k) ++ lit k v
 unfolding lit

@@ -1,39 +1,27 @@
--- Laws of bits in bytes: parts one after the other, lengths, bytes to bits and back. Assumes nothing.
+-- Laws of bits in bytes: lengths, parts one after the other, bytes to bits and back, the bytes of one number. Assumes nothing.
 use mathlib.Core.Path.{_≡_, refl, sym, ap, ap₂, _∙_}
-use mathlib.Core.Bool.{Bool, true, false}
 use mathlib.Core.List.{List, [], _∷_, _++_, append-assoc, append-nil}
 use Prim.Native.Nat.{ℕ, zero, suc, _+_, _-_, _*_, _/_, _%_, _^_, _≤_, _<_}
 use native.Mathlib.Omega.{arith}
-use native.Mathlib.Numerals.{add-one}
-use native.Mathlib.Nat.{pow-suc, mul-mod-left, mod-eq-of-lt, zero-mul, div-add-mod'}
+use native.Mathlib.Nat.{mul-mod-left}
 use lib.ListN.{length, length-append}
 use Rattle.codewords.specs.Bit.{Bits, val, lit, value}
-use Rattle.codewords.specs.BitLaws.{val-lt, length-lit, lit-none, lit-more, lit-split, value-lit, value-of-lit}
-use Rattle.codewords.specs.Bytes.{pack, begun, toBytes, fromBytes}
+use Rattle.codewords.specs.BitLaws.{length-lit, lit-none, lit-more, lit-split, value-lit, value-of-lit}
+use Rattle.codewords.specs.Bytes.{pack, toBytes, fromBytes}
 
--- ---- parts one after the other
-pub pack-append : (n a : ℕ) (s t : Bits) → pack n a (s ++ t) ≡ pack n a s ++ pack (begun n a s .0) (begun n a s .1) t
-unfolding pack begun
-pack-append n a [] t = refl
-pack-append zero a (b ∷ s) t = ap (λ (r : List ℕ). (a * 2 + val b) ∷ r) (pack-append 7 0 s t)
-pack-append (suc n) a (b ∷ s) t = pack-append n (a * 2 + val b) s t
-
-pub begun-append : (n a : ℕ) (s t : Bits) → begun n a (s ++ t) ≡ begun (begun n a s .0) (begun n a s .1) t
-unfolding begun
-begun-append n a [] t = refl
-begun-append zero a (b ∷ s) t = begun-append 7 0 s t
-begun-append (suc n) a (b ∷ s) t = begun-append n (a * 2 + val b) s t
-
+-- ---- lengths
 pub pack-none : (n a : ℕ) → pack n a [] ≡ []
 unfolding pack
 pack-none n a = refl
 
-pub begun-none : (n a : ℕ) → begun n a [] ≡ (n, a)
-unfolding begun
-begun-none n a = refl
+-- bits that fill no byte
+pub pack-part : (n a : ℕ) (w : Bits) → length w ≤ n → pack n a w ≡ []
+unfolding pack
+pack-part n a [] h = refl
+pack-part zero a (b ∷ w) h = absurd (omega arith)
+pack-part (suc n) a (b ∷ w) h = pack-part n (a * 2 + val b) w (omega arith)
 
--- ---- lengths
-pub length-pack : (n a : ℕ) (s : Bits) → n ≤ 7 → length (pack n a s) ≡ (length s + (7 - n)) / 8
+length-pack : (n a : ℕ) (s : Bits) → n ≤ 7 → length (pack n a s) ≡ (length s + (7 - n)) / 8
 unfolding pack
 length-pack n a [] h = omega arith
 length-pack zero a (b ∷ s) h = ap suc (length-pack 7 0 s (omega arith)) ∙ omega arith
@@ -41,12 +29,6 @@ length-pack (suc n) a (b ∷ s) h = length-pack n (a * 2 + val b) s (omega arith
 
 pub length-toBytes : (s : Bits) → length (toBytes s) ≡ length s / 8
 length-toBytes s = length-pack 7 0 s (omega arith) ∙ ap (λ (k : ℕ). k / 8) (omega arith)
-
-pub begun-count : (n a : ℕ) (s : Bits) → n ≤ 7 → 7 - begun n a s .0 ≡ (length s + (7 - n)) % 8
-unfolding begun
-begun-count n a [] h = omega arith
-begun-count zero a (b ∷ s) h = begun-count 7 0 s (omega arith) ∙ omega arith
-begun-count (suc n) a (b ∷ s) h = begun-count n (a * 2 + val b) s (omega arith) ∙ ap (λ (k : ℕ). k % 8) (omega arith)
 
 -- ---- whole bytes
 pub record Full (s : Bits) : Type 0 where
@@ -64,26 +46,19 @@ full-length s k e = record { full = rw e (mul-mod-left k 8) }
 pub full-lit : (k v : ℕ) → k % 8 ≡ 0 → Full (lit k v)
 full-lit k v h = record { full = rw (length-lit k v) h }
 
--- no byte is begun after whole bytes
-begun-pair : (n a : ℕ) (s : Bits) → n ≤ 7 → a < 2 ^ (7 - n) → (length s + (7 - n)) % 8 ≡ 0 → begun n a s ≡ (7, 0)
-unfolding begun
-begun-pair n a [] h l e =
-    let i : n ≡ 7 = omega arith in
-    let z : a ≡ 0 = omega (arith, rw i at l) in
-    ap₂ (λ (x y : ℕ). (x, y)) i z
-begun-pair zero a (b ∷ s) h l e = begun-pair 7 0 s (omega arith) (omega arith) (omega arith)
-begun-pair (suc n) a (b ∷ s) h l e =
-    let k : 7 - n ≡ suc (7 - suc n) = omega arith in
-    let p = pow-suc 2 (7 - suc n) in
-    let v = val-lt b in
-    begun-pair n (a * 2 + val b) s (omega arith) (rw k (omega arith)) (ap (λ (k : ℕ). k % 8) (omega arith) ∙ e)
-
-pub full-begun : (s : Bits) → Full s → begun 7 0 s ≡ (7, 0)
-full-begun s f = begun-pair 7 0 s (omega arith) (omega arith) (ap (λ (k : ℕ). k % 8) (omega arith) ∙ f .full)
+-- bits that fill the byte begun and k more, and bits behind them
+pack-append : (k n a : ℕ) (s t : Bits) → length s ≡ suc n + 8 * k → pack n a (s ++ t) ≡ pack n a s ++ toBytes t
+unfolding pack
+pack-append k n a [] t e = absurd (omega arith)
+pack-append zero zero a (b ∷ []) t e = refl
+pack-append zero zero a (b ∷ c ∷ s) t e = absurd (omega arith)
+pack-append (suc k) zero a (b ∷ s) t e = rw (pack-append k 7 0 s t (omega arith))
+pack-append k (suc n) a (b ∷ s) t e = pack-append k n (a * 2 + val b) s t (omega arith)
 
 pub toBytes-append : (s t : Bits) → Full s → toBytes (s ++ t) ≡ toBytes s ++ toBytes t
-toBytes-append s t f =
-    pack-append 7 0 s t ∙ ap (λ (p : ℕ × ℕ). toBytes s ++ pack (p .0) (p .1) t) (full-begun s f)
+unfolding pack
+toBytes-append [] t f = refl
+toBytes-append (b ∷ s) t f = pack-append ((length (b ∷ s) - 8) / 8) 7 0 (b ∷ s) t (omega (arith, f .full))
 
 -- ---- bytes to bits and back
 from-pack : (n a : ℕ) (s : Bits) → n ≤ 7 → (length s + (7 - n)) % 8 ≡ 0 → fromBytes (pack n a s) ≡ lit (7 - n) a ++ s
@@ -110,54 +85,7 @@ pack-fill zero a (b ∷ []) s e = refl
 pack-fill zero a (b ∷ c ∷ w) s e = absurd (omega arith)
 pack-fill (suc n) a (b ∷ w) s e = pack-fill n (a * 2 + val b) w s (omega arith)
 
-pub begun-fill : (n a : ℕ) (w s : Bits) → length w ≡ suc n → begun n a (w ++ s) ≡ begun 7 0 s
-unfolding begun
-begun-fill n a [] s e = absurd (omega arith)
-begun-fill zero a (b ∷ []) s e = refl
-begun-fill zero a (b ∷ c ∷ w) s e = absurd (omega arith)
-begun-fill (suc n) a (b ∷ w) s e = begun-fill n (a * 2 + val b) w s (omega arith)
-
--- bits that do not fill it
-pub pack-part : (n a : ℕ) (w : Bits) → length w ≤ n → pack n a w ≡ []
-unfolding pack
-pack-part n a [] h = refl
-pack-part zero a (b ∷ w) h = absurd (omega arith)
-pack-part (suc n) a (b ∷ w) h = pack-part n (a * 2 + val b) w (omega arith)
-
-pub begun-part : (n a : ℕ) (w : Bits) → length w ≤ n → begun n a w ≡ (n - length w, value a w)
-unfolding begun value
-begun-part n a [] h = ap (λ (k : ℕ). (k, a)) (omega arith)
-begun-part zero a (b ∷ w) h = absurd (omega arith)
-begun-part (suc n) a (b ∷ w) h = begun-part n (a * 2 + val b) w (omega arith) ∙ ap (λ (k : ℕ). (k, value (a * 2 + val b) w)) (omega arith)
-
--- ---- the bits of one number
--- what no byte holds yet
-begun-few : (k x : ℕ) → k < 8 → begun 7 0 (lit k x) ≡ (7 - k, x % 2 ^ k)
-begun-few k x h =
-    begun-part 7 0 (lit k x) (rw (length-lit k x) (omega arith))
-    ∙ ap₂ (λ (n y : ℕ). (7 - n, y)) (length-lit k x) (value-lit k x 0 ∙ omega (arith, zero-mul (2 ^ k)))
-
-pub begun-lit : (k x : ℕ) → begun 7 0 (lit k x) ≡ (7 - k % 8, x % 2 ^ (k % 8))
-begun-lit k x =
-    let i = k % 8 in
-    let w = lit (k / 8 * 8) (x / 2 ^ i) in
-    ap (λ (n : ℕ). begun 7 0 (lit n x)) (sym (div-add-mod' k 8)) ∙ ap (begun 7 0) (lit-split (k / 8 * 8) i x) ∙ begun-append 7 0 w (lit i x)
-    ∙ ap (λ (p : ℕ × ℕ). begun (p .0) (p .1) (lit i x)) (full-begun w (full-lit (k / 8 * 8) (x / 2 ^ i) (mul-mod-left (k / 8) 8)))
-    ∙ begun-few i x (omega arith)
-
--- with the bits of a byte begun in front of it
-begun-is : (p a : ℕ) → p < 8 → a < 2 ^ p → begun 7 0 (lit p a) ≡ (7 - p, a)
-begun-is p a h l = begun-few p a h ∙ ap (λ (y : ℕ). (7 - p, y)) (mod-eq-of-lt l)
-
-pub pack-from : (p a : ℕ) (s : Bits) → p < 8 → a < 2 ^ p → toBytes (lit p a ++ s) ≡ pack (7 - p) a s
-pack-from p a s h l =
-    pack-append 7 0 (lit p a) s
-    ∙ ap₂ (λ (xs : List ℕ) (b : ℕ × ℕ). xs ++ pack (b .0) (b .1) s) (pack-part 7 0 (lit p a) (rw (length-lit p a) (omega arith))) (begun-is p a h l)
-
-pub begun-from : (p a : ℕ) (s : Bits) → p < 8 → a < 2 ^ p → begun 7 0 (lit p a ++ s) ≡ begun (7 - p) a s
-begun-from p a s h l = begun-append 7 0 (lit p a) s ∙ ap (λ (b : ℕ × ℕ). begun (b .0) (b .1) s) (begun-is p a h l)
-
--- one byte more, and less than a byte more
+-- ---- the bytes of one number
 byte-lit : (x : ℕ) → toBytes (lit 8 x) ≡ x % 256 ∷ []
 byte-lit x =
     ap toBytes (sym (append-nil (lit 8 x))) ∙ pack-fill 7 0 (lit 8 x) [] (length-lit 8 x)
@@ -168,11 +96,11 @@ bytes-more j x h =
     ap toBytes (lit-split j 8 x) ∙ toBytes-append (lit j (x / 256)) (lit 8 x) (full-lit j (x / 256) h)
     ∙ ap (λ (b : List ℕ). toBytes (lit j (x / 256)) ++ b) (byte-lit x)
 
-pub bytes-rest : (j i x : ℕ) → j % 8 ≡ 0 → i < 8 → toBytes (lit (j + i) x) ≡ toBytes (lit j (x / 2 ^ i))
-bytes-rest j i x h l =
-    let w = lit j (x / 2 ^ i) in
-    ap toBytes (lit-split j i x) ∙ toBytes-append w (lit i x) (full-lit j (x / 2 ^ i) h)
-    ∙ ap (λ (b : List ℕ). toBytes w ++ b) (pack-part 7 0 (lit i x) (rw (length-lit i x) (omega arith))) ∙ append-nil (toBytes w)
+pub bytes-four : (x : ℕ) → toBytes (lit 32 x) ≡ x / 2 ^ 24 % 256 ∷ x / 2 ^ 16 % 256 ∷ x / 2 ^ 8 % 256 ∷ x % 256 ∷ []
+bytes-four x =
+    let c : x / 256 / 256 ≡ x / 2 ^ 16 = omega arith in
+    let d : x / 256 / 256 / 256 ≡ x / 2 ^ 24 = omega arith in
+    rw (bytes-more 24 x refl, bytes-more 16 (x / 256) refl, bytes-more 8 (x / 256 / 256) refl, byte-lit (x / 256 / 256 / 256), d, c)
 
 abbrev pub AllBytes : List ℕ → Type 0
 AllBytes [] = Unit {0}

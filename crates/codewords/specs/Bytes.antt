@@ -9,12 +9,6 @@ pack n a [] = []
 pack zero a (b ∷ s) = (a * 2 + val b) ∷ pack 7 0 s
 pack (suc n) a (b ∷ s) = pack n (a * 2 + val b) s
 
--- the byte begun after s: how many bits and one more it wants, and what it says so far
-unfoldable pub begun : ℕ → ℕ → Bits → ℕ × ℕ
-begun n a [] = (n, a)
-begun zero a (b ∷ s) = begun 7 0 s
-begun (suc n) a (b ∷ s) = begun n (a * 2 + val b) s
-
 abbrev pub toBytes : Bits → List ℕ
 toBytes s = pack 7 0 s
 

@@ -1,5 +1,5 @@
 -- Interleaved exp-Golomb code words, ST 2042-1 A.4.3 and A.4.4. Assumes nothing.
-use mathlib.Core.Bool.{true, false}
+use mathlib.Core.Bool.{Bool, true, false}
 use mathlib.Core.List.{List, [], _∷_, _++_}
 use Prim.Native.Nat.{ℕ, zero, suc, _+_, _/_}
 use lib.IntN.{ℤ, pos, negsuc, natAbs}
@@ -32,6 +32,11 @@ sign (negsuc n) = true ∷ []
 -- A.4.4: the magnitude, and a sign bit unless it is 0, 1 for minus
 unfoldable pub codeS : ℤ → Bits
 codeS z = codeU (natAbs z) ++ sign z
+
+-- the same by the magnitude and whether it is below 0
+unfoldable pub codeM : ℕ → Bool → Bits
+codeM zero minus = codeU 0
+codeM (suc m) minus = codeU (suc m) ++ (minus ∷ [])
 
 -- one after the other
 unfoldable pub codes : List ℤ → Bits

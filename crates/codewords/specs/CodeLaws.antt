@@ -2,22 +2,19 @@
 use mathlib.Core.Path.{_≡_, refl, sym, ap, _∙_}
 use mathlib.Core.Bool.{Bool, true, false}
 use mathlib.Core.List.{List, [], _∷_, _++_, append-assoc, append-nil}
-use Prim.Native.Nat.{ℕ, zero, suc, _+_, _-_, _*_, _/_, _%_, _^_, _≤_, _<_}
+use Prim.Native.Nat.{ℕ, zero, suc, _+_, _-_, _*_, _/_, _^_, _≤_, _<_}
 use native.Mathlib.Nat.{le-refl, le-trans, le-antisymm, le-of-eq, lt-of-le-of-lt, lt-of-not-le, not-le-of-lt, le-of-suc-le-suc, pow-suc}
-use native.Mathlib.Numerals.{add-one}
 use native.Mathlib.Omega.{arith}
-use lib.ListN.{length, take, getD, length-append}
-use lib.Seq.{take-suc}
+use lib.ListN.{length, length-append}
 use lib.IntN.{ℤ, pos, negsuc, natAbs}
 use lib.Arith.{half-le}
-use lib.Dec.{eqb, leb·suc-zero}
+use lib.Dec.{leb·suc-zero}
 use lib.Signed.{ltZ}
 use lib.Pow.{pow-mono}
 use lib.Count.{leadingZeros, leading-top}
-use borrow.Author.Tests.{ltb-true}
-use Rattle.codewords.specs.Bit.{Bits, val, lit, value}
+use Rattle.codewords.specs.Bit.{Bits, lit, value}
 use Rattle.codewords.specs.BitLaws.{length-lit, value-top}
-use Rattle.codewords.specs.Code.{log2In, log2, interleaved, codeU, sign, codeS, codes}
+use Rattle.codewords.specs.Code.{log2In, log2, interleaved, codeU, codeS, codeM, codes}
 
 -- ---- the place of the leading one
 pub record Top (w j : ℕ) : Type 0 where
@@ -98,18 +95,21 @@ length-codeS (pos zero) p = absurd (omega arith)
 length-codeS (pos (suc n)) p = rw (length-append, length-codeU) (omega arith)
 length-codeS (negsuc n) p = rw (length-append, length-codeU) (omega arith)
 
--- by the magnitude m and the sign
-pub codeS-none : (z : ℤ) (m : ℕ) → m ≡ natAbs z → m ≡ 0 → codeS z ≡ codeU m
-unfolding codeS
-codeS-none (pos zero) m e h = append-nil (codeU 0) ∙ ap codeU (sym e)
-codeS-none (pos (suc n)) m e h = absurd (omega arith)
-codeS-none (negsuc n) m e h = absurd (omega arith)
+-- by the magnitude and whether it is below 0
+pub code-signed : (z : ℤ) → codeS z ≡ codeM (natAbs z) (ltZ z (pos 0))
+unfolding codeS codeM
+code-signed (pos zero) = append-nil (codeU 0)
+code-signed (pos (suc n)) = ap (λ (b : Bool). codeU (suc n) ++ (b ∷ [])) (sym (leb·suc-zero (suc n)))
+code-signed (negsuc n) = refl
 
-pub codeS-signed : (z : ℤ) (m : ℕ) → m ≡ natAbs z → 0 < m → codeS z ≡ codeU m ++ (ltZ z (pos 0) ∷ [])
-unfolding codeS
-codeS-signed (pos zero) m e h = absurd (omega arith)
-codeS-signed (pos (suc n)) m e h = ap (λ (k : ℕ). codeU k ++ (false ∷ [])) (sym e) ∙ ap (λ (b : Bool). codeU m ++ (b ∷ [])) (sym (leb·suc-zero (suc n)))
-codeS-signed (negsuc n) m e h = rw e
+pub codeM-zero : (b : Bool) → codeM 0 b ≡ true ∷ []
+unfolding codeM codeU log2 log2In interleaved lit
+codeM-zero b = refl
+
+pub codeM-pos : (m : ℕ) (b : Bool) → 0 < m → codeM m b ≡ codeU m ++ (b ∷ [])
+unfolding codeM
+codeM-pos zero b h = absurd (omega arith)
+codeM-pos (suc m) b h = refl
 
 pub codeS-longer : (z : ℤ) (m : ℕ) → m ≡ natAbs z → length (codeU m) ≤ length (codeS z)
 unfolding codeS

@@ -7,7 +7,6 @@ use native.Mathlib.Nat.{mod-lt, zero-add, zero-lt-suc, pow-suc}
 use native.Mathlib.Numerals.{add-one}
 use native.Mathlib.Omega.{arith}
 use lib.ListN.{getD}
-use lib.IntN.{ℤ, natAbs}
 use lib.Dec.{eqb}
 use lib.Pow.{field, mod-mod-pow}
 use lib.Bits.{bitAnd, bitOr}
@@ -15,9 +14,9 @@ use mir.Val.{boolByte}
 use Rattle.laws.specs.Rows.{span, getD-span}
 use Rattle.codewords.specs.Bit.{Bits, val, lit}
 use Rattle.codewords.specs.BitLaws.{val-bit, byte-val, lit-none, lit-low, lit-more}
-use Rattle.codewords.specs.Code.{log2In, log2, interleaved, codeU, codeS}
+use Rattle.codewords.specs.Code.{log2, interleaved, codeU, codeM}
 use Rattle.codewords.specs.Spread.{spreadBits}
-use Rattle.codewords.specs.CodeLaws.{interleaved-none, interleaved-append, codeU-is, codeS-none}
+use Rattle.codewords.specs.CodeLaws.{interleaved-none, interleaved-append, codeM-pos}
 
 -- ---- the bits of a number, each at twice its place
 pub spread-lt : (k b : ℕ) → spreadBits k b < 4 ^ k
@@ -67,14 +66,11 @@ word-lit n x h =
     let e : spreadBits 8 x * 2 + val true ≡ 2 * spreadBits 8 x + 1 = omega arith in
     ap (λ (s : Bits). s ++ (true ∷ [])) (interleaved-spread n 8 x h) ∙ sym (lit-more (2 * n) (spreadBits 8 x) true) ∙ ap (lit (2 * n + 1)) e
 
--- the word of x - 1, by the place of x's leading one, and a bit behind it
-pub code-lit : (x n : ℕ) (b : Bool) → 0 < x → n ≡ log2 x → n ≤ 8 → codeU (x - 1) ++ (b ∷ []) ≡ lit (2 * n + 2) (2 * (2 * spreadBits 8 x + 1) + boolByte b)
-code-lit x n b p e h =
-    let y = 2 * spreadBits 8 x + 1 in
+-- the word of a magnitude that is not 0, by the place n of the leading one of m + 1, with its sign
+pub code-lit : (m n : ℕ) (b : Bool) → 0 < m → n ≡ log2 (m + 1) → n ≤ 8 → codeM m b ≡ lit (2 * n + 2) (2 * (2 * spreadBits 8 (m + 1) + 1) + boolByte b)
+unfolding codeU
+code-lit m n b p e h =
+    let y = 2 * spreadBits 8 (m + 1) + 1 in
     let k : 2 * n + 1 + 1 ≡ 2 * n + 2 = omega arith in
     let z : y * 2 + val b ≡ 2 * y + boolByte b = omega (arith, byte-val b) in
-    ap (λ (w : Bits). w ++ (b ∷ [])) (codeU-is x n p e ∙ word-lit n x h) ∙ sym (lit-more (2 * n + 1) y b) ∙ ap₂ lit k z
-
-pub codeS-zero : (z : ℤ) (m : ℕ) → m ≡ natAbs z → m ≡ 0 → codeS z ≡ true ∷ []
-unfolding codeU log2 log2In interleaved lit
-codeS-zero z m e h = codeS-none z m e h ∙ ap codeU h
+    codeM-pos m b p ∙ ap (λ (w : Bits). w ++ (b ∷ [])) (ap (λ (i : ℕ). interleaved (lit i (m + 1)) ++ (true ∷ [])) (sym e) ∙ word-lit n (m + 1) h) ∙ sym (lit-more (2 * n + 1) y b) ∙ ap₂ lit k z

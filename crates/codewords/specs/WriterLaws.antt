@@ -1,115 +1,137 @@
--- Laws of the bit writer: one bit, several bits, nothing, one write after another, and what is left of the room. Assumes nothing.
-use mathlib.Core.Path.{_≡_, refl, sym, ap, ap₂, _∙_}
-use mathlib.Core.Bool.{Bool, true, false}
-use mathlib.Core.List.{List, [], _∷_, _++_}
-use Prim.Native.Nat.{ℕ, zero, suc, _+_, _-_, _*_, _/_, _%_, _^_, _≤_, _<_}
-use native.Mathlib.Nat.{pow-suc, mod-lt}
-use native.Mathlib.Numerals.{add-one}
+-- Laws of the bit writer: a write by the bits that it laid, nothing, one write after another, the bits of one number, and what is left of the room.
+-- Assumes nothing.
+use mathlib.Core.Path.{_≡_, sym, ap, _∙_}
+use mathlib.Core.List.{List, [], _++_, append-assoc, append-nil}
+use Prim.Native.Nat.{ℕ, _+_, _-_, _*_, _/_, _%_, _^_, _≤_, _<_}
+use native.Mathlib.Nat.{mod-lt}
 use native.Mathlib.Omega.{arith}
-use lib.ListN.{length, set, length-append, length-set}
+use lib.ListN.{length, take, drop, length-append, take-append-drop}
+use lib.Seq.{length-take-le, take-at, drop-at}
 use lib.Arith.{digits-lt}
-use lib.Pow.{pow-mono, pow-pos, pow-add}
-use Rattle.laws.specs.Laid.{laid, laid-nil, laid-then, Lays}
+use lib.Pow.{pow-pos, pow-add}
+use Rattle.laws.specs.Laid.{laid, laid-nil, laid-then, length-laid, Lays}
 use Rattle.codewords.specs.declared.writer.BitWriter.{BitWriter}
-use Rattle.codewords.specs.Bit.{Bits, val, lit}
-use Rattle.codewords.specs.BitLaws.{val-lt, length-lit, lit-join}
-use Rattle.codewords.specs.Bytes.{pack, begun, toBytes}
-use Rattle.codewords.specs.ByteLaws.{pack-append, begun-append, pack-none, begun-none, length-pack, length-toBytes, pack-from, begun-from, begun-lit}
-use Rattle.codewords.specs.Writer.{wants, Sound, Room, Wrote}
+use Rattle.codewords.specs.Bit.{Bits, lit}
+use Rattle.codewords.specs.BitLaws.{length-lit, lit-none, lit-split, lit-mod, lit-join}
+use Rattle.codewords.specs.Bytes.{toBytes}
+use Rattle.codewords.specs.ByteLaws.{Full, pack-none, pack-part, length-toBytes, toBytes-append}
+use Rattle.codewords.specs.Writer.{pendingOf, Sound, Room, Wrote, Flushes}
+
+-- ---- a write by the bits s that it laid
+record Laid (o : List ℕ) (w : BitWriter) (bs : Bits) (o′ : List ℕ) (w′ : BitWriter) (s : Bits) : Type 0 where
+  next : w′ .at * 8 ≡ w .at * 8 + length s
+  parts : pendingOf w ++ bs ≡ s ++ pendingOf w′
+  is : o′ ≡ laid o (w .at) (toBytes s)
+
+length-pending : (w : BitWriter) → length (pendingOf w) ≡ w .«pending_bits»
+length-pending w = length-lit (w .«pending_bits») (w .pending)
+
+wrote-by : {o o′ : List ℕ} {w w′ : BitWriter} {bs s : Bits} → Sound w′ → Laid o w bs o′ w′ s → Wrote o w bs o′ w′
+wrote-by {o} {o′} {w} {w′} {bs} {s} g l =
+    let d = 8 * (w′ .at - w .at) in
+    let e : length s ≡ d = omega (arith, l .next) in
+    record {
+      on = omega (arith, l .next);
+      out = l .is ∙ ap (λ (t : Bits). laid o (w .at) (toBytes t)) (sym (ap (take d) (l .parts) ∙ take-at s (pendingOf w′) d e));
+      rest = sym (ap (drop d) (l .parts) ∙ drop-at s (pendingOf w′) d e);
+      place =
+          omega (arith, l .next, ap length (l .parts), length-append (pendingOf w) bs, length-append s (pendingOf w′), length-pending w, length-pending w′);
+      sound = g;
+      size = ap length (l .is) ∙ length-laid o (w .at) (toBytes s);
+    }
+
+-- the bits that a write laid
+abbrev laidOf : BitWriter → Bits → BitWriter → Bits
+laidOf w bs w′ = take (8 * (w′ .at - w .at)) (pendingOf w ++ bs)
+
+laid-by : {o o′ : List ℕ} {w w′ : BitWriter} {bs : Bits} → Wrote o w bs o′ w′ → Laid o w bs o′ w′ (laidOf w bs w′)
+laid-by {o} {o′} {w} {w′} {bs} p =
+    let d = 8 * (w′ .at - w .at) in
+    let x = pendingOf w ++ bs in
+    let n : length (take d x) ≡ d = length-take-le d x (omega (arith, p .place, length-append (pendingOf w) bs, length-pending w)) in
+    record {
+      next = omega (arith, p .on, n);
+      parts = sym (ap (λ (t : Bits). take d x ++ t) (p .rest) ∙ take-append-drop d x);
+      is = p .out;
+    }
+
+-- they are whole bytes
+full-laid : {o o′ : List ℕ} {w w′ : BitWriter} {bs s : Bits} → Laid o w bs o′ w′ s → Full s
+full-laid l = record { full = omega (arith, l .next) }
+
+-- no byte
+none-laid : (o : List ℕ) (at : ℕ) → o ≡ laid o at (toBytes [])
+none-laid o at = sym (ap (laid o at) (pack-none 7 0) ∙ laid-nil o at)
 
 pub wrote-none : {o : List ℕ} {w : BitWriter} {n : ℕ} → Room o w n → Wrote o w [] o w
-wrote-none {o} {w} r = record {
-  out = sym (laid-nil o (w .at)) ∙ ap (laid o (w .at)) (sym (pack-none (wants w) (w .pending)));
-  rest = sym (begun-none (wants w) (w .pending));
-  place = omega arith;
-  sound = r .sound;
-  size = refl;
-}
+wrote-none {o} {w} r =
+    wrote-by {s = []} (r .sound) (record { next = omega arith; parts = append-nil (pendingOf w); is = none-laid o (w .at) })
 
 -- one write after another
 pub wrote-then : {o o′ o″ : List ℕ} {w w′ w″ : BitWriter} {bs cs : Bits} → Sound w → Wrote o w bs o′ w′ → Wrote o′ w′ cs o″ w″ → Wrote o w (bs ++ cs) o″ w″
-wrote-then {o} {o′} {o″} {w} {w′} {w″} {bs} {cs} s p q =
-    let n : w′ .at ≡ w .at + length (pack (wants w) (w .pending) bs) =
-    omega (arith, length-pack (wants w) (w .pending) bs (omega arith), p .place, p .sound .part, s .part) in
-    record {
-      out =
-          q .out
-          ∙ ap (λ (r : List ℕ). laid r (w′ .at) (pack (wants w′) (w′ .pending) cs)) (p .out)
-          ∙ laid-then o (w .at) (w′ .at) (pack (wants w) (w .pending) bs) (pack (wants w′) (w′ .pending) cs) n
-          ∙ ap (λ (r : ℕ × ℕ). laid o (w .at) (pack (wants w) (w .pending) bs ++ pack (r .0) (r .1) cs)) (p .rest)
-          ∙ ap (laid o (w .at)) (sym (pack-append (wants w) (w .pending) bs cs));
-      rest = q .rest ∙ ap (λ (r : ℕ × ℕ). begun (r .0) (r .1) cs) (p .rest) ∙ sym (begun-append (wants w) (w .pending) bs cs);
-      place = rw length-append (omega (arith, p .place, q .place));
-      sound = q .sound;
-      size = q .size ∙ p .size;
-    }
+wrote-then {o} {o′} {o″} {w} {w′} {w″} {bs} {cs} _ p q =
+    let s = laidOf w bs w′ in
+    let t = laidOf w′ cs w″ in
+    let l = laid-by p in
+    let m = laid-by q in
+    wrote-by {s = s ++ t} (q .sound)
+    (record {
+      next = omega (arith, l .next, m .next, length-append s t);
+      parts =
+          sym (append-assoc (pendingOf w) bs cs) ∙ ap (λ (x : Bits). x ++ cs) (l .parts) ∙ append-assoc s (pendingOf w′) cs
+          ∙ ap (λ (x : Bits). s ++ x) (m .parts) ∙ sym (append-assoc s t (pendingOf w″));
+      is =
+          m .is ∙ ap (λ (r : List ℕ). laid r (w′ .at) (toBytes t)) (l .is)
+          ∙ laid-then o (w .at) (w′ .at) (toBytes s) (toBytes t) (omega (arith, l .next, length-toBytes s))
+          ∙ ap (laid o (w .at)) (sym (toBytes-append s t (full-laid l)));
+    })
 
 -- what is left of the room
 pub room-after : {o o′ : List ℕ} {w w′ : BitWriter} {bs : Bits} {n : ℕ} (k : ℕ) → Room o w n → Wrote o w bs o′ w′ → length bs + k ≤ n → Room o′ w′ k
 room-after k r p h = record { sound = p .sound; room = omega (arith, r .room, p .place, p .size) }
 
-pub pending-small : (w : BitWriter) → Sound w → w .pending < 128
-pending-small w s = omega (arith, s .small, pow-mono {i = w .«pending_bits»} {j = 7} (omega (arith, s .part)))
-
--- one bit that makes the byte whole
-pub wrote-whole : (o : List ℕ) (w : BitWriter) (b : Bool) → w .«pending_bits» ≡ 7
-    → Wrote o w (b ∷ []) (set o (w .at) (w .pending * 2 + val b)) (record { at = w .at + 1; pending = 0; «pending_bits» = 0 })
-unfolding pack begun laid
-wrote-whole o w b e =
-    let z : wants w ≡ 0 = omega arith in
-    record {
-      out = ap (λ (n : ℕ). laid o (w .at) (pack n (w .pending) (b ∷ []))) (sym z);
-      rest = ap (λ (n : ℕ). begun n (w .pending) (b ∷ [])) (sym z);
-      place = omega arith;
-      sound = record { part = omega arith; small = omega arith };
-      size = length-set o (w .at) _;
-    }
-
--- one bit that does not
-pub wrote-part : (o : List ℕ) (w : BitWriter) (b : Bool) → Sound w → w .«pending_bits» < 7
-    → Wrote o w (b ∷ []) o (record { at = w .at; pending = w .pending * 2 + val b; «pending_bits» = w .«pending_bits» + 1 })
-unfolding pack begun laid
-wrote-part o w b s e =
-    let m : ℕ = 6 - w .«pending_bits» in
-    let z : wants w ≡ suc m = omega arith in
-    let y : 7 - (w .«pending_bits» + 1) ≡ m = omega arith in
-    record {
-      out = ap (λ (n : ℕ). laid o (w .at) (pack n (w .pending) (b ∷ []))) (sym z);
-      rest = ap (λ (n : ℕ). (n, w .pending * 2 + val b)) y ∙ ap (λ (n : ℕ). begun n (w .pending) (b ∷ [])) (sym z);
-      place = omega arith;
-      sound = record { part = omega arith; small = rw (add-one, pow-suc) (omega (arith, s .small, val-lt b)) };
-      size = refl;
-    }
-
--- the bits begun and the n low bits of v as one number
+-- ---- the bits of one number
+-- the bits pending and the n low bits of v
 abbrev pub joined : BitWriter → ℕ → ℕ → ℕ
 joined w n v = w .pending * 2 ^ n + v % 2 ^ n
 
-pub joined-lt : (w : BitWriter) (n v : ℕ) → Sound w → n ≤ 56 → joined w n v < 2 ^ 63
-joined-lt w n v s h =
-    let p = w .«pending_bits» in
-    let l : joined w n v < 2 ^ p * 2 ^ n = digits-lt (s .small) (mod-lt v (pow-pos n)) in
-    omega (arith, l, pow-add 2 p n, pow-mono {i = p + n} {j = 63} (omega (arith, s .part)))
+pub joined-lt : (w : BitWriter) (n v : ℕ) → Sound w → joined w n v < 2 ^ (w .«pending_bits» + n)
+joined-lt w n v s = rw (pow-add 2 (w .«pending_bits») n) (digits-lt (s .small) (mod-lt v (pow-pos n)))
 
--- its whole bytes were laid over the output, and the rest is begun
-pub wrote-bits : {o o′ : List ℕ} {w : BitWriter} {r : ℕ} (n v : ℕ) → Sound w → Lays o (w .at) (toBytes (lit (w .«pending_bits» + n) (joined w n v))) o′ r
-    → Wrote o w (lit n v) o′ (record { at = r; pending = joined w n v % 2 ^ ((w .«pending_bits» + n) % 8); «pending_bits» = (w .«pending_bits» + n) % 8 })
-wrote-bits {o} {o′} {w} {r} n v s l =
-    let p = w .«pending_bits» in
-    let a = w .pending in
-    let x = joined w n v in
-    let e : lit (p + n) x ≡ lit p a ++ lit n v = lit-join p a n v in
-    record {
-      out = l .is ∙ ap (laid o (w .at)) (ap toBytes e ∙ pack-from p a (lit n v) (s .part) (s .small));
-      rest = sym (begun-lit (p + n) x) ∙ ap (begun 7 0) e ∙ begun-from p a (lit n v) (s .part) (s .small);
-      place = omega (arith, l .next, length-toBytes (lit (p + n) x), length-lit (p + n) x, length-lit n v);
-      sound = record { part = omega arith; small = mod-lt x (pow-pos ((p + n) % 8)) };
-      size = l .size;
-    }
+-- all of them are pending
+pub wrote-few : (o : List ℕ) (w : BitWriter) (n v : ℕ) → Sound w → w .«pending_bits» + n < 32
+    → Wrote o w (lit n v) o (record { at = w .at; pending = joined w n v; «pending_bits» = w .«pending_bits» + n })
+wrote-few o w n v s h =
+    wrote-by {s = []} (record { part = h; small = joined-lt w n v s })
+    (record { next = omega arith; parts = sym (lit-join (w .«pending_bits») (w .pending) n v); is = none-laid o (w .at) })
 
--- from the start of a byte the bytes laid are those of the bits
-pub bytes-laid : {o o′ : List ℕ} {w w′ : BitWriter} {bs : Bits} → Sound w → Wrote o w bs o′ w′ → w .«pending_bits» ≡ 0 → o′ ≡ laid o (w .at) (toBytes bs)
-bytes-laid {o} {o′} {w} {w′} {bs} s p e =
-    let z : wants w ≡ 7 = omega arith in
-    let y : w .pending ≡ 0 = omega (arith, rw e at (s .small)) in
-    p .out ∙ ap₂ (λ (n a : ℕ). laid o (w .at) (pack n a bs)) z y
+-- of the m low bits of x the k high ones are laid, and the others are pending
+pub wrote-bits : {o o′ : List ℕ} {w : BitWriter} {bs : Bits} {at : ℕ} (m k j x : ℕ) → pendingOf w ++ bs ≡ lit m x → m ≡ k + j → j < 32
+    → at * 8 ≡ w .at * 8 + k → o′ ≡ laid o (w .at) (toBytes (lit k (x / 2 ^ j))) → Wrote o w bs o′ (record { at = at; pending = x % 2 ^ j; «pending_bits» = j })
+wrote-bits m k j x e f h a l =
+    wrote-by (record { part = h; small = mod-lt x (pow-pos j) })
+    (record {
+      next = omega (arith, length-lit k (x / 2 ^ j));
+      parts = e ∙ ap (λ (i : ℕ). lit i x) f ∙ lit-split k j x ∙ ap (λ (t : Bits). lit k (x / 2 ^ j) ++ t) (sym (lit-mod j x));
+      is = l;
+    })
+
+-- ---- from the start of a byte, and with less than a byte pending at the end, the bytes laid are those of the bits
+pub bytes-laid : {o o′ : List ℕ} {w w′ : BitWriter} {bs : Bits} → Sound w → Wrote o w bs o′ w′ → w .«pending_bits» ≡ 0 → w′ .«pending_bits» < 8
+    → o′ ≡ laid o (w .at) (toBytes bs)
+bytes-laid {o} {o′} {w} {w′} {bs} _ p e h =
+    let s = laidOf w bs w′ in
+    let t = pendingOf w′ in
+    let l = laid-by p in
+    let none : pendingOf w ≡ [] = ap (λ (i : ℕ). lit i (w .pending)) e ∙ lit-none (w .pending) in
+    let all : bs ≡ s ++ t = ap (λ (x : Bits). x ++ bs) (sym none) ∙ l .parts in
+    let few : toBytes t ≡ [] = pack-part 7 0 t (omega (arith, length-pending w′)) in
+    l .is
+    ∙ ap (laid o (w .at)) (sym (ap toBytes all ∙ toBytes-append s t (full-laid l) ∙ ap (λ (b : List ℕ). toBytes s ++ b) few ∙ append-nil (toBytes s)))
+
+-- and so where the whole bytes are flushed at the end
+pub flush-lays : {o o′ o″ : List ℕ} {w w′ w″ : BitWriter} {bs : Bits} → Sound w → Wrote o w bs o′ w′ → Flushes o′ w′ o″ w″ → w .«pending_bits» ≡ 0
+    → Lays o (w .at) (toBytes bs) o″ (w″ .at)
+flush-lays {bs = bs} s p f e =
+    let all = rw (append-nil bs) at (wrote-then s p (f .wrote)) in
+    record { is = bytes-laid s all e (f .part); next = omega (arith, all .place, f .part, length-toBytes bs); size = all .size }

@@ -1,11 +1,11 @@
 // The puts that slices and header use, with plain parameters: each lends the writer to the put of the same name in `lent` and gives it back.
 use crate::writer::BitWriter;
 ghost use mathlib.Core.List.{[], _∷_};
-ghost use Prim.Native.Nat.{_≤_};
+ghost use Prim.Native.Nat.{_≤_, _^_};
 ghost use lib.ListN.{length};
 ghost use Rattle.codewords.specs.Bit.{lit, ones};
-ghost use Rattle.codewords.specs.Code.{codeU, codeS};
-ghost use Rattle.codewords.specs.Writer.{Room, Wrote, Aligns, padding};
+ghost use Rattle.codewords.specs.Code.{codeU, codeM, codeS};
+ghost use Rattle.codewords.specs.Writer.{Room, Wrote, Flushes, Aligns, padding};
 
 // One bit.
 pub fn put_bit(out: &mut [u8], w: BitWriter, bit: bool) -> BitWriter
@@ -47,7 +47,27 @@ pub fn put_sint(out: &mut [u8], w: BitWriter, v: i64) -> BitWriter
     s
 }
 
-// Zeros up to the end of the byte.
+// The signed code word of the magnitude m, below 0 where minus is set.
+pub fn put_signed(out: &mut [u8], w: BitWriter, m: u64, minus: bool) -> BitWriter
+    requires { ⌜ Room (now out) w (length (codeM m minus)) × (m ≤ 2 ^ 63) ⌝ }
+    ensures { λ r. ⌜ Wrote (now (out .entry)) w (codeM m minus) (now (out .exit)) r ⌝ }
+{
+    let mut s = w;
+    crate::lent::put_signed(out, &mut s, m, minus);
+    s
+}
+
+// The whole bytes of the bits pending.
+pub fn flush(out: &mut [u8], w: BitWriter) -> BitWriter
+    requires { ⌜ Room (now out) w 0 ⌝ }
+    ensures { λ r. ⌜ Flushes (now (out .entry)) w (now (out .exit)) r ⌝ }
+{
+    let mut s = w;
+    crate::lent::flush(out, &mut s);
+    s
+}
+
+// Zeros up to the end of the byte, and no bit pending.
 pub fn byte_align(out: &mut [u8], w: BitWriter) -> BitWriter
     requires { ⌜ Room (now out) w (padding w) ⌝ }
     ensures { λ r. ⌜ Aligns (now (out .entry)) w (now (out .exit)) r ⌝ }

@@ -1,11 +1,11 @@
 // The writer of bits lent by reference: each put copies the writer out, calls the put of the same name in `writer` on it, and stores what that gave.
 use crate::writer::BitWriter;
 ghost use mathlib.Core.List.{[], _∷_};
-ghost use Prim.Native.Nat.{_≤_};
+ghost use Prim.Native.Nat.{_≤_, _^_};
 ghost use lib.ListN.{length};
 ghost use Rattle.codewords.specs.Bit.{lit, ones};
-ghost use Rattle.codewords.specs.Code.{codeU, codeS};
-ghost use Rattle.codewords.specs.Writer.{Room, Wrote, Aligns, padding};
+ghost use Rattle.codewords.specs.Code.{codeU, codeM, codeS};
+ghost use Rattle.codewords.specs.Writer.{Room, Wrote, Flushes, Aligns, padding};
 
 // One bit.
 pub fn put_bit(out: &mut [u8], w: &mut BitWriter, bit: bool)
@@ -39,7 +39,23 @@ pub fn put_sint(out: &mut [u8], w: &mut BitWriter, v: i64)
     *w = crate::writer::put_sint(out, *w, v);
 }
 
-// Zeros up to the end of the byte.
+// The signed code word of the magnitude m, below 0 where minus is set.
+pub fn put_signed(out: &mut [u8], w: &mut BitWriter, m: u64, minus: bool)
+    requires { ⌜ Room (now out) (now w) (length (codeM m minus)) × (m ≤ 2 ^ 63) ⌝ }
+    ensures { λ _. ⌜ Wrote (now (out .entry)) (now (w .entry)) (codeM m minus) (now (out .exit)) (now (w .exit)) ⌝ }
+{
+    *w = crate::writer::put_signed(out, *w, m, minus);
+}
+
+// The whole bytes of the bits pending.
+pub fn flush(out: &mut [u8], w: &mut BitWriter)
+    requires { ⌜ Room (now out) (now w) 0 ⌝ }
+    ensures { λ _. ⌜ Flushes (now (out .entry)) (now (w .entry)) (now (out .exit)) (now (w .exit)) ⌝ }
+{
+    *w = crate::writer::flush(out, *w);
+}
+
+// Zeros up to the end of the byte, and no bit pending.
 pub fn byte_align(out: &mut [u8], w: &mut BitWriter)
     requires { ⌜ Room (now out) (now w) (padding (now w)) ⌝ }
     ensures { λ _. ⌜ Aligns (now (out .entry)) (now (w .entry)) (now (out .exit)) (now (w .exit)) ⌝ }

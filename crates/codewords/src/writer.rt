@@ -4,18 +4,61 @@ ghost use Prim.Native.Nat.{_+_, _-_, _*_, _≤_, _<_, _^_};
 ghost use mathlib.Core.Bool.{true};
 ghost use mathlib.Core.List.{[], _∷_, _++_};
 ghost use lib.ListN.{length};
-ghost use Rattle.laws.specs.Laid.{Lays};
-ghost use Rattle.codewords.specs.Bit.{lit, ones, zeros};
+ghost use Rattle.laws.specs.Laid.{laid};
+ghost use Rattle.codewords.specs.Bit.{lit, ones};
 ghost use Rattle.codewords.specs.Bytes.{toBytes};
-ghost use Rattle.codewords.specs.Code.{interleaved, codeU, codeS};
+ghost use Rattle.codewords.specs.Code.{interleaved, codeU, codeM, codeS};
 ghost use Rattle.codewords.specs.Spread.{spreadBits};
-ghost use Rattle.codewords.specs.Writer.{Room, Wrote, Aligns, padding};
+ghost use Rattle.codewords.specs.Writer.{Room, Wrote, Flushes, Aligns, padding};
 
-// The place of the byte that is begun, the bits that it has so far, and how many they are.
+// The place where the bits pending go, these bits, and how many they are: fewer than 32.
 pub struct BitWriter {
     pub at: usize,
-    pub pending: u32,
+    pub pending: u64,
     pub pending_bits: u32,
+}
+
+// A code word as the low bits of a number, and how many bits it has.
+pub struct Word {
+    pub bits: u64,
+    pub len: u32,
+}
+
+// The 32 low bits of x as four bytes, from at on.
+fn put_four(out: &mut [u8], at: usize, x: u64)
+    requires { ⌜ at + 4 ≤ length (now out) ⌝ }
+    ensures { λ _. ⌜ now (out .exit) ≡ laid (now (out .entry)) at (toBytes (lit 32 x)) ⌝ }
+{
+    out[at] = ((x >> 24) % 256) as u8;
+    out[at + 1] = ((x >> 16) % 256) as u8;
+    out[at + 2] = ((x >> 8) % 256) as u8;
+    out[at + 3] = (x % 256) as u8;
+}
+
+// The n low bits of v, at most 32. Whole bytes go to the output by fours.
+fn put_short(out: &mut [u8], w: BitWriter, v: u64, n: u32) -> BitWriter
+    requires { ⌜ Room (now out) w n × (n ≤ 32) ⌝ }
+    ensures { λ r. ⌜ Wrote (now (out .entry)) w (lit n v) (now (out .exit)) r ⌝ }
+{
+    let size: u64 = 1 << n;
+    let x = w.pending * size + v % size;
+    let k = w.pending_bits + n;
+    let at = w.at;
+    if k < 32 {
+        return BitWriter {
+            at,
+            pending: x,
+            pending_bits: k,
+        };
+    }
+    let j = k - 32;
+    put_four(out, at, x >> j);
+    let rest: u64 = 1 << j;
+    BitWriter {
+        at: at + 4,
+        pending: x % rest,
+        pending_bits: j,
+    }
 }
 
 // One bit.
@@ -23,54 +66,7 @@ pub fn put_bit(out: &mut [u8], w: BitWriter, bit: bool) -> BitWriter
     requires { ⌜ Room (now out) w 1 ⌝ }
     ensures { λ r. ⌜ Wrote (now (out .entry)) w (bit ∷ []) (now (out .exit)) r ⌝ }
 {
-    let at = w.at;
-    let next = w.pending * 2 + bit as u32;
-    if w.pending_bits == 7 {
-        out[at] = next as u8;
-        BitWriter {
-            at: at + 1,
-            pending: 0,
-            pending_bits: 0,
-        }
-    } else {
-        BitWriter {
-            at,
-            pending: next,
-            pending_bits: w.pending_bits + 1,
-        }
-    }
-}
-
-// The whole bytes of the k low bits of x, from at on.
-fn put_bytes(out: &mut [u8], at: usize, x: u64, k: u32) -> usize
-    requires { ⌜ (at * 8 + k ≤ 8 * length (now out)) × (k ≤ 64) ⌝ }
-    ensures { λ r. ⌜ Lays (now (out .entry)) at (toBytes (lit k x)) (now (out .exit)) r ⌝ }
-{
-    let mut left = k;
-    let mut place = at;
-    while 8 <= left {
-        left -= 8;
-        out[place] = ((x >> left) % 256) as u8;
-        place += 1;
-    }
-    place
-}
-
-// The n low bits of v, where they fit a word behind the bits begun.
-fn put_short(out: &mut [u8], w: BitWriter, v: u64, n: u32) -> BitWriter
-    requires { ⌜ Room (now out) w n × (n ≤ 56) ⌝ }
-    ensures { λ r. ⌜ Wrote (now (out .entry)) w (lit n v) (now (out .exit)) r ⌝ }
-{
-    let size: u64 = 1 << n;
-    let x = w.pending as u64 * size + v % size;
-    let k = w.pending_bits + n;
-    let at = put_bytes(out, w.at, x, k);
-    let rest: u64 = 1 << (k % 8);
-    BitWriter {
-        at,
-        pending: (x % rest) as u32,
-        pending_bits: k % 8,
-    }
+    put_short(out, w, bit as u64, 1)
 }
 
 // The n low bits of v.
@@ -78,11 +74,31 @@ pub fn put_nbits(out: &mut [u8], w: BitWriter, v: u64, n: u32) -> BitWriter
     requires { ⌜ Room (now out) w n × (n ≤ 64) ⌝ }
     ensures { λ r. ⌜ Wrote (now (out .entry)) w (lit n v) (now (out .exit)) r ⌝ }
 {
-    if n <= 56 {
+    if n <= 32 {
         return put_short(out, w, v, n);
     }
     let s = put_short(out, w, v >> 32, n - 32);
     put_short(out, s, v, 32)
+}
+
+// The whole bytes of the bits pending go to the output.
+pub fn flush(out: &mut [u8], w: BitWriter) -> BitWriter
+    requires { ⌜ Room (now out) w 0 ⌝ }
+    ensures { λ r. ⌜ Flushes (now (out .entry)) w (now (out .exit)) r ⌝ }
+{
+    let mut at = w.at;
+    let mut k = w.pending_bits;
+    while 8 <= k {
+        k -= 8;
+        out[at] = ((w.pending >> k) % 256) as u8;
+        at += 1;
+    }
+    let rest: u64 = 1 << k;
+    BitWriter {
+        at,
+        pending: w.pending % rest,
+        pending_bits: k,
+    }
 }
 
 // The 8 low bits of b, each moved to twice its place.
@@ -125,14 +141,34 @@ pub fn put_uint(out: &mut [u8], w: BitWriter, v: u32) -> BitWriter
     put_code(out, w, v as u64 + 1)
 }
 
-// The unsigned code word of x - 1 and a bit behind it, at once.
-fn put_small(out: &mut [u8], w: BitWriter, x: u64, bit: bool) -> BitWriter
-    requires { ⌜ Room (now out) w (length (codeU (x - 1)) + 1) × ((0 < x) × (x < 512)) ⌝ }
-    ensures { λ r. ⌜ Wrote (now (out .entry)) w (codeU (x - 1) ++ (bit ∷ [])) (now (out .exit)) r ⌝ }
+// The code word of the magnitude m with its sign, for small ones.
+fn word_of(m: u64, minus: bool) -> Word
+    requires { ⌜ m < 511 ⌝ }
+    ensures { λ r. ⌜ (lit (r .len) (r .bits) ≡ codeM m minus) × (r .len ≤ 18) ⌝ }
 {
-    let n = 63 - u64::leading_zeros(x);
-    let word = 2 * spread(x) + 1;
-    put_short(out, w, 2 * word + bit as u64, 2 * n + 2)
+    let n = 63 - u64::leading_zeros(m + 1);
+    let word = 2 * spread(m + 1) + 1;
+    if m == 0 {
+        Word { bits: 1, len: 1 }
+    } else {
+        Word {
+            bits: 2 * word + minus as u64,
+            len: 2 * n + 2,
+        }
+    }
+}
+
+// The signed code word of the magnitude m, below 0 where minus is set.
+pub fn put_signed(out: &mut [u8], w: BitWriter, m: u64, minus: bool) -> BitWriter
+    requires { ⌜ Room (now out) w (length (codeM m minus)) × (m ≤ 2 ^ 63) ⌝ }
+    ensures { λ r. ⌜ Wrote (now (out .entry)) w (codeM m minus) (now (out .exit)) r ⌝ }
+{
+    if m < 511 {
+        let c = word_of(m, minus);
+        return put_short(out, w, c.bits, c.len);
+    }
+    let s = put_code(out, w, m + 1);
+    put_bit(out, s, minus)
 }
 
 // The signed code word of v.
@@ -140,24 +176,16 @@ pub fn put_sint(out: &mut [u8], w: BitWriter, v: i64) -> BitWriter
     requires { ⌜ Room (now out) w (length (codeS v)) ⌝ }
     ensures { λ r. ⌜ Wrote (now (out .entry)) w (codeS v) (now (out .exit)) r ⌝ }
 {
-    let m = crate::unsigned_abs(v);
-    if m == 0 {
-        return put_bit(out, w, true);
-    }
-    let minus = v < 0;
-    if m < 511 {
-        return put_small(out, w, m + 1, minus);
-    }
-    let s = put_code(out, w, m + 1);
-    put_bit(out, s, minus)
+    put_signed(out, w, crate::unsigned_abs(v), v < 0)
 }
 
-// Zeros up to the end of the byte.
+// Zeros up to the end of the byte, and no bit pending.
 pub fn byte_align(out: &mut [u8], w: BitWriter) -> BitWriter
     requires { ⌜ Room (now out) w (padding w) ⌝ }
     ensures { λ r. ⌜ Aligns (now (out .entry)) w (now (out .exit)) r ⌝ }
 {
-    put_nbits(out, w, 0, (8 - w.pending_bits) % 8)
+    let s = put_short(out, w, 0, (8 - w.pending_bits % 8) % 8);
+    flush(out, s)
 }
 
 // n ones.
@@ -167,9 +195,9 @@ pub fn put_ones(out: &mut [u8], w: BitWriter, n: u64) -> BitWriter
 {
     let mut left = n;
     let mut s = w;
-    while 64 < left {
-        left -= 64;
-        s = put_nbits(out, s, 0xFFFF_FFFF_FFFF_FFFF, 64);
+    while 32 < left {
+        left -= 32;
+        s = put_short(out, s, 0xFFFF_FFFF, 32);
     }
-    put_nbits(out, s, 0xFFFF_FFFF_FFFF_FFFF, left as u32)
+    put_short(out, s, 0xFFFF_FFFF, left as u32)
 }

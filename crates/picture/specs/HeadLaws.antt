@@ -201,9 +201,8 @@ unfolding parameterBytes
 parameters-bytes v t = refl
 
 -- the bits that fill the last of 17 bytes and l bits fit
-last-fits : (x p l o : ℕ) → x * 8 + p ≡ 136 + l → p < 8 → 17 + (l + 7) / 8 ≤ o → x * 8 + p + (8 - p) % 8 ≤ 8 * o
-last-fits x zero l o e h k = omega arith
-last-fits x (suc p) l o e h k = omega arith
+last-fits : (x p l o : ℕ) → x * 8 + p ≡ 136 + l → 17 + (l + 7) / 8 ≤ o → x * 8 + p + (8 - p % 8) % 8 ≤ 8 * o
+last-fits x p l o e h = omega arith
 
 module _ {o o₁ : List ℕ} {w₁ : BitWriter} (h b : Bits) (e : length h ≡ 136) (fits : 17 + (length b + 7) / 8 ≤ length o) (p : Wrote o start (h ++ b) o₁ w₁) where
   -- what fills the last byte
@@ -213,7 +212,7 @@ module _ {o o₁ : List ℕ} {w₁ : BitWriter} (h b : Bits) (e : length h ≡ 1
   pub align-room : Room o₁ w₁ (padding w₁)
   align-room =
       let l = length-append h b in
-      record { sound = p .sound; room = rw (p .size) (last-fits (w₁ .at) (w₁ .«pending_bits») (length b) (length o) (omega (arith, p .place)) (p .sound .part) fits) }
+      record { sound = p .sound; room = rw (p .size) (last-fits (w₁ .at) (w₁ .«pending_bits») (length b) (length o) (omega (arith, p .place)) fits) }
 
   module _ {o₂ : List ℕ} {w₂ : BitWriter} (q : Aligns o₁ w₁ o₂ w₂) where
     pub head-end : w₂ .at ≡ 17 + (length b + 7) / 8
@@ -226,6 +225,6 @@ module _ {o o₁ : List ℕ} {w₁ : BitWriter} (h b : Bits) (e : length h ≡ 1
         let bits : Bits = (h ++ b) ++ zeros (padding w₁) in
         let k : 0 + length (toBytes bits) ≡ w₂ .at =
         omega (arith, length-toBytes bits, length-append (h ++ b) (zeros (padding w₁)), length-append h b, length-replicate (padding w₁) false, fills, head-end) in
-        bytes-laid start-sound (wrote-then start-sound p (q .wrote)) refl
+        bytes-laid start-sound (wrote-then start-sound p (q .wrote)) refl (omega (arith, q .whole))
         ∙ laid-is o 0 (toBytes bits) (omega (arith, k, head-end, fits))
         ∙ ap₂ (λ (j z : ℕ). toBytes ((h ++ b) ++ zeros z) ++ drop j o) k fills

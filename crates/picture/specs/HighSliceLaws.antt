@@ -14,8 +14,8 @@ use Rattle.codewords.specs.BitLaws.{length-lit, lit-zeros}
 use Rattle.codewords.specs.Bytes.{toBytes}
 use Rattle.codewords.specs.ByteLaws.{length-toBytes}
 use Rattle.codewords.specs.Code.{codes}
-use Rattle.codewords.specs.Writer.{Sound, Room, Wrote}
-use Rattle.codewords.specs.WriterLaws.{wrote-then, room-after, bytes-laid}
+use Rattle.codewords.specs.Writer.{Sound, Room, Wrote, Flushes}
+use Rattle.codewords.specs.WriterLaws.{wrote-then, room-after, flush-lays}
 use Rattle.codewords.specs.declared.writer.BitWriter.{BitWriter}
 use Rattle.unit.specs.Three.{Three}
 use Rattle.unit.specs.Trim.{trimmed, trimmedCost}
@@ -174,16 +174,14 @@ module _ (p c q : ℕ) (z : Three (List ℤ)) {o : List ℕ} (at : ℕ) (some : 
       pub components-room : Room o₂ w₂ (length (threeBits c z))
       components-room = room-rest (lit 8 q) (threeBits c z) index-behind b
 
-      pub slice-laid : {o₃ : List ℕ} {w₃ : BitWriter} → Wrote o₂ w₂ (threeBits c z) o₃ w₃ → Lays o at (toBytes (highBits p c q z)) o₃ (w₃ .at)
-      slice-laid {o₃} {w₃} d =
-          let s = start-sound at in
-          let bits : Bits = highBits p c q z in
-          let all : Wrote o (startAt at) bits o₃ w₃ = rw (high-parts p c q z) (wrote-then s a (wrote-then (a .sound) b d)) in
-          record {
-            is = bytes-laid s all refl;
-            next = omega (arith, all .place, all .sound .part, length-toBytes bits, length-high p c q z some);
-            size = all .size;
-          }
+      module _ {o₃ : List ℕ} {w₃ : BitWriter} (d : Wrote o₂ w₂ (threeBits c z) o₃ w₃) where
+        pub flush-room : Room o₃ w₃ 0
+        flush-room = room-after 0 components-room d (omega arith)
+
+        pub slice-laid : {o₄ : List ℕ} {w₄ : BitWriter} → Flushes o₃ w₃ o₄ w₄ → Lays o at (toBytes (highBits p c q z)) o₄ (w₄ .at)
+        slice-laid f =
+            let s = start-sound at in
+            rw (high-parts p c q z) (flush-lays s (wrote-then s a (wrote-then (a .sound) b d)) f refl)
 
 -- ---- a slice as planned
 pub slice-in : {p : Picture} {t : Terms} {w : List ℤ} {k q : ℕ} → PlanIn p t w → k < slicesIn p → q ≤ 255 → SliceIn p w k q

@@ -18,8 +18,8 @@ use Rattle.codewords.specs.BitLaws.{length-lit}
 use Rattle.codewords.specs.Bytes.{toBytes}
 use Rattle.codewords.specs.ByteLaws.{length-toBytes}
 use Rattle.codewords.specs.Code.{codes}
-use Rattle.codewords.specs.Writer.{Sound, Room, Wrote}
-use Rattle.codewords.specs.WriterLaws.{wrote-then, bytes-laid}
+use Rattle.codewords.specs.Writer.{Sound, Room, Wrote, Flushes}
+use Rattle.codewords.specs.WriterLaws.{wrote-then, room-after, flush-lays}
 use Rattle.codewords.specs.declared.writer.BitWriter.{BitWriter}
 use Rattle.unit.specs.Trim.{trimmed, bitsOf, trimmedCost, fitPrefix}
 use Rattle.unit.specs.TrimLaws.{fit-bits}
@@ -151,14 +151,8 @@ module _ {o : List ℕ} (i n : ℕ) (a b c d : Bits) (long : length (a ++ (b ++ 
         pub fourth-room : Room o₃ w₃ (length d)
         fourth-room = room-rest c d rest₂ r
 
-        pub parts-laid : {o₄ : List ℕ} {w₄ : BitWriter} → Wrote o₃ w₃ d o₄ w₄ → Lays o i (toBytes (a ++ (b ++ (c ++ d)))) o₄ (w₄ .at)
-        parts-laid s =
-            let t = wrote-then (writer-sound i) p (wrote-then (p .sound) q (wrote-then (q .sound) r s)) in
-            record {
-              is = bytes-laid (writer-sound i) t refl;
-              next = omega (arith, t .place, t .sound .part, length-toBytes (a ++ (b ++ (c ++ d))));
-              size = t .size;
-            }
+        pub parts-laid : {o₄ o₅ : List ℕ} {w₄ w₅ : BitWriter} → Wrote o₃ w₃ d o₄ w₄ → Flushes o₄ w₄ o₅ w₅ → Lays o i (toBytes (a ++ (b ++ (c ++ d)))) o₅ (w₅ .at)
+        parts-laid s f = flush-lays (writer-sound i) (wrote-then (writer-sound i) p (wrote-then (p .sound) q (wrote-then (q .sound) r s))) f refl
 
 parts-of : (n q m room : ℕ) (ys cs : List ℤ) (a b : ℕ) → m ≡ lengthBits n → room ≡ roomOf n → a ≡ bitsOf ys → b ≡ bitsOf cs
     → lit 7 q ++ (lit m a ++ ((codes ys ++ codes cs) ++ ones (room - a - b))) ≡ lowBits n q ys cs
@@ -216,10 +210,14 @@ module _
             rw (length-replicate left true) at
             (fourth-room i n (lit 7 q) (lit m (r .«luma_bits»)) (runBits v p k q r) (ones left) long fits a b c)
 
-        pub slice-laid : {o₄ : List ℕ} {w₄ : BitWriter} → Wrote o₃ w₃ (ones left) o₄ w₄ → Lays o i (toBytes (lowBitsBy v p n k q)) o₄ (w₄ .at)
-        slice-laid d =
-            rw (← slice-parts v p n k q room m r er em h)
-            (parts-laid i n (lit 7 q) (lit m (r .«luma_bits»)) (runBits v p k q r) (ones left) long fits a b c d)
+        module _ {o₄ : List ℕ} {w₄ : BitWriter} (d : Wrote o₃ w₃ (ones left) o₄ w₄) where
+          pub flush-room : Room o₄ w₄ 0
+          flush-room = room-after 0 ones-room d (omega (arith, length-replicate left true))
+
+          pub slice-laid : {o₅ : List ℕ} {w₅ : BitWriter} → Flushes o₄ w₄ o₅ w₅ → Lays o i (toBytes (lowBitsBy v p n k q)) o₅ (w₅ .at)
+          slice-laid f =
+              rw (← slice-parts v p n k q room m r er em h)
+              (parts-laid i n (lit 7 q) (lit m (r .«luma_bits»)) (runBits v p k q r) (ones left) long fits a b c d f)
 
 -- ---- a slice's index, and the work slice behind it
 bit-small : (b : Bool) → cond b 1 0 ≤ 1

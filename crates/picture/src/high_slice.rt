@@ -121,7 +121,8 @@ pub fn put_hq_slice(
     let a = put_prefix(out, w, t.prefix);
     let b = codewords::bitio::put_nbits(out, a, c.index as u64, 8);
     let v = put_components(out, b, work, p, t.scaler, k, c);
-    v.at
+    let z = codewords::bitio::flush(out, v);
+    z.at
 }
 
 // All slices from place at on, by the choices noted.

@@ -157,7 +157,8 @@ pub fn put_ld_slice(
     let b = codewords::bitio::put_nbits(out, a, r.luma_bits, crate::low_index::length_bits(n));
     let c = put_runs(out, b, work, p, k, q, r);
     let d = codewords::bitio::put_ones(out, c, room - r.luma_bits - r.colour_bits);
-    d.at
+    let z = codewords::bitio::flush(out, d);
+    z.at
 }
 
 // All slices from place at on; n is the numerator.

@@ -1,32 +1,43 @@
 -- `codewords::writer::byte_align` meets its contract. Assumes nothing.
+use mathlib.Core.List.{append-nil}
 use native.Mathlib.Omega.{arith}
-use mathlib.Core.Path.{_≡_, sym, ap, _∙_}
-use Prim.Native.Nat.{ℕ, _+_, _-_, _%_, _<_, _≤_}
-use lib.ListN.{length}
+use borrow.Author.Needs.{needs}
+use Rattle.codewords.specs.Bit.{zeros}
 use Rattle.codewords.specs.BitLaws.{length-lit, lit-zeros}
 use Rattle.codewords.specs.Writer.{padding}
-use borrow.Author.Needs.{needs}
+use Rattle.codewords.specs.WriterLaws.{wrote-then, room-after}
 use Rattle.codewords.proofs.writer.byte_align.Statement.{statement}
 use Rattle.codewords.proofs.writer.byte_align.Tie as tie
 use Rattle.codewords.proofs.writer.byte_align.Reads as reads
 use Rattle.codewords.proofs.writer.byte_align.Lts as lts
-use Rattle.codewords.proofs.writer.put_nbits.Reads as put-nbits-reads
+use Rattle.codewords.proofs.writer.flush.Reads as flush-reads
+use Rattle.codewords.proofs.writer.put_short.Reads as put-short-reads
 
-sub-put-nbits : tie.Need-sub-put-nbits
-sub-put-nbits c = search needs
+sub-put-short : tie.Need-sub-put-short
+sub-put-short c = search needs
 
-put-nbits-requires : tie.Need-put-nbits-requires
-put-nbits-requires c κs = search needs
+put-short-requires : tie.Need-put-short-requires
+put-short-requires c κs = search needs
+
+flush-requires : tie.Need-flush-requires
+flush-requires c κs =
+    let st = c .before .before .before .before .before .before .before in
+    room-after 0 (st .pre) (c .before .before .before .put-short .ensures) (omega (arith, length-lit (padding (st .args .w)) 0))
 
 same-length : tie.Need-same-length
 same-length c = search needs
 
 returns : tie.Need-returns
 returns c =
-    let st = c .before .before .before .before .before .before in
-    let p = c .before .before .put-nbits .ensures in
+    let st = c .before .before .before .before .before .before .before .before .before .before in
     let k = padding (st .args .w) in
-    record { wrote = rw (lit-zeros k) at p; whole = omega (arith, p .place, p .sound .part, st .pre .sound .part, length-lit k 0) }
+    let p = c .before .before .before .before .before .before .put-short .ensures in
+    let f = c .before .before .flush .ensures in
+    record {
+      wrote = rw (append-nil (zeros k)) at (wrote-then (st .pre .sound) (rw (lit-zeros k) at p) (f .wrote));
+      whole = omega (arith, p .place, f .wrote .place, f .part, length-lit k 0);
+    }
 
 pub byte-align-spec : {M : Type 1} → statement M
-byte-align-spec = tie.close (tie.spec sub-put-nbits put-nbits-requires same-length returns)
+byte-align-spec =
+    tie.close (tie.spec sub-put-short put-short-requires flush-requires same-length returns)

@@ -1,9 +1,9 @@
 -- `codewords::writer::put_ones` meets its contract. The loop's invariant: all ones but those left are written. Assumes nothing.
-use mathlib.Core.Path.{_≡_, sym, ap, _∙_}
+use mathlib.Core.Path.{_≡_, _∙_}
 use mathlib.Core.Bool.{true}
-use mathlib.Core.List.{List, [], _∷_, _++_}
-use Prim.Native.Nat.{ℕ, _+_, _-_, _^_, _<_, _≤_}
-use lib.ListN.{length, replicate, replicate-append-replicate, length-replicate}
+use mathlib.Core.List.{List}
+use Prim.Native.Nat.{ℕ, _+_, _-_, _^_, _≤_}
+use lib.ListN.{replicate-append-replicate, length-replicate}
 use Rattle.codewords.specs.declared.writer.BitWriter.{BitWriter}
 use Rattle.codewords.specs.Bit.{lit, ones}
 use Rattle.codewords.specs.BitLaws.{lit-ones}
@@ -14,7 +14,7 @@ use Rattle.codewords.proofs.writer.put_ones.Statement.{statement}
 use Rattle.codewords.proofs.writer.put_ones.Tie as tie
 use Rattle.codewords.proofs.writer.put_ones.Reads as reads
 use Rattle.codewords.proofs.writer.put_ones.Lts as lts
-use Rattle.codewords.proofs.writer.put_nbits.Reads as put-nbits-reads
+use Rattle.codewords.proofs.writer.put_short.Reads as put-short-reads
 
 abbrev Inv-loop : tie.InvT-loop
 Inv-loop out₀ n left₀ s₀ out left s = (left ≤ n) × Wrote out₀ s₀ (ones (n - left)) out s
@@ -23,11 +23,11 @@ abbrev μ-loop : tie.MeasureT-loop
 μ-loop out₀ n left₀ s₀ out left s = left
 
 -- k more of the ones that are left
-more : {o o₁ o₂ : List ℕ} {w s₁ s₂ : BitWriter} (n left k : ℕ) → k ≤ left → k ≤ 64 → left ≤ n → Sound w
-    → Wrote o w (ones (n - left)) o₁ s₁ → Wrote o₁ s₁ (lit k (2 ^ 64 - 1)) o₂ s₂ → Wrote o w (ones (n - (left - k))) o₂ s₂
+more : {o o₁ o₂ : List ℕ} {w s₁ s₂ : BitWriter} (n left k : ℕ) → k ≤ left → k ≤ 32 → left ≤ n → Sound w
+    → Wrote o w (ones (n - left)) o₁ s₁ → Wrote o₁ s₁ (lit k (2 ^ 32 - 1)) o₂ s₂ → Wrote o w (ones (n - (left - k))) o₂ s₂
 more n left k h g l s p q =
     let e : n - (left - k) ≡ n - left + k = omega arith in
-    rw (e, ← replicate-append-replicate) (wrote-then s p (rw (lit-ones k 64 g) at q))
+    rw (e, ← replicate-append-replicate) (wrote-then s p (rw (lit-ones k 32 g) at q))
 
 -- at the loop's head there is room for the ones that are left
 room-at : (c : tie.At-loop Inv-loop μ-loop) → Room (c .loop .out) (c .loop .s) (c .loop .left)
@@ -44,8 +44,8 @@ loop-holds c =
 sub-left : tie.Need-sub-left Inv-loop μ-loop
 sub-left c = omega arith
 
-put-nbits-requires : tie.Need-put-nbits-requires Inv-loop μ-loop
-put-nbits-requires c κs =
+put-short-requires : tie.Need-put-short-requires Inv-loop μ-loop
+put-short-requires c κs =
     let r = room-at (c .before .before) in
     (record { sound = r .sound; room = omega (arith, r .room, c .before .loop-test .taken) }, omega arith)
 
@@ -57,23 +57,23 @@ loop-again c =
     let st = c .before .before .before .before .before .before .before in
     let l = c .before .before .before .before .before .loop in
     let t = c .before .before .before .before .loop-test .taken in
-    (omega (arith, l .inv .0), more (st .args .n) (l .left) 64 (omega arith) (omega arith) (l .inv .0) (st .pre .sound) (l .inv .1) (c .before .before .put-nbits .ensures))
+    (omega (arith, l .inv .0), more (st .args .n) (l .left) 32 (omega arith) (omega arith) (l .inv .0) (st .pre .sound) (l .inv .1) (c .before .before .put-short .ensures))
 
-cast-put-nbits : tie.Need-cast-put-nbits Inv-loop μ-loop
-cast-put-nbits c = omega (arith, c .before .loop-test .left)
+cast-put-short : tie.Need-cast-put-short Inv-loop μ-loop
+cast-put-short c = omega (arith, c .before .loop-test .left)
 
-put-nbits-requires-2 : tie.Need-put-nbits-requires-2 Inv-loop μ-loop
-put-nbits-requires-2 c κs = (room-at (c .before .before), omega (arith, c .before .loop-test .left))
+put-short-requires-2 : tie.Need-put-short-requires-2 Inv-loop μ-loop
+put-short-requires-2 c κs = (room-at (c .before .before), omega (arith, c .before .loop-test .left))
 
 same-length : tie.Need-same-length Inv-loop μ-loop
-same-length c = c .before .before .put-nbits2 .ensures .size ∙ c .before .before .before .before .before .loop .inv .1 .size
+same-length c = c .before .before .put-short2 .ensures .size ∙ c .before .before .before .before .before .loop .inv .1 .size
 
 returns : tie.Need-returns Inv-loop μ-loop
 returns c =
     let st = c .before .before .before .before .before .before .before in
     let l = c .before .before .before .before .before .loop in
     let z : st .args .n - (l .left - l .left) ≡ st .args .n = omega arith in
-    rw z at (more (st .args .n) (l .left) (l .left) (omega arith) (omega (arith, c .before .before .before .before .loop-test .left)) (l .inv .0) (st .pre .sound) (l .inv .1) (c .before .before .put-nbits2 .ensures))
+    rw z at (more (st .args .n) (l .left) (l .left) (omega arith) (omega (arith, c .before .before .before .before .loop-test .left)) (l .inv .0) (st .pre .sound) (l .inv .1) (c .before .before .put-short2 .ensures))
 
 pub put-ones-spec : {M : Type 1} → statement M
 put-ones-spec =
@@ -83,10 +83,10 @@ put-ones-spec =
     μ-loop
     loop-holds
     sub-left
-    put-nbits-requires
+    put-short-requires
     loop-less
     loop-again
-    cast-put-nbits
-    put-nbits-requires-2
+    cast-put-short
+    put-short-requires-2
     same-length
     returns)

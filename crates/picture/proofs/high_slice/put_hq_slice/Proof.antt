@@ -2,7 +2,7 @@
 use native.Mathlib.Omega.{arith}
 use borrow.Author.Needs.{needs}
 use Rattle.picture.specs.Picture.{numbersIn}
-use Rattle.picture.specs.HighSliceLaws.{prefix-room, index-room, components-room, slice-laid}
+use Rattle.picture.specs.HighSliceLaws.{prefix-room, index-room, components-room, flush-room, slice-laid}
 use Rattle.picture.proofs.high_slice.put_hq_slice.Statement.{statement}
 use Rattle.picture.proofs.high_slice.put_hq_slice.Tie as tie
 
@@ -30,17 +30,24 @@ put-components-requires c κs =
     let t = st .pre .1 .1 .0 in
     (st .pre .0, (st .pre .1 .0, (t .scaler, components-room (a .t .prefix) (a .t .scaler) (a .c .index) (numbersIn (a .work .now) (a .p) (a .k) (a .c .index)) (a .at) (t .scaler .0) (st .pre .1 .1 .1) (c .before .before .before .before .before .before .before .before .put-prefix .ensures) (c .before .before .before .put-nbits .ensures))))
 
+flush-requires : tie.Need-flush-requires
+flush-requires c κs =
+    let st = c .before .before .before .before .before .before .before .before .before .before .before .before .before .before .before in
+    let a = st .args in
+    let t = st .pre .1 .1 .0 in
+    flush-room (a .t .prefix) (a .t .scaler) (a .c .index) (numbersIn (a .work .now) (a .p) (a .k) (a .c .index)) (a .at) (t .scaler .0) (st .pre .1 .1 .1) (c .before .before .before .before .before .before .before .before .before .before .before .before .put-prefix .ensures) (c .before .before .before .before .before .before .before .put-nbits .ensures) (c .before .before .before .put-components .ensures)
+
 same-length : tie.Need-same-length
 same-length c = search needs
 
 returns : tie.Need-returns
 returns c =
-    let st = c .before .before .before .before .before .before .before .before .before .before .before .before .before .before in
+    let st = c .before .before .before .before .before .before .before .before .before .before .before .before .before .before .before .before .before .before in
     let a = st .args in
     let t = st .pre .1 .1 .0 in
-    slice-laid (a .t .prefix) (a .t .scaler) (a .c .index) (numbersIn (a .work .now) (a .p) (a .k) (a .c .index)) (a .at) (t .scaler .0) (st .pre .1 .1 .1) (c .before .before .before .before .before .before .before .before .before .before .before .put-prefix .ensures) (c .before .before .before .before .before .before .put-nbits .ensures) (c .before .before .put-components .ensures)
+    slice-laid (a .t .prefix) (a .t .scaler) (a .c .index) (numbersIn (a .work .now) (a .p) (a .k) (a .c .index)) (a .at) (t .scaler .0) (st .pre .1 .1 .1) (c .before .before .before .before .before .before .before .before .before .before .before .before .before .before .before .put-prefix .ensures) (c .before .before .before .before .before .before .before .before .before .before .put-nbits .ensures) (c .before .before .before .before .before .before .put-components .ensures) (c .before .before .flush .ensures)
 
 pub put-hq-slice-spec : {M : Type 1} → statement M
 put-hq-slice-spec =
     tie.close
-    (tie.spec put-prefix-requires cast-put-nbits put-nbits-requires put-components-requires same-length returns)
+    (tie.spec put-prefix-requires cast-put-nbits put-nbits-requires put-components-requires flush-requires same-length returns)

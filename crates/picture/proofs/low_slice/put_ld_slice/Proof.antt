@@ -1,11 +1,12 @@
 -- `low_slice::put_ld_slice` meets its contract. Assumes nothing.
 use native.Mathlib.Omega.{arith}
-use Rattle.picture.specs.LowSliceLaws.{length-room, runs-room, ones-room, slice-laid}
+use Rattle.picture.specs.LowSliceLaws.{length-room, runs-room, ones-room, flush-room, slice-laid}
 use borrow.Author.Needs.{needs}
 use Rattle.picture.proofs.low_slice.put_ld_slice.Statement.{statement}
 use Rattle.picture.proofs.low_slice.put_ld_slice.Tie as tie
 use Rattle.picture.proofs.low_slice.put_ld_slice.Reads as reads
 use Rattle.picture.proofs.low_slice.put_ld_slice.Lts as lts
+use Rattle.codewords.proofs.bitio.flush.Reads as flush-reads
 use Rattle.codewords.proofs.bitio.put_nbits.Reads as put-nbits-reads
 use Rattle.codewords.proofs.bitio.put_ones.Reads as put-ones-reads
 use Rattle.picture.proofs.low_index.length_bits.Reads as length-bits-reads
@@ -58,17 +59,26 @@ put-ones-requires c κs =
     let m = c .before .before .before .before .before .before .before .before .before .before .length-bits in
     ones-room (a .out .now) (a .at) (a .work .now) (a .p) (a .n) (a .k) (a .q) (n .result) (m .result) (r .result) (n .ensures .0) (m .ensures .0) (r .ensures) (st .pre .1 .0 .0) (st .pre .1 .1) (c .before .before .before .before .before .before .before .before .before .before .before .before .before .before .put-nbits .ensures) (c .before .before .before .before .before .before .before .before .before .put-nbits2 .ensures) (c .before .before .before .before .before .put-runs .ensures)
 
-same-length : tie.Need-same-length
-same-length c = search needs
+flush-requires : tie.Need-flush-requires
+flush-requires c κs =
+    let st = c .before .before .before .before .before .before .before .before .before .before .before .before .before .before .before .before .before .before .before .before .before .before .before in
+    let a = st .args in
+    let n = c .before .before .before .before .before .before .before .before .before .before .before .before .before .before .before .before .before .before .before .before .before .room-of in
+    let r = c .before .before .before .before .before .before .before .before .before .before .before .before .before .before .before .before .before .before .before .before .kept-runs in
+    let m = c .before .before .before .before .before .before .before .before .before .before .before .before .before .before .length-bits in
+    flush-room (a .out .now) (a .at) (a .work .now) (a .p) (a .n) (a .k) (a .q) (n .result) (m .result) (r .result) (n .ensures .0) (m .ensures .0) (r .ensures) (st .pre .1 .0 .0) (st .pre .1 .1) (c .before .before .before .before .before .before .before .before .before .before .before .before .before .before .before .before .before .before .put-nbits .ensures) (c .before .before .before .before .before .before .before .before .before .before .before .before .before .put-nbits2 .ensures) (c .before .before .before .before .before .before .before .before .before .put-runs .ensures) (c .before .before .before .put-ones .ensures)
 
 returns : tie.Need-returns
 returns c =
-    let st = c .before .before .before .before .before .before .before .before .before .before .before .before .before .before .before .before .before .before .before .before .before .before in
+    let st = c .before .before .before .before .before .before .before .before .before .before .before .before .before .before .before .before .before .before .before .before .before .before .before .before .before .before in
     let a = st .args in
-    let n = c .before .before .before .before .before .before .before .before .before .before .before .before .before .before .before .before .before .before .before .before .room-of in
-    let r = c .before .before .before .before .before .before .before .before .before .before .before .before .before .before .before .before .before .before .before .kept-runs in
-    let m = c .before .before .before .before .before .before .before .before .before .before .before .before .before .length-bits in
-    slice-laid (a .out .now) (a .at) (a .work .now) (a .p) (a .n) (a .k) (a .q) (n .result) (m .result) (r .result) (n .ensures .0) (m .ensures .0) (r .ensures) (st .pre .1 .0 .0) (st .pre .1 .1) (c .before .before .before .before .before .before .before .before .before .before .before .before .before .before .before .before .before .put-nbits .ensures) (c .before .before .before .before .before .before .before .before .before .before .before .before .put-nbits2 .ensures) (c .before .before .before .before .before .before .before .before .put-runs .ensures) (c .before .before .put-ones .ensures)
+    let n = c .before .before .before .before .before .before .before .before .before .before .before .before .before .before .before .before .before .before .before .before .before .before .before .before .room-of in
+    let r = c .before .before .before .before .before .before .before .before .before .before .before .before .before .before .before .before .before .before .before .before .before .before .before .kept-runs in
+    let m = c .before .before .before .before .before .before .before .before .before .before .before .before .before .before .before .before .before .length-bits in
+    slice-laid (a .out .now) (a .at) (a .work .now) (a .p) (a .n) (a .k) (a .q) (n .result) (m .result) (r .result) (n .ensures .0) (m .ensures .0) (r .ensures) (st .pre .1 .0 .0) (st .pre .1 .1) (c .before .before .before .before .before .before .before .before .before .before .before .before .before .before .before .before .before .before .before .before .before .put-nbits .ensures) (c .before .before .before .before .before .before .before .before .before .before .before .before .before .before .before .before .put-nbits2 .ensures) (c .before .before .before .before .before .before .before .before .before .before .before .before .put-runs .ensures) (c .before .before .before .before .before .before .put-ones .ensures) (c .before .before .flush .ensures)
+
+same-length : tie.Need-same-length
+same-length c = returns c .size
 
 pub put-ld-slice-spec : {M : Type 1} → statement M
 put-ld-slice-spec =
@@ -83,5 +93,6 @@ put-ld-slice-spec =
     sub-put-ones
     sub-put-ones-2
     put-ones-requires
+    flush-requires
     same-length
     returns)
