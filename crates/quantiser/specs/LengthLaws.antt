@@ -1,5 +1,5 @@
 -- The length of a number's code word without the quotient: the leading one of n / f by those of n and f. Assumes nothing.
-use mathlib.Core.Path.{_≡_, sym, ap, _∙_}
+use mathlib.Core.Path.{_≡_, sym, ap}
 use Prim.Native.Nat.{ℕ, zero, suc, _+_, _*_, _-_, _/_, _%_, _^_, _≤_, _<_}
 use native.Mathlib.Nat.{pow-suc, lt-of-not-le, le-of-suc-le-suc, mod-eq-of-lt, mul-le-mul-right, mul-lt-mul-of-pos-right, le-div-iff-mul-le, div-lt-iff-lt-mul, div-le-self, add-div-right}
 use native.Mathlib.Omega.{arith}
@@ -9,9 +9,8 @@ use lib.Count.{leadingZeros}
 use lib.Pow.{pow-pos, pow-mono, pow-add}
 use Rattle.codewords.specs.Code.{log2, codeS}
 use Rattle.codewords.specs.CodeLaws.{Top, log2-top, top-unique, leading-log2, length-codeS, length-codeS-zero}
-use Rattle.quantiser.specs.Quant.{cap, forwardBy}
-use Rattle.quantiser.specs.CapLaws.{cap-same}
-use Rattle.quantiser.specs.SignLaws.{abs-signed}
+use Rattle.quantiser.specs.Quant.{forwardBy}
+use Rattle.quantiser.specs.StepLaws.{forward-abs}
 
 -- ---- the place of the leading one
 pub log2-mono : (a b : ℕ) → 0 < a → a ≤ b → log2 a ≤ log2 b
@@ -103,8 +102,7 @@ length-by f e c b h =
 
 -- the number's magnitude and one are (4 m + f) / f
 pub length-law : (f m e : ℕ) (c : ℤ) → 0 < f → m ≡ natAbs c → natAbs c < 2 ^ 60 → e ≡ log2 ((4 * m + f) / f) → Length f e c
-unfolding forwardBy
 length-law f m e c p em b h =
     let l = div-le-self (4 * natAbs c) f in
-    let is : natAbs (forwardBy f c) ≡ 4 * natAbs c / f = abs-signed c (cap (4 * natAbs c / f)) ∙ cap-same (omega arith) in
+    let is = forward-abs f c b in
     length-by f e c (omega arith) (rw (is, ← add-div-right (4 * natAbs c) p, ← em) h)

@@ -1,12 +1,16 @@
--- Laws of a sign on a magnitude. Assumes nothing.
-use mathlib.Core.Path.{_≡_, refl}
+-- Laws of a sign on a magnitude, and the code word by the two. Assumes nothing.
+use mathlib.Core.Path.{_≡_, refl, sym, ap, _∙_}
 use mathlib.Core.Bool.{true, false}
-use Prim.Native.Nat.{ℕ, zero, suc, _+_, _*_, _<_}
+use Prim.Native.Nat.{ℕ, zero, suc, _+_, _*_, _/_, _<_}
 use native.Mathlib.Omega.{arith}
 use lib.IntN.{ℤ, pos, negsuc, negℤ, natAbs, _-ℤ_, +ℤ-idl}
+use lib.Dec.{leb·suc-zero}
 use lib.Signed.{ltZ}
 use Rattle.laws.specs.Integer.{parts, var, minus, _⊟_, lt-yes, lt-no, abs-neg}
+use Rattle.codewords.specs.Code.{codeS, codeM}
+use Rattle.codewords.specs.CodeLaws.{code-signed}
 use Rattle.quantiser.specs.Standard.{signed}
+use Rattle.quantiser.specs.Quant.{cap, forwardBy}
 
 pub signed-zero : (z : ℤ) → signed z 0 ≡ pos 0
 signed-zero (pos n) = refl
@@ -36,6 +40,20 @@ near-signed f m (pos k) n = let s = var (pos k) ⊟ var (pos m) in omega (arith,
 near-signed f m (negsuc k) n =
     let s = var (negsuc k) ⊟ minus (var (pos m)) in
     omega (arith, parts (negsuc k -ℤ negℤ (pos m)))
+
+-- ---- the code word by the magnitude and the sign; that of 0 has no sign
+pub code-sign : (z : ℤ) (m : ℕ) → codeS (signed z m) ≡ codeM m (ltZ z (pos 0))
+unfolding codeM
+code-sign (pos n) zero = code-signed (pos 0)
+code-sign (pos n) (suc m) = code-signed (pos (suc m)) ∙ ap (codeM (suc m)) (leb·suc-zero (suc m) ∙ sym (leb·suc-zero n))
+code-sign (negsuc n) zero = code-signed (pos 0)
+code-sign (negsuc n) (suc m) = code-signed (negsuc m)
+
+pub forward-code : (f : ℕ) (c : ℤ) → codeS (forwardBy f c) ≡ codeM (natAbs (forwardBy f c)) (ltZ c (pos 0))
+unfolding forwardBy
+forward-code f c =
+    let m = cap (4 * natAbs c / f) in
+    code-sign c m ∙ ap (λ (k : ℕ). codeM k (ltZ c (pos 0))) (sym (abs-signed c m))
 
 -- ---- as the code makes it
 pub signed-minus : (z : ℤ) (m : ℕ) → ltZ z (pos 0) ≡ true → pos 0 -ℤ pos m ≡ signed z m

@@ -1,8 +1,8 @@
 -- What the code's steps rest on: a quotient by doubling, a product that is capped by a quotient, and the calls' answers.
 -- Assumes nothing.
-use mathlib.Core.Path.{_≡_, refl, sym}
+use mathlib.Core.Path.{_≡_, refl, sym, _∙_}
 use Prim.Native.Nat.{ℕ, zero, suc, _+_, _*_, _-_, _/_, _%_, _^_, _≤_, _<_}
-use native.Mathlib.Nat.{div-add-mod', le-div-iff-mul-le, div-lt-iff-lt-mul, mul-le-mul-right, le-trans, div-le-of-le-mul}
+use native.Mathlib.Nat.{div-add-mod', le-div-iff-mul-le, div-lt-iff-lt-mul, mul-le-mul-right, le-trans, div-le-self, div-le-of-le-mul}
 use native.Mathlib.Omega.{arith}
 use lib.Arith.{digits-div}
 use lib.IntN.{ℤ, pos, negsuc, natAbs}
@@ -17,7 +17,8 @@ use Rattle.quantiser.specs.Standard.{signed}
 use Rattle.quantiser.specs.Quant.{cap, forwardBy, inverseBy}
 use Rattle.quantiser.specs.Answer.{answerOf, Answered}
 use Rattle.quantiser.specs.Step.{Doubles}
-use Rattle.quantiser.specs.CapLaws.{cap-most}
+use Rattle.quantiser.specs.CapLaws.{cap-same, cap-most}
+use Rattle.quantiser.specs.SignLaws.{abs-signed}
 
 -- ---- a signed number is handed on as its bits
 pub back : (z : ℤ) → mag z < 2 ^ 63 → toZ w64 (ofZ w64 z) ≡ z
@@ -30,9 +31,12 @@ abs-read z m h e = rw (toZ-ofZ {w = w64} h) at e
 pub quarter : (m f : ℕ) → 4 ≤ f → m ≤ 2 ^ 63 → m / f ≤ 2 ^ 61
 quarter m f h l = div-le-of-le-mul f (le-trans (omega arith) (mul-le-mul-right (2 ^ 61) h))
 
--- ---- four times m over f: m itself at the factor 4
+-- ---- four times m over f: m itself at the factor 4, and no more at any other
 pub over-four : (m f : ℕ) → f ≡ 4 → m ≡ 4 * m / f
 over-four m f e = rw e (omega arith)
+
+pub over-more : (m f : ℕ) → 4 ≤ f → 4 * m / f ≤ m
+over-more m f h = div-le-of-le-mul f (mul-le-mul-right m h)
 
 -- ---- four times m over f: a quotient and a remainder doubled twice
 pub four-times : (f m : ℕ) (a b c : Quotient) → a .quotient ≡ m / f → a .remainder ≡ m % f → Doubles f a b → Doubles f b c → c .quotient ≡ 4 * m / f
@@ -44,6 +48,13 @@ four-times f m a b c eq er s t =
 pub forward-is : (f m n q : ℕ) (c : ℤ) → m ≡ natAbs c → q ≡ 4 * m / f → n ≡ cap q → signed c n ≡ forwardBy f c
 unfolding forwardBy
 forward-is f m n q c em eq en = rw (en, eq, em)
+
+-- its magnitude where nothing is capped
+pub forward-abs : (f : ℕ) (c : ℤ) → natAbs c < 2 ^ 60 → natAbs (forwardBy f c) ≡ 4 * natAbs c / f
+unfolding forwardBy
+forward-abs f c b =
+    let l = div-le-self (4 * natAbs c) f in
+    abs-signed c (cap (4 * natAbs c / f)) ∙ cap-same (omega arith)
 
 -- ---- a number rebuilt: 0, and any other
 pub inverse-zero : (f off : ℕ) (q : ℤ) → natAbs q ≡ 0 → pos 0 ≡ inverseBy f off q

@@ -128,6 +128,15 @@ pub fn forward_by(c: i64, f: u64) -> i64
     signed(c, cap(four_over(m, f)))
 }
 
+// How far forward_by's number is from 0, where nothing is capped. For the layers above.
+pub fn forward_size(c: i64, f: u64) -> u64
+    requires { ⌜ ((4 ≤ f) × (f < 2 ^ 63)) × (natAbs c < 2 ^ 60) ⌝ }
+    ensures { λ r. ⌜ (r ≡ natAbs (forwardBy f c)) × (r ≤ 2 ^ 60) ⌝ }
+{
+    let m = codewords::unsigned_abs(c);
+    if f == 4 { m } else { 4 * m / f }
+}
+
 // The place of the leading one of n / f, without the quotient: f, moved up until its leading one is at n's place, is above n or not.
 fn quotient_log2(n: u64, f: u64) -> u32
     requires { ⌜ (0 < f) × (f ≤ n) ⌝ }

@@ -1,0 +1,42 @@
+-- `quantiser::forward_size` meets its contract. Assumes nothing.
+use mathlib.Core.Path.{_≡_, sym, ap, _∙_}
+use Prim.Native.Nat.{ℕ, _*_, _/_}
+use native.Mathlib.Omega.{arith}
+use lib.IntN.{natAbs}
+use borrow.Author.Needs.{needs}
+use Rattle.quantiser.specs.Quant.{forwardBy}
+use Rattle.quantiser.specs.StepLaws.{abs-read, over-four, over-more, forward-abs}
+use Rattle.quantiser.proofs.forward_size.Statement.{statement}
+use Rattle.quantiser.proofs.forward_size.Tie as tie
+use Rattle.quantiser.proofs.forward_size.Reads as reads
+use Rattle.quantiser.proofs.forward_size.Lts as lts
+use Rattle.codewords.proofs.unsigned_abs.Reads as unsigned-abs-reads
+
+unsigned-abs-requires : tie.Need-unsigned-abs-requires
+unsigned-abs-requires c κs = search needs
+
+is-abs : (c : tie.After-unsigned-abs) → c .unsigned-abs .result ≡ natAbs (c .before .args .c)
+is-abs c = abs-read (c .before .args .c) _ (c .before .fits .c) (c .unsigned-abs .ensures .0)
+
+size-is : (c : tie.After-unsigned-abs) → 4 * c .unsigned-abs .result / c .before .args .f ≡ natAbs (forwardBy (c .before .args .f) (c .before .args .c))
+size-is c =
+    let st = c .before in
+    ap (λ (m : ℕ). 4 * m / st .args .f) (is-abs c) ∙ sym (forward-abs (st .args .f) (st .args .c) (st .pre .1))
+
+mul-result : tie.Need-mul-result
+mul-result c = omega (arith, is-abs (c .before))
+
+div-result : tie.Need-div-result
+div-result c = search needs
+
+returns : tie.Need-returns
+returns c = (over-four _ _ (c .if1 .taken) ∙ size-is (c .before), omega (arith, is-abs (c .before)))
+
+returns-2 : tie.Need-returns-2
+returns-2 c =
+    let st = c .before .before in
+    (size-is (c .before), omega (arith, is-abs (c .before), over-more (c .before .unsigned-abs .result) (st .args .f) (st .pre .0 .0)))
+
+pub forward-size-spec : {M : Type 1} → statement M
+forward-size-spec =
+    tie.close (tie.spec unsigned-abs-requires mul-result div-result returns returns-2)
