@@ -1,13 +1,13 @@
--- The wrapped product of two 64-bit numbers, by halves of 32 bits. Assumes nothing.
-use mathlib.Core.Path.{_≡_, ap}
+-- The wrapped product of two 64-bit numbers, by halves of 32 bits; a tap times the wrapped sum of two numbers. Assumes nothing.
+use mathlib.Core.Path.{_≡_, sym, ap, _∙_}
 use Prim.Native.Nat.{ℕ, suc, _+_, _*_, _-_, _/_, _%_, _^_, _≤_, _<_}
 use native.Mathlib.Omega.{arith}
-use native.Mathlib.Nat.{add-mul, mul-add, mul-assoc, mul-comm, mul-right-comm, mul-le-mul, mul-sub, div-add-mod'}
-use lib.IntN.{ℤ, pos, negsuc, negℤ, _*ℤ_}
+use native.Mathlib.Nat.{add-mul, mul-add, mul-assoc, mul-comm, mul-right-comm, mul-left-comm, mul-le-mul, mul-sub, div-add-mod'}
+use lib.IntN.{ℤ, pos, negsuc, negℤ, _+ℤ_, _*ℤ_, +ℤ-comm}
 use mir.Syntax.{w64}
 use mir.Val.{SFits, toZ, ofZ}
-use Rattle.laws.specs.Integer.{neg-law}
-use Rattle.laws.specs.Wrap.{wrap, wrap-bits}
+use Rattle.laws.specs.Integer.{up, dn, neg-law, times-law, Lin, var, _⊞_, by-parts}
+use Rattle.laws.specs.Wrap.{wrap, wraps, unique, wrap-add, wrap-bits, neg-mul}
 
 pub half-product : (x y : ℕ) → x < 2 ^ 32 → y < 2 ^ 32 → x * y < 2 ^ 64
 half-product x y hx hy =
@@ -56,3 +56,52 @@ mul-bits (negsuc a) (pos b) f g =
 mul-bits (negsuc a) (negsuc b) f g =
     wrap-bits (pos (suc a * suc b)) ((2 ^ 64 - suc a) * (2 ^ 64 - suc b)) (2 ^ 64 - suc a - suc b)
     (omega (arith, opposites (suc a) (suc b) (2 ^ 64 - suc a) (2 ^ 64 - suc b) (2 ^ 64) (2 ^ 64 - suc a - suc b) (omega arith) (omega arith) (omega arith)))
+
+-- ---- a wrapped sum times t
+scale-law : (t a : ℤ) (p n : ℕ) → up a + n ≡ dn a + p → up (t *ℤ a) + (up t * n + dn t * p) ≡ dn (t *ℤ a) + (up t * p + dn t * n)
+scale-law (pos k) a p n h = omega (arith, times-law k a p n h)
+scale-law (negsuc k) a p n h = rw (neg-mul k a) (omega (arith, times-law (suc k) a p n h, neg-law (pos (suc k) *ℤ a)))
+
+abbrev scale : (t : ℤ) {a : ℤ} → Lin a → Lin (t *ℤ a)
+scale t {a} x = record { p = up t * x .p + dn t * x .n; n = up t * x .n + dn t * x .p; law = scale-law t a (x .p) (x .n) (x .law) }
+
+mul-sum : (t x y : ℤ) → t *ℤ (x +ℤ y) ≡ t *ℤ x +ℤ t *ℤ y
+mul-sum t x y =
+    by-parts (scale t (var x ⊞ var y)) (scale t (var x) ⊞ scale t (var y))
+    (omega (arith, mul-add (up t) (up x) (up y), mul-add (up t) (dn x) (dn y), mul-add (dn t) (up x) (up y), mul-add (dn t) (dn x) (dn y)))
+
+-- an inner wrap changes nothing
+wrap-mul : (t z : ℤ) → wrap (t *ℤ wrap z) ≡ wrap (t *ℤ z)
+wrap-mul t z =
+    let x = wraps (t *ℤ wrap z) in
+    let y = wraps z in
+    let k = y .k in
+    let l1 = scale-law t (wrap z) (up z + 2 ^ 64 * dn k) (dn z + 2 ^ 64 * up k) (omega (arith, y .law)) in
+    let l2 = scale-law t z (up z) (dn z) (omega arith) in
+    let l3 = scale-law t k (up k) (dn k) (omega arith) in
+    let v = var (x .k) ⊞ var (t *ℤ k) in
+    unique (t *ℤ z) _ _
+    (record {
+      k = x .k +ℤ t *ℤ k;
+      law =
+          omega (
+            arith,
+            mul-add (up t) (up z) (2 ^ 64 * dn k),
+            mul-add (up t) (dn z) (2 ^ 64 * up k),
+            mul-add (dn t) (up z) (2 ^ 64 * dn k),
+            mul-add (dn t) (dn z) (2 ^ 64 * up k),
+            mul-left-comm (up t) (2 ^ 64) (dn k),
+            mul-left-comm (up t) (2 ^ 64) (up k),
+            mul-left-comm (dn t) (2 ^ 64) (dn k),
+            mul-left-comm (dn t) (2 ^ 64) (up k),
+          );
+      fits = x .fits;
+    })
+    (wraps (t *ℤ z))
+
+wrap-both : (a b : ℤ) → wrap (wrap a +ℤ wrap b) ≡ wrap (a +ℤ b)
+wrap-both a b = wrap-add a (wrap b) ∙ ap wrap (+ℤ-comm a (wrap b)) ∙ wrap-add b a ∙ ap wrap (+ℤ-comm b a)
+
+-- t times a sum is the sum of the products, all wrapped
+pub wrap-mul-sum : (t x y : ℤ) → wrap (t *ℤ wrap (x +ℤ y)) ≡ wrap (wrap (t *ℤ x) +ℤ wrap (t *ℤ y))
+wrap-mul-sum t x y = wrap-mul t (x +ℤ y) ∙ ap wrap (mul-sum t x y) ∙ sym (wrap-both (t *ℤ x) (t *ℤ y))

@@ -1,21 +1,22 @@
 -- What the code's runs of updates leave, and that they make up a lifting stage of a row. Assumes nothing.
 use mathlib.Core.Path.{_≡_, refl, sym, ap, ap₂, _∙_}
-use mathlib.Core.Bool.{Bool, not}
+use mathlib.Core.Bool.{Bool, false, not}
 use mathlib.Core.Logic.{_≢_}
 use Prim.Native.Nat.{ℕ, zero, suc, _+_, _*_, _-_, _/_, _≤_, _<_, min, max}
 use native.Mathlib.Omega.{arith}
 use native.Mathlib.Nat.{mul-lt-mul-of-pos-left, mul-one}
 use native.Mathlib.Numerals.{add-one}
-use mathlib.Core.List.{List, []}
-use lib.ListN.{length, getD, set, drop, length-set}
+use mathlib.Core.List.{List, [], _∷_}
+use lib.ListN.{length, getD, set, drop, replicate, length-set}
 use lib.Seq.{length-take-le, getD-set-same, getD-set-other}
-use lib.IntN.{ℤ, pos}
-use Rattle.laws.specs.Wrap.{wrap}
+use lib.IntN.{ℤ, pos, _+ℤ_, _*ℤ_, +ℤ-idl}
+use Rattle.laws.specs.Wrap.{wrap, wraps, wrap-fits}
 use Rattle.laws.specs.Rows.{at}
 use Rattle.wavelet.specs.Lifting.{Stage, place, dot, scaled, delta, change, lifted, unlift, analysis}
-use Rattle.wavelet.specs.LiftingLaws.{place-law, place-moves, dot-ext, length-lifted, here-old, delta-old, lifted-next, analysis-next}
+use Rattle.wavelet.specs.LiftingLaws.{place-law, place-moves, dot-ext, dot-take, length-lifted, here-old, delta-old, lifted-next, analysis-next}
 use Rattle.wavelet.specs.Filters.{filterOf, type1}
-use Rattle.wavelet.specs.Table.{stageOf, stageAt, Legal, in-table}
+use Rattle.wavelet.specs.Product.{wrap-mul-sum}
+use Rattle.wavelet.specs.Table.{stageOf, stageAt, isCount, Legal, in-table}
 use Rattle.wavelet.specs.declared.lift.LiftStage.{LiftStage}
 
 -- ---- what the functions ask and leave
@@ -62,6 +63,13 @@ pub record RunIn (a : List ℤ) (s : LiftStage) (o : List ℕ) (p count step : �
   pub writes : (i : ℕ) → i < count → p + step * i < length a
   -- no place is read after it is updated
   pub later : (h i j : ℕ) → h < i → i < count → j < s .count → getD o j 0 + step * i ≢ p + step * h
+
+-- a stage of two taps, both t, and the places i and j that they read; a run depends on no other number of its stage
+abbrev pub twoTaps : ℤ → ℕ → LiftStage
+twoTaps t shift = record { to = 0; adds = false; shift = shift; ahead = 0; back = 0; count = 2; taps = t ∷ t ∷ replicate 6 (pos 0) }
+
+abbrev pub twoPlaces : ℕ → ℕ → List ℕ
+twoPlaces i j = i ∷ j ∷ replicate 6 0
 
 -- ---- one function after the other
 pub taps-long : (s : LiftStage) → Legal s → length (stageOf s .taps) ≡ s .count
@@ -149,6 +157,64 @@ ran-turn s plus o p count step i xs ys r l e =
 pub ran-none : (st : Stage) (plus : Bool) (o : List ℕ) (p step : ℕ) (xs : List ℤ) → xs ≡ ran st plus o p step 0 xs
 unfolding ran
 ran-none st plus o p step xs = refl
+
+-- ---- a run of two equal taps
+pub two-sum : (t : ℤ) (shift i j x : ℕ) (a : List ℤ)
+    → wrap (t *ℤ wrap (at a (i + x) +ℤ at a (j + x))) ≡ tapsTo (stageOf (twoTaps t shift) .taps) (twoPlaces i j) x a (length (stageOf (twoTaps t shift) .taps))
+unfolding stageOf dot
+two-sum t shift i j x a =
+    let y = at a (i + x) in
+    let z = at a (j + x) in
+    let e : wrap (pos 0 +ℤ wrap (t *ℤ y)) ≡ wrap (t *ℤ y) = ap wrap (+ℤ-idl (wrap (t *ℤ y))) ∙ wrap-fits (wrap (t *ℤ y)) (record { sfits = wraps (t *ℤ y) .fits }) in
+    wrap-mul-sum t y z ∙ ap (λ (v : ℤ). wrap (v +ℤ wrap (t *ℤ z))) (sym e)
+
+-- what holds of 0 and 1 holds below 2
+below-two : (P : ℕ → Type 0) → P 0 → P 1 → (j : ℕ) → j < 2 → P j
+below-two P a b zero h = a
+below-two P a b (suc zero) h = b
+below-two P a b (suc (suc j)) h = absurd (omega arith)
+
+same-place : (o : List ℕ) (j : ℕ) → j < 2 → getD (twoPlaces (getD o 0 0) (getD o 1 0)) j 0 ≡ getD o j 0
+same-place o = below-two (λ j. getD (twoPlaces (getD o 0 0) (getD o 1 0)) j 0 ≡ getD o j 0) refl refl
+
+module _ (s : LiftStage) (t : ℤ) (o : List ℕ) (two : s .count ≡ 2) where
+  -- the run of s is one of two taps
+  pub two-runs : (a : List ℤ) (p count step : ℕ) → RunIn a s o p count step → RunIn a (twoTaps t (s .shift)) (twoPlaces (getD o 0 0) (getD o 1 0)) p count step
+  unfolding isCount
+  two-runs a p count step r = record {
+    legal = record {
+      side = omega arith;
+      shift-le = r .legal .shift-le;
+      ahead-le = omega arith;
+      back-le = omega arith;
+      counts = tt;
+      count-le = omega arith;
+      long = refl;
+    };
+    long = refl;
+    steps = r .steps;
+    inside = λ i j hi hj. rw (same-place o j hj) (r .inside i j hi (rw two hj));
+    writes = r .writes;
+    later = λ h i j hh hi hj. rw (same-place o j hj) (r .later h i j hh hi (rw two hj));
+  }
+
+  -- and it leaves the same
+  pub two-ran : at (s .taps) 0 ≡ t → at (s .taps) 1 ≡ t → Legal s → (plus : Bool) (p step m : ℕ) (xs : List ℤ)
+      → ran (stageOf (twoTaps t (s .shift))) plus (twoPlaces (getD o 0 0) (getD o 1 0)) p step m xs ≡ ran (stageOf s) plus o p step m xs
+  unfolding ran stageOf
+  two-ran e0 e1 l plus p step zero xs = refl
+  two-ran e0 e1 l plus p step (suc m) xs =
+      let st = stageOf s in
+      let st' = stageOf (twoTaps t (s .shift)) in
+      let o' = twoPlaces (getD o 0 0) (getD o 1 0) in
+      let x = step * m in
+      let sums : tapsTo (st' .taps) o' x xs 2 ≡ tapsTo (s .taps) o x xs 2 =
+      dot-ext wrap (at (st' .taps)) (at (s .taps)) (λ j. at xs (getD o' j 0 + x)) (λ j. at xs (getD o j 0 + x)) 2
+      (below-two (λ j. at (st' .taps) j ≡ at (s .taps) j) (sym e0) (sym e1))
+      (λ j h. ap (λ (q : ℕ). at xs (q + x)) (same-place o j h)) in
+      let all : tapsTo (s .taps) o x xs 2 ≡ tapsTo (st .taps) o x xs (length (st .taps)) =
+      ap (tapsTo (s .taps) o x xs) (sym two) ∙ dot-take wrap (s .taps) (s .count) (λ j. at xs (getD o j 0 + x)) (omega (arith, l .long, l .count-le)) in
+      ap₂ (λ (z : List ℤ) (v : ℤ). set z (p + x) (change wrap plus (at xs (p + x)) (scaled wrap st v))) (two-ran e0 e1 l plus p step m xs) (sums ∙ all)
 
 -- ---- a stage of a row, run by run
 module _ (s : LiftStage) (o : List ℕ) (len n m : ℕ) (l : Legal s) (pl : Placed (stageOf s) len n 1 o) (mv : Moves (stageOf s) len n m) where

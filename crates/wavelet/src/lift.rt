@@ -8,7 +8,7 @@ ghost use Rattle.laws.specs.Wrap.{wrap};
 ghost use Rattle.wavelet.specs.Lifting.{within, place, change, lifted};
 ghost use Rattle.wavelet.specs.Filters.{filterOf, analysisBy};
 ghost use Rattle.wavelet.specs.Table.{stageOf, Legal, Staged};
-ghost use Rattle.wavelet.specs.Run.{tapsTo, ran, Placed, Moves, TapsIn, TapIn, RunIn};
+ghost use Rattle.wavelet.specs.Run.{tapsTo, ran, Placed, Moves, TapsIn, TapIn, RunIn, twoTaps, twoPlaces};
 use crate::arith;
 
 // A stage: to is 0 where it goes to the even places and 1 where it goes to the odd ones; the standard's D is ahead less back; the first count
@@ -309,8 +309,8 @@ fn change(plus: bool, x: i64, d: i64) -> i64
     }
 }
 
-// count updates, of the places p, p + step, .., whose taps read the places o, moved on likewise. No place is read after it is updated.
-pub fn run(
+// The updates of run, whatever the taps.
+fn run_taps(
     a: &mut [i64],
     s: LiftStage,
     plus: bool,
@@ -332,6 +332,71 @@ pub fn run(
         a[k] = y;
         i += 1;
     }
+}
+
+// The updates of run for two taps, both t, that read the places i and j: one multiplication, of the sum, and no array of places.
+fn run_two(
+    a: &mut [i64],
+    plus: bool,
+    t: i64,
+    shift: u32,
+    i: usize,
+    j: usize,
+    p: usize,
+    count: usize,
+    step: usize,
+)
+    requires { ⌜ RunIn (now a) (twoTaps t shift) (twoPlaces i j) p count step ⌝ }
+    ensures { λ _. ⌜ now (a .exit) ≡ ran (stageOf (twoTaps t shift)) plus (twoPlaces i j) p step count (now (a .entry)) ⌝ }
+{
+    let mut n = 0;
+    while n < count {
+        let x = step * n;
+        let e = i + x;
+        let u = a[e];
+        let f = j + x;
+        let v = a[f];
+        let d = scaled(
+            arith::wrapping_mul_i64(t, arith::wrapping_add_i64(u, v)),
+            shift,
+        );
+        let k = p + x;
+        let w = a[k];
+        let y = change(plus, w, d);
+        a[k] = y;
+        n += 1;
+    }
+}
+
+// count updates, of the places p, p + step, .., whose taps read the places o, moved on likewise. No place is read after it is updated.
+pub fn run(
+    a: &mut [i64],
+    s: LiftStage,
+    plus: bool,
+    o: [usize; 8],
+    p: usize,
+    count: usize,
+    step: usize,
+)
+    requires { ⌜ RunIn (now a) s o p count step ⌝ }
+    ensures { λ _. ⌜ now (a .exit) ≡ ran (stageOf s) plus o p step count (now (a .entry)) ⌝ }
+{
+    let taps = s.count;
+    let t = s.taps[0];
+    let t1 = s.taps[1];
+    if taps == 2 && t == t1 {
+        let shift = s.shift;
+        let i = o[0];
+        let j = o[1];
+        // the literal lets the compiler drop the multiplication
+        if t == 1 {
+            run_two(a, plus, 1, shift, i, j, p, count, step);
+            return;
+        }
+        run_two(a, plus, t, shift, i, j, p, count, step);
+        return;
+    }
+    run_taps(a, s, plus, o, p, count, step);
 }
 
 // One lifting stage of a row; plus says whether the deltas are added.

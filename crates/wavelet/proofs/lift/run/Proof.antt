@@ -1,130 +1,110 @@
--- `lift::run` meets its contract. The loop's invariant: the list is what the first i updates leave. Assumes nothing.
-use mathlib.Core.Path.{_≡_, refl, ap, _∙_}
-use mathlib.Core.Bool.{Bool}
-use mathlib.Core.List.{List}
-use Prim.Native.Nat.{ℕ, _+_, _*_, _-_, _<_, _≤_}
-use lib.ListN.{length, getD, set, length-set}
-use lib.IntN.{ℤ}
+-- `lift::run` meets its contract. Assumes nothing.
+use mathlib.Core.Path.{_≡_, refl, sym, ap, _∙_}
+use Prim.Native.Nat.{ℕ}
+use lib.IntN.{ℤ, pos}
 use mir.Syntax.{w64}
 use mir.Val.{SFits, toZ, ofZ}
 use mir.Facts.{toZ-ofZ}
-use borrow.Author.Needs.{sfits-of}
-use Rattle.laws.specs.Wrap.{wrap}
+use borrow.Author.Needs.{needs, sfits-of}
+use borrow.Author.Tests.{eqb-true}
 use Rattle.laws.specs.Rows.{at}
-use Rattle.wavelet.specs.Lifting.{Stage, scaled, change}
-use Rattle.wavelet.specs.LiftingLaws.{dot-take}
-use Rattle.wavelet.specs.Table.{stageOf}
-use Rattle.wavelet.specs.Run.{tapsTo, valueOf, ran, ran-none, ran-turn}
-use native.Mathlib.Omega.{arith}
+use Rattle.wavelet.specs.Run.{two-runs, two-ran}
 use Rattle.wavelet.proofs.lift.run.Statement.{statement}
 use Rattle.wavelet.proofs.lift.run.Tie as tie
 
-record I (a₀ : List ℤ) (st : Stage) (plus : Bool) (o : List ℕ) (p count step : ℕ) (a : List ℤ) (i : ℕ) : Type 0 where
-  i-le : i ≤ count
-  long : length a ≡ length a₀
-  now-is : a ≡ ran st plus o p step i a₀
+-- a number by its bits
+by-bits : (z : ℤ) (n : ℕ) → SFits w64 z → ofZ w64 z ≡ n → z ≡ toZ w64 n
+by-bits z n f e = sym (toZ-ofZ f) ∙ ap (toZ w64) e
 
-abbrev Inv-loop : tie.InvT-loop
-Inv-loop a₀ s plus o p count step i₀ a i = I a₀ (stageOf s) plus o p count step a i
+-- what the test says: both taps have the same bits
+equal : (c : tie.Then2) → ofZ w64 (at (c .before .before .before .before .args .t2 .taps) 1) ≡ ofZ w64 (at (c .before .before .before .before .args .t2 .taps) 0)
+equal c =
+    let taps = c .before .before .before .before .args .t2 .taps in
+    sym (eqb-true (ofZ w64 (at taps 0)) (ofZ w64 (at taps 1)) (c .if2 .taken))
 
-abbrev μ-loop : tie.MeasureT-loop
-μ-loop a₀ s plus o p count step i₀ a i = count - i
+fits0 : (c : tie.After-t1) → SFits w64 (at (c .before .before .args .t2 .taps) 0)
+fits0 c = sfits-of (c .before .t .given)
 
-writes : (c : tie.In-loop Inv-loop μ-loop) → c .before .before .args .p + c .before .before .args .step * c .before .loop .i < length (c .before .loop .a)
-writes c = rw (c .before .loop .inv .long) (c .before .before .pre .writes (c .before .loop .i) (c .loop-test .taken))
+fits1 : (c : tie.After-t1) → SFits w64 (at (c .before .before .args .t2 .taps) 1)
+fits1 c = sfits-of (c .t1 .given)
 
-loop-holds : tie.Need-loop-holds Inv-loop μ-loop
-loop-holds c = record { i-le = omega arith; long = refl; now-is = ran-none (stageOf (c .args .s)) (c .args .plus) (c .args .o) (c .args .p) (c .args .step) (c .args .a .now) }
+element-copy-out-t : tie.Need-element-copy-out-t
+element-copy-out-t c = search needs
 
-mul-x : tie.Need-mul-x Inv-loop μ-loop
-mul-x c = omega (arith, writes c)
+element-copy-out-t1 : tie.Need-element-copy-out-t1
+element-copy-out-t1 c = search needs
 
-tap-sum-requires : tie.Need-tap-sum-requires Inv-loop μ-loop
-tap-sum-requires c κs =
-    let st = c .before .before .before in
-    let l = c .before .before .loop in
-    record { legal = st .pre .legal; long = st .pre .long; inside = λ j h. rw (l .inv .long) (st .pre .inside (l .i) j (c .before .loop-test .taken) h) }
+array-read-i : tie.Need-array-read-i
+array-read-i c = search needs
 
-scaled-requires : tie.Need-scaled-requires Inv-loop μ-loop
-scaled-requires c κs = c .before .before .before .before .pre .legal .shift-le
+array-read-j : tie.Need-array-read-j
+array-read-j c = search needs
 
-add-k : tie.Need-add-k Inv-loop μ-loop
-add-k c = omega (arith, writes (c .before .before .before))
-
-mul-v : tie.Need-mul-v Inv-loop μ-loop
-mul-v c = omega (arith, writes (c .before .before .before))
-
-slice-copy-out-v : tie.Need-slice-copy-out-v Inv-loop μ-loop
-slice-copy-out-v c = omega (arith, writes (c .before .before .before))
-
-change-requires : tie.Need-change-requires Inv-loop μ-loop
-change-requires c κs = tt
-
-mul-y : tie.Need-mul-y Inv-loop μ-loop
-mul-y c = omega (arith, writes (c .before .before .before .before .before))
-
-slice-set-from-y : tie.Need-slice-set-from-y Inv-loop μ-loop
-slice-set-from-y c = omega (arith, writes (c .before .before .before .before .before))
-
-add-i : tie.Need-add-i Inv-loop μ-loop
-add-i c = omega arith
-
-loop-less : tie.Need-loop-less Inv-loop μ-loop
-loop-less c = omega arith
-
-loop-again : tie.Need-loop-again Inv-loop μ-loop
-unfolding stageOf
-loop-again c =
-    let st = c .before .before .before .before .before .before .before in
-    let l = c .before .before .before .before .before .before .loop in
+run-two-requires : tie.Need-run-two-requires
+run-two-requires c κs =
+    let st = c .before .before .before .before .before .before in
     let a = st .args in
-    let s = a .s in
-    let x = a .step * l .i in
-    let t = c .before .before .before .tap-sum in
-    let d = c .before .before .scaled in
-    let ft : SFits w64 (t .result) = sfits-of (t .ok) in
-    let fd : SFits w64 (d .result) = sfits-of (d .ok) in
-    let fv : SFits w64 (at (l .a) (a .p + x)) = sfits-of (c .before .v .given) in
-    let e1 = simp (toZ-ofZ, ft) at (d .ensures) in
-    let e2 = simp (toZ-ofZ, fv, fd) at (c .change .ensures) in
-    let sum : t .result ≡ tapsTo (stageOf s .taps) (a .o) x (l .a) (length (stageOf s .taps)) =
-    t .ensures ∙ dot-take wrap (s .taps) (s .count) (λ j. at (l .a) (getD (a .o) j 0 + x)) (omega (arith, st .pre .legal .long, st .pre .legal .count-le)) in
-    let v : toZ w64 (ofZ w64 (c .change .result)) ≡ valueOf (stageOf s) (a .plus) (a .o) (a .p) x (l .a) =
-    toZ-ofZ (sfits-of (c .change .ok)) ∙ e2 ∙ ap (change wrap (a .plus) (at (l .a) (a .p + x))) (e1 ∙ ap (scaled wrap (stageOf s)) sum) in
-    record {
-      i-le = omega arith;
-      long = simp length-set (l .inv .long);
-      now-is = ap (set (l .a) (a .p + x)) v ∙ ran-turn s (a .plus) (a .o) (a .p) (a .count) (a .step) (l .i) (a .a .now) (l .a) (st .pre) (c .before .before .before .before .before .loop-test .taken) (l .inv .now-is);
-    }
+    two-runs (a .t2) (pos 1) (a .t4) (c .before .before .before .if1 .taken) (a .a .now) (a .p) (a .count) (a .step) (st .pre)
 
-same-length : tie.Need-same-length Inv-loop μ-loop
-same-length c = c .before .loop .inv .long
+same-length : tie.Need-same-length
+same-length c = search needs
 
-returns : tie.Need-returns Inv-loop μ-loop
+returns : tie.Need-returns
 returns c =
-    let l = c .before .loop in
-    let a = c .before .before .args in
-    let e : l .i ≡ a .count = omega arith in
-    l .inv .now-is ∙ ap (λ (m : ℕ). ran (stageOf (a .s)) (a .plus) (a .o) (a .p) (a .step) m (a .a .now)) e
+    let two = c .before .before .before .before in
+    let t1 = two .before .before in
+    let st = t1 .before .before in
+    let a = st .args in
+    let s = a .t2 in
+    let one = c .before .before .before .if3 .taken in
+    c .before .run-two .ensures
+    ∙ two-ran s (pos 1) (a .t4) (two .before .if1 .taken) (by-bits (at (s .taps) 0) 1 (fits0 t1) one) (by-bits (at (s .taps) 1) 1 (fits1 t1) (equal two ∙ one))
+    (st .pre .legal) (a .plus) (a .p) (a .step) (a .count) (a .a .now)
+
+run-two-requires-2 : tie.Need-run-two-requires-2
+run-two-requires-2 c κs =
+    let st = c .before .before .before .before .before .before in
+    let a = st .args in
+    two-runs (a .t2) (toZ w64 (ofZ w64 (at (a .t2 .taps) 0))) (a .t4) (c .before .before .before .if1 .taken) (a .a .now) (a .p) (a .count) (a .step) (st .pre)
+
+same-length-2 : tie.Need-same-length-2
+same-length-2 c = search needs
+
+returns-2 : tie.Need-returns-2
+returns-2 c =
+    let two = c .before .before .before .before in
+    let t1 = two .before .before in
+    let st = t1 .before .before in
+    let a = st .args in
+    let s = a .t2 in
+    let n = ofZ w64 (at (s .taps) 0) in
+    c .before .run-two2 .ensures
+    ∙ two-ran s (toZ w64 n) (a .t4) (two .before .if1 .taken) (by-bits (at (s .taps) 0) n (fits0 t1) refl) (by-bits (at (s .taps) 1) n (fits1 t1) (equal two))
+    (st .pre .legal) (a .plus) (a .p) (a .step) (a .count) (a .a .now)
+
+run-taps-requires : tie.Need-run-taps-requires
+run-taps-requires c κs = search needs
+
+same-length-3 : tie.Need-same-length-3
+same-length-3 c = search needs
+
+returns-3 : tie.Need-returns-3
+returns-3 c = search needs
 
 pub run-spec : {M : Type 1} → statement M
 run-spec =
     tie.close
     (tie.spec
-    Inv-loop
-    μ-loop
-    loop-holds
-    mul-x
-    tap-sum-requires
-    scaled-requires
-    add-k
-    mul-v
-    slice-copy-out-v
-    change-requires
-    mul-y
-    slice-set-from-y
-    add-i
-    loop-less
-    loop-again
+    element-copy-out-t
+    element-copy-out-t1
+    array-read-i
+    array-read-j
+    run-two-requires
     same-length
-    returns)
+    returns
+    run-two-requires-2
+    same-length-2
+    returns-2
+    run-taps-requires
+    same-length-3
+    returns-3)
