@@ -31,12 +31,15 @@ abs-read z m h e = rw (toZ-ofZ {w = w64} h) at e
 pub quarter : (m f : ℕ) → 4 ≤ f → m ≤ 2 ^ 63 → m / f ≤ 2 ^ 61
 quarter m f h l = div-le-of-le-mul f (le-trans (omega arith) (mul-le-mul-right (2 ^ 61) h))
 
--- ---- four times m over f: m itself at the factor 4, and no more at any other
+-- ---- four times m over f: m itself at the factor 4, no more at any other, and 0 where f is larger
 pub over-four : (m f : ℕ) → f ≡ 4 → m ≡ 4 * m / f
 over-four m f e = rw e (omega arith)
 
 pub over-more : (m f : ℕ) → 4 ≤ f → 4 * m / f ≤ m
 over-more m f h = div-le-of-le-mul f (mul-le-mul-right m h)
+
+pub over-none : (m f : ℕ) → 4 * m < f → 0 ≡ 4 * m / f
+over-none m f h = let l = div-lt-iff-lt-mul {k = f} {x = 4 * m} {y = 1} (omega arith) .1 (omega arith) in omega arith
 
 -- ---- four times m over f: a quotient and a remainder doubled twice
 pub four-times : (f m : ℕ) (a b c : Quotient) → a .quotient ≡ m / f → a .remainder ≡ m % f → Doubles f a b → Doubles f b c → c .quotient ≡ 4 * m / f

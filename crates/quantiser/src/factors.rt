@@ -300,9 +300,9 @@ pub fn factor_at(index: u32) -> u64
     factor_by(index % 4, one << (index / 4))
 }
 
-// For the layers above.
-pub fn offset_at(index: u32) -> u64
-    requires { ⌜ index ≤ 255 ⌝ }
+// The offset of an index, by its factor. For the layers above.
+pub fn offset_by(index: u32, factor: u64) -> u64
+    requires { ⌜ (factor ≡ quantFactor index) × (factor < 2 ^ 63) ⌝ }
     ensures { λ r. ⌜ (r ≡ quantOffset index) × (r < 2 ^ 63) ⌝ }
 {
     if index == 0 {
@@ -311,5 +311,13 @@ pub fn offset_at(index: u32) -> u64
     if index == 1 {
         return 2;
     }
-    crate::cap(factor_at(index) + 1) / 2
+    crate::cap(factor + 1) / 2
+}
+
+// For the layers above.
+pub fn offset_at(index: u32) -> u64
+    requires { ⌜ index ≤ 255 ⌝ }
+    ensures { λ r. ⌜ (r ≡ quantOffset index) × (r < 2 ^ 63) ⌝ }
+{
+    offset_by(index, factor_at(index))
 }

@@ -128,13 +128,16 @@ pub fn forward_by(c: i64, f: u64) -> i64
     signed(c, cap(four_over(m, f)))
 }
 
-// How far forward_by's number is from 0, where nothing is capped. For the layers above.
+// How far forward_by's number is from 0, where nothing is capped; without a division where it is 0. For the layers above.
 pub fn forward_size(c: i64, f: u64) -> u64
     requires { ⌜ ((4 ≤ f) × (f < 2 ^ 63)) × (natAbs c < 2 ^ 60) ⌝ }
     ensures { λ r. ⌜ (r ≡ natAbs (forwardBy f c)) × (r ≤ 2 ^ 60) ⌝ }
 {
     let m = codewords::unsigned_abs(c);
-    if f == 4 { m } else { 4 * m / f }
+    if f == 4 {
+        return m;
+    }
+    if 4 * m < f { 0 } else { 4 * m / f }
 }
 
 // The place of the leading one of n / f, without the quotient: f, moved up until its leading one is at n's place, is above n or not.
