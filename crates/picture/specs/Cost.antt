@@ -48,15 +48,23 @@ addLen c n = fitted (kept c (eqb n 1) (c .bits + n))
 abbrev pub add1 : Cost → ℤ → Cost
 add1 c z = fitted (kept c (isZero z) (c .bits + length (codeS z)))
 
-unfoldable pub addAll : Cost → List ℤ → Cost
-addAll c [] = c
-addAll c (z ∷ zs) = addAll (add1 c z) zs
+-- number by number
+module _ {A : Type 0} (step : A → ℤ → A) where
+  unfoldable pub added : A → List ℤ → A
+  added c [] = c
+  added c (z ∷ zs) = added (step c z) zs
+
+abbrev pub addAll : Cost → List ℤ → Cost
+addAll = added add1
 
 -- nothing yet
 abbrev pub noCost : ℕ → Cost
 noCost room = record { room = room; bits = 0; count = 0; «kept_bits» = 0; keep = 0; «fit_bits» = 0; fit = 0 }
 
--- n more numbers can be added
-pub record Countable (c : Cost) (n : ℕ) : Type 0 where
-  pub bits : c .bits ≤ 128 * c .count
-  pub count : c .count + n ≤ 2 ^ 40
+-- n more numbers can be added to so many of so many bits
+pub record Counted (bits-so-far so-far n : ℕ) : Type 0 where
+  pub bits : bits-so-far ≤ 128 * so-far
+  pub count : so-far + n ≤ 2 ^ 40
+
+abbrev pub Countable : Cost → ℕ → Type 0
+Countable c = Counted (c .bits) (c .count)

@@ -20,7 +20,8 @@ use Rattle.picture.specs.declared.strip.Strip.{Strip}
 use Rattle.picture.specs.declared.cost.Cost.{Cost}
 use Rattle.picture.specs.Run.{numberIn, secondNumber, placeNumbers}
 use Rattle.picture.specs.RunLaws.{second-one, second-none, place-is}
-use Rattle.picture.specs.Cost.{isZero, fitted, kept, addLen, add1, addAll, noCost, Countable, Kept}
+use Rattle.picture.specs.Cost.{isZero, fitted, kept, addLen, add1, added, addAll, noCost, Countable, Kept}
+use Rattle.picture.specs.AddedLaws.{added-one}
 
 -- ---- one number, as the code adds it
 pub kept-yes : (c : Cost) (none : Bool) (n : ℕ) → none ≡ true
@@ -54,7 +55,7 @@ pub fitted-no : (c : Cost) → c .room < c .bits → c ≡ fitted c
 fitted-no c h = sym (fitted-by c false (lt-leb (c .bits) (c .room) h))
 
 -- only the code word of 0 has one bit
-one-bit : (z : ℤ) (n : ℕ) → n ≡ length (codeS z) → eqb n 1 ≡ isZero z
+pub one-bit : (z : ℤ) (n : ℕ) → n ≡ length (codeS z) → eqb n 1 ≡ isZero z
 one-bit (pos zero) n e = eq-eqb n 1 (e ∙ length-codeS-zero (pos zero) refl)
 one-bit (pos (suc m)) n e = ne-eqb n 1 (λ d. omega (arith, e, length-codeS (pos (suc m)) (omega arith)))
 one-bit (negsuc m) n e = ne-eqb n 1 (λ d. omega (arith, e, length-codeS (negsuc m) (omega arith)))
@@ -62,56 +63,14 @@ one-bit (negsuc m) n e = ne-eqb n 1 (λ d. omega (arith, e, length-codeS (negsuc
 pub added-len : (c : Cost) (z : ℤ) (n : ℕ) (r : Cost) → n ≡ length (codeS z) → r ≡ addLen c n → r ≡ add1 c z
 added-len c z n r e d = d ∙ ap₂ (λ (b : Bool) (n : ℕ). fitted (kept c b (c .bits + n))) (one-bit z n e) e
 
--- ---- one after the other
-pub added-append : (c : Cost) (xs ys : List ℤ) → addAll c (xs ++ ys) ≡ addAll (addAll c xs) ys
-unfolding addAll
-added-append c [] ys = refl
-added-append c (z ∷ xs) ys = added-append (add1 c z) xs ys
-
-pub added-none : (c : Cost) → addAll c [] ≡ c
-unfolding addAll
-added-none c = refl
-
-pub added-one : (c : Cost) (z : ℤ) → addAll c (z ∷ []) ≡ add1 c z
-unfolding addAll
-added-one c z = refl
-
--- ---- the numbers of a place
-module _ (l : List ℤ) (s : Strip) (y x : ℕ) (c : Cost) where
-  pub second-yes : {r : Cost} (z : ℤ) → s .pair ≡ true → z ≡ numberIn l s (s .coefs2) (s .rebuilt2) y x → r ≡ add1 c z → r ≡ addAll c (secondNumber l s y x)
-  second-yes z t e h = h ∙ sym (added-one c z) ∙ ap (addAll c) (sym (second-one l s y x z t e))
-
-  pub second-no : s .pair ≡ false → c ≡ addAll c (secondNumber l s y x)
-  second-no t = sym (added-none c) ∙ ap (addAll c) (sym (second-none l s y x t))
-
-  pub place-added : (d r : Cost) (z : ℤ) → z ≡ numberIn l s (s .coefs) (s .rebuilt) y x → d ≡ add1 c z → r ≡ addAll d (secondNumber l s y x) → r ≡ addAll c (placeNumbers l s y x)
-  place-added d r z e h f =
-      f ∙ ap (λ (d : Cost). addAll d (secondNumber l s y x)) (h ∙ sym (added-one c z))
-      ∙ sym (added-append c (z ∷ []) (secondNumber l s y x)) ∙ ap (addAll c) (sym (place-is l s y x z e))
-
--- ---- part after part
-pub added-turn : (F : ℕ → List ℤ) (c t u : Cost) (from x : ℕ) → from ≤ x → t ≡ addAll c (chunks F (x - from)) → u ≡ addAll t (F (x - from)) → u ≡ addAll c (chunks F (x + 1 - from))
-unfolding chunks
-added-turn F c t u from x h e f =
-    let k : ℕ = x - from in
-    let d : x + 1 - from ≡ suc k = omega arith in
-    f ∙ ap (λ (t : Cost). addAll t (F k)) e ∙ sym (added-append c (chunks F k) (F k)) ∙ ap (λ (n : ℕ). addAll c (chunks F n)) (sym d)
-
-pub added-chunks-none : (F : ℕ → List ℤ) (c : Cost) (x : ℕ) → c ≡ addAll c (chunks F (x - x))
-unfolding addAll chunks
-added-chunks-none F c x = let e : x - x ≡ 0 = omega arith in ap (λ (n : ℕ). addAll c (chunks F n)) (sym e)
-
-pub added-all : (F : ℕ → List ℤ) (c t : Cost) (xs : List ℤ) (from x to : ℕ) → x ≡ to → t ≡ addAll c (chunks F (x - from)) → xs ≡ chunks F (to - from) → t ≡ addAll c xs
-added-all F c t xs from x to e h f = h ∙ ap (λ (k : ℕ). addAll c (chunks F (k - from))) e ∙ ap (addAll c) (sym f)
-
 -- ---- what has been added up
 pub added-count : (c : Cost) (xs : List ℤ) → addAll c xs .count ≡ c .count + length xs
-unfolding addAll fitted kept
+unfolding added fitted kept
 added-count c [] = omega arith
 added-count c (z ∷ xs) = added-count (add1 c z) xs ∙ omega arith
 
 pub added-bits : (c : Cost) (xs : List ℤ) → addAll c xs .bits ≡ c .bits + bitsOf xs
-unfolding addAll fitted kept codes
+unfolding added fitted kept codes
 added-bits c [] = omega arith
 added-bits c (z ∷ xs) = added-bits (add1 c z) xs ∙ omega (arith, length-append (codeS z) (codes xs))
 
@@ -123,7 +82,7 @@ countable-after c xs m n h s l =
     record { bits = omega (arith, bits-most xs s, h .bits); count = omega (arith, h .count) }
 
 pub countable-one : (c d : Cost) (z : ℤ) → Countable c 2 → natAbs z ≤ 2 ^ 63 → d ≡ add1 c z → Countable d 1
-countable-one c d z h s e = rw (e ∙ sym (added-one c z)) (countable-after c (z ∷ []) 2 1 h (s, tt) (omega arith))
+countable-one c d z h s e = rw (e ∙ sym (added-one add1 c z)) (countable-after c (z ∷ []) 2 1 h (s, tt) (omega arith))
 
 -- k rows are added, and the next one has at most 2 w numbers
 pub strip-room : (k n w len : ℕ) → k < n → len ≤ k * (w * 2) → len + 2 * w ≤ 2 * (n * w)
@@ -221,7 +180,7 @@ one-more room xs r z h =
 
 -- a run behind another
 pub cost-more : (room : ℕ) (xs ys : List ℤ) (r : Cost) → CostOf room xs r → CostOf room (xs ++ ys) (addAll r ys)
-unfolding addAll
+unfolding added
 cost-more room xs [] r h = rw (append-nil xs) h
 cost-more room xs (z ∷ ys) r h = rw (← append-snoc xs z ys) (cost-more room (xs ++ (z ∷ [])) ys (add1 r z) (one-more room xs r z h))
 

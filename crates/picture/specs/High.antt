@@ -16,7 +16,6 @@ use Rattle.unit.specs.declared.PictureKind.the-variants.{HighQuality}
 use Rattle.unit.specs.declared.RateControl.{RateControl}
 use Rattle.unit.specs.declared.RateControl.the-variants.{Lossless, FixedQuantIndex, PictureBytes}
 use Rattle.unit.specs.Three.{Three}
-use Rattle.unit.specs.Trim.{trimmed, trimmedCost}
 use Rattle.unit.specs.Elect.{elect}
 use Rattle.unit.specs.Plan.{SlicePlan}
 use Rattle.unit.specs.Valid.{RateFits}
@@ -32,6 +31,7 @@ use Rattle.picture.specs.declared.high_index.Range.{Range}
 use Rattle.picture.specs.declared.slice_coder.SliceCoder.{SliceCoder}
 use Rattle.picture.specs.declared.high_plan.Settled.{Settled}
 use Rattle.picture.specs.Run.{Small}
+use Rattle.picture.specs.Tally.{trimmedOf}
 use Rattle.picture.specs.Picture.{slicesIn, numbersIn, Arranged}
 
 -- whether a slice of prefix p and scaler c whose numbers at index q are z q fits its share
@@ -72,10 +72,6 @@ slicesBy w p s m c = plansIn w p (termsOf s m c) (slicesIn p)
 -- the three components' bits
 abbrev pub threeBits : ℕ → Three (List ℤ) → Bits
 threeBits c z = componentBits c (z .y) ++ (componentBits c (z .c1) ++ componentBits c (z .c2))
-
--- a run without trailing zeros: how many numbers, and their bits
-abbrev pub trimmedOf : List ℤ → Trimmed
-trimmedOf xs = record { count = length (trimmed xs); bits = trimmedCost xs }
 
 -- the choice of index q for a slice whose numbers at an index are z
 abbrev pub choiceBy : (ℕ → Three (List ℤ)) → ℕ → Choice

@@ -38,7 +38,8 @@ use Rattle.picture.specs.LayoutLaws.{start-next, band-fits, bandNumbers,
 use Rattle.picture.specs.StripLaws.{strip-part}
 use Rattle.picture.specs.NumberLaws.{length-region}
 use Rattle.picture.specs.Picture.{slicesIn, runOf, numbersIn, Arranged, SliceIn}
-use Rattle.picture.specs.High.{fitsBy, indexBy, indexIn, trimmedOf, choiceBy, choiceIn, needsBy, isTarget, FewBits, TermsIn, PlanIn, NeedsOf}
+use Rattle.picture.specs.Tally.{trimmedOf}
+use Rattle.picture.specs.High.{fitsBy, indexBy, indexIn, choiceBy, choiceIn, needsBy, isTarget, FewBits, TermsIn, PlanIn, NeedsOf}
 
 -- ---- what a component needs
 module _ (w : List ℤ) (l : Layout) (c : Component) (k q : ℕ) where
@@ -57,12 +58,6 @@ module _ (w : List ℤ) (l : Layout) (c : Component) (k q : ℕ) where
       let n : ℕ = l .«depth_ho» + 3 * l .depth in
       let e : bandCount l ≡ suc n = omega arith in
       omega (arith, run-many (bandCount l), ap (startOf l c) e, start-next l c n, band-fits l c n (omega arith))
-
--- the cost of numbers says what they are without trailing zeros
-pub trimmed-is : (xs : List ℤ) (r : Cost) → r ≡ addAll (noCost 0) xs → _≡_ {A = Trimmed} (record { count = r .keep; bits = r .«kept_bits» }) (trimmedOf xs)
-trimmed-is xs r e =
-    let h = cost-of 0 xs in
-    ap (λ (r : Cost). record { count = r .keep; bits = r .«kept_bits» }) e ∙ ap₂ (λ (n b : ℕ). record { count = n; bits = b }) (h .keep) (h .kept-bits)
 
 -- a component's run is short
 run-few : (w : List ℤ) (p : Picture) (c : Component) (k q : ℕ) → c .width * c .height ≤ 67108864

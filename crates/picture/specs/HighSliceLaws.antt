@@ -29,7 +29,8 @@ use Rattle.picture.specs.declared.high_index.Terms.{Terms}
 use Rattle.picture.specs.CostLaws.{trimmed-prefix}
 use Rattle.picture.specs.HeadLaws.{room-less, room-first, room-rest}
 use Rattle.picture.specs.Picture.{slicesIn, runOf, numbersIn, SliceIn}
-use Rattle.picture.specs.High.{indexIn, planIn, highRuns, threeBits, trimmedOf, choiceBy, choiceIn, PlanIn}
+use Rattle.picture.specs.Tally.{trimmedOf}
+use Rattle.picture.specs.High.{indexIn, planIn, highRuns, threeBits, choiceBy, choiceIn, PlanIn}
 
 -- ---- a component
 -- its kept numbers, and the ones that fill n scalers of c bytes

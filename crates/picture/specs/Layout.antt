@@ -12,6 +12,7 @@ use Rattle.unit.specs.Slices.{Grid, count, top, bottom, left, right}
 use Rattle.picture.specs.declared.strip.Strip.{Strip}
 use Rattle.picture.specs.declared.layout.Component.{Component}
 use Rattle.picture.specs.declared.layout.Layout.{Layout}
+use Rattle.picture.specs.declared.layout.Window.{Window}
 use Rattle.picture.specs.Run.{Small, stripNumbers}
 
 -- the level of the n-th subband: 0, the horizontal-only levels, then three to a level
@@ -38,6 +39,19 @@ bandSize l c n =
 unfoldable pub startOf : Layout → Component → ℕ → ℕ
 startOf l c zero = 0
 startOf l c (suc n) = startOf l c n + area (bandSize l c n)
+
+-- what slice k has of the n-th subband: its rows and columns
+unfoldable pub windowOf : Layout → Component → ℕ → ℕ → Window
+windowOf l c n k =
+    let z = bandSize l c n in
+    record {
+      width = z .width;
+      height = z .height;
+      top = top (gridIn l) z k;
+      bottom = bottom (gridIn l) z k;
+      left = left (gridIn l) z k;
+      right = right (gridIn l) z k;
+    }
 
 -- what slice k has of the n-th subband at index q
 unfoldable pub stripOf : Layout → Component → Component → Bool → ℕ → ℕ → ℕ → ℕ → Strip
@@ -68,6 +82,12 @@ runNumbers w l c second pair k q zero = []
 runNumbers w l c second pair k q (suc n) =
     runNumbers w l c second pair k q n ++ stripNumbers w (stripOf l c second pair n (startOf l c n) k q)
 
+-- of n subbands behind the first
+unfoldable pub restNumbers : List ℤ → Layout → Component → Component → Bool → ℕ → ℕ → ℕ → List ℤ
+restNumbers w l c second pair k q zero = []
+restNumbers w l c second pair k q (suc n) =
+    restNumbers w l c second pair k q n ++ stripNumbers w (stripOf l c second pair (suc n) (startOf l c (suc n)) k q)
+
 -- ---- conditions
 pub record LayoutIn (l : Layout) : Type 0 where
   pub depths : l .depth + l .«depth_ho» ≤ 5
@@ -80,6 +100,12 @@ pub record ComponentIn (c : Component) : Type 0 where
   pub height : c .height ≤ 65536
   pub coefs : c .coefs < 2 ^ 30
   pub rebuilt : c .rebuilt < 2 ^ 30
+
+pub record WindowIn (l : Layout) (c : Component) (n k : ℕ) : Type 0 where
+  pub layout : LayoutIn l
+  pub first : ComponentIn c
+  pub band : n < bandCount l
+  pub slice : k < count (gridIn l)
 
 pub record StripIn (l : Layout) (c second : Component) (n from k q : ℕ) : Type 0 where
   pub layout : LayoutIn l

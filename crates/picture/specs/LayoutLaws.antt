@@ -2,7 +2,7 @@
 -- band. Assumes nothing.
 use mathlib.Core.Path.{_≡_, refl, sym, ap, ap₂, _∙_}
 use mathlib.Core.Bool.{Bool, true, false, cond, _&&_}
-use mathlib.Core.List.{List, [], _++_}
+use mathlib.Core.List.{List, [], _++_, append-nil, append-assoc}
 use Prim.Native.Nat.{ℕ, zero, suc, _+_, _*_, _-_, _/_, _%_, _^_, _≤_, _<_}
 use native.Mathlib.Nat.{div-div-eq-div-mul, pow-suc, div-one, div-le-self, div-lt-iff-lt-mul, mod-lt, mul-comm, mul-assoc}
 use native.Mathlib.Numerals.{add-one}
@@ -26,13 +26,18 @@ use Rattle.picture.specs.declared.cost.Cost.{Cost}
 use Rattle.picture.specs.declared.put.Put.{Put}
 use Rattle.picture.specs.declared.layout.Component.{Component}
 use Rattle.picture.specs.declared.layout.Layout.{Layout}
-use Rattle.picture.specs.Run.{stripNumbers, Small, Within}
+use Rattle.picture.specs.declared.layout.Window.{Window}
+use Rattle.picture.specs.declared.tally.Tally.{Tally}
+use Rattle.picture.specs.Run.{stripNumbers, Small, Within, Plain}
 use Rattle.picture.specs.RunLaws.{rows-small, rows-length}
-use Rattle.picture.specs.Cost.{addAll, Countable}
-use Rattle.picture.specs.CostLaws.{added-none, added-append, countable-after}
+use Rattle.picture.specs.Cost.{add1, addAll, noCost, Countable}
+use Rattle.picture.specs.AddedLaws.{added-none, added-append}
+use Rattle.picture.specs.CostLaws.{countable-after}
+use Rattle.picture.specs.Tally.{tally1, tallyAll, noTally, Addable}
+use Rattle.picture.specs.TallyLaws.{addable-after, tally-of, TallyOf}
 use Rattle.picture.specs.Put.{RoomFor, Puts}
 use Rattle.picture.specs.PutLaws.{puts-none, puts-same, puts-then, room-same, part-room}
-use Rattle.picture.specs.Layout.{levelOf, bandCount, gridIn, bandSize, startOf, stripOf, runNumbers, LayoutIn, StripIn, RunIn}
+use Rattle.picture.specs.Layout.{levelOf, bandCount, gridIn, bandSize, startOf, windowOf, stripOf, runNumbers, restNumbers, LayoutIn, WindowIn, StripIn, RunIn}
 
 -- ---- levels
 pub level-low : (k n : ℕ) → n ≤ k → levelOf k n ≡ n
@@ -245,14 +250,44 @@ module _ (w : List ℤ) (l : Layout) (c second : Component) (pair : Bool) (k q :
       countable-after t (runNumbers w l c second pair k q n) _ _ u (run-small n)
       (omega (arith, run-length n, partSize-most (gridIn l) (bandSize l c n) k, band-fits l c n h))
 
--- a strip as the code puts it together
-pub strip-is : (l : Layout) (c second : Component) (pair : Bool) (n start k q : ℕ) (z : Size) (t b x y i f o : ℕ) (p : Bool)
+-- ---- windows
+-- as the code puts one together
+pub window-is : (l : Layout) (c : Component) (n k : ℕ) (z : Size) (t b x y : ℕ)
     → z ≡ bandSize l c n
-    → i ≡ bandIndex q (getD (l .values) n 0)
     → t ≡ bound (l .down) (z .height) (k / l .across)
     → b ≡ bound (l .down) (z .height) (k / l .across + 1)
     → x ≡ bound (l .across) (z .width) (k % l .across)
     → y ≡ bound (l .across) (z .width) (k % l .across + 1)
+    → record { width = z .width; height = z .height; top = t; bottom = b; left = x; right = y } ≡ windowOf l c n k
+unfolding windowOf
+window-is l c n k z t b x y ez et eb ex ey = rw (et, eb, ex, ey, ez, add-one (k / l .across), add-one (k % l .across))
+
+same-third : (i j : ℕ) → i ≡ suc j → (i % 3 ≡ 0 → ⊥) → j / 3 ≡ i / 3
+same-third i j e d = omega (arith, d)
+
+-- the subbands of a level are alike
+pub window-same : (l : Layout) (c : Component) (n k : ℕ) → l .«depth_ho» < n → ((n - l .«depth_ho») % 3 ≡ 1 → ⊥) → windowOf l c (n - 1) k ≡ windowOf l c n k
+unfolding windowOf bandSize
+window-same l c n k h d =
+    let m : ℕ = l .«depth_ho» in
+    let g : m < n - 1 = above n m h d in
+    let e : (n - 1 - 1 - m) / 3 ≡ (n - 1 - m) / 3 = same-third (n - 1 - m) (n - 1 - 1 - m) (omega (arith, g)) (rest n m h d) in
+    rw (level-high m (n - 1) g ∙ ap (λ (i : ℕ). m + 1 + i) e ∙ sym (level-high m n h))
+  where
+    rest : (n m : ℕ) → m < n → ((n - m) % 3 ≡ 1 → ⊥) → (n - 1 - m) % 3 ≡ 0 → ⊥
+    rest n m h d e = let i : n - m ≡ suc (n - 1 - m) = omega arith in d (rw i (omega (arith, e)))
+
+    above : (n m : ℕ) → m < n → ((n - m) % 3 ≡ 1 → ⊥) → m < n - 1
+    above n m h d = by (decLe n (suc m))
+      where
+        by : Dec (n ≤ suc m) → m < n - 1
+        by (yes l) = let i : n - m ≡ 1 = omega arith in absurd (d (rw i refl))
+        by (no l) = omega arith
+
+-- a strip by its window
+pub strip-by : (l : Layout) (c second : Component) (pair : Bool) (n start k q : ℕ) (v : Window) (i f o : ℕ) (p : Bool)
+    → v ≡ windowOf l c n k
+    → i ≡ bandIndex q (getD (l .values) n 0)
     → f ≡ quantFactor i
     → o ≡ quantOffset i
     → p ≡ (l .predicted && eqb n 0)
@@ -261,21 +296,46 @@ pub strip-is : (l : Layout) (c second : Component) (pair : Bool) (n start k q : 
       rebuilt = c .rebuilt;
       coefs2 = second .coefs + start;
       rebuilt2 = second .rebuilt;
-      width = z .width;
-      height = z .height;
-      top = t;
-      bottom = b;
-      left = x;
-      right = y;
+      width = v .width;
+      height = v .height;
+      top = v .top;
+      bottom = v .bottom;
+      left = v .left;
+      right = v .right;
       index = i;
       factor = f;
       offset = o;
       predicted = p;
       pair = pair;
     } ≡ stripOf l c second pair n start k q
-unfolding stripOf
-strip-is l c second pair n start k q z t b x y i f o p ez ei et eb ex ey ef eo ep =
-    rw (ep, ef, eo, et, eb, ex, ey, ei, ez, add-one (k / l .across), add-one (k % l .across))
+unfolding stripOf windowOf
+strip-by l c second pair n start k q v i f o p ev ei ef eo ep = rw (ep, ef, eo, ev, ei)
+
+-- the window of the band before the n-th, at first and in each turn of a loop
+pub window-first : (l : Layout) (c : Component) (k : ℕ) (v : Window) → v ≡ windowOf l c 0 k → v ≡ windowOf l c (0 - 1) k
+window-first l c k v e = let d : 0 ≡ 0 - 1 = omega arith in e ∙ ap (λ (n : ℕ). windowOf l c n k) d
+
+pub window-turn : (l : Layout) (c : Component) (n k : ℕ) (v : Window) → v ≡ windowOf l c n k → v ≡ windowOf l c (n + 1 - 1) k
+window-turn l c n k v e = let d : n ≡ n + 1 - 1 = omega arith in e ∙ ap (λ (n : ℕ). windowOf l c n k) d
+
+-- the first subband's area
+pub window-area : (l : Layout) (c : Component) (k : ℕ) (v : Window) → v ≡ windowOf l c 0 k → v .width * v .height ≡ startOf l c 1
+unfolding windowOf
+window-area l c k v e =
+    let f : area (bandSize l c 0) ≡ startOf l c 1 = omega (arith, start-first l c, start-next l c 0) in
+    ap (λ (v : Window). v .width * v .height) e ∙ f
+
+pub window-few : {l : Layout} {c second : Component} {a e k q : ℕ} {w : List ℤ} → RunIn l c second a e k q w → (v : Window) → v ≡ windowOf l c 0 k → v .width * v .height < 2 ^ 30
+window-few {l} {c} {second} {a} {e} {k} h v d =
+    omega (arith, window-area l c k v d, start-first l c, start-next l c 0, band-fits l c 0 (omega arith), h .coefs, h .small .few)
+
+-- what a window asks
+module _ {l : Layout} {c second : Component} {k q : ℕ} where
+  pub strip-window : {n start : ℕ} → StripIn l c second n start k q → WindowIn l c n k
+  strip-window h = record { layout = h .layout; first = h .first; band = h .band; slice = h .slice }
+
+  pub run-window : {a e : ℕ} {w : List ℤ} → RunIn l c second a e k q w → (n : ℕ) → n < bandCount l → WindowIn l c n k
+  run-window h n b = record { layout = h .layout; first = h .first; band = b; slice = h .slice }
 
 -- ---- turns of the loops over the bands
 module _ (l : Layout) (c second : Component) (pair : Bool) (k q : ℕ) where
@@ -295,13 +355,13 @@ module _ (w : List ℤ) (l : Layout) (c second : Component) (pair : Bool) (k q :
 
   -- costs
   pub cost-none : (t : Cost) → t ≡ addAll t (runNumbers w l c second pair k q 0)
-  cost-none t = sym (ap (addAll t) (run-none w l c second pair k q) ∙ added-none t)
+  cost-none t = sym (ap (addAll t) (run-none w l c second pair k q) ∙ added-none add1 t)
 
   pub cost-turn : (t r u : Cost) (s : Strip) (n : ℕ) → s ≡ bandStrip l c second pair k q n → r ≡ addAll t (runNumbers w l c second pair k q n)
       → u ≡ addAll r (stripNumbers w s) → u ≡ addAll t (runNumbers w l c second pair k q (n + 1))
   cost-turn t r u s n e d f =
       f ∙ ap₂ (λ (r : Cost) (s : Strip). addAll r (stripNumbers w s)) d e
-      ∙ sym (added-append t (runNumbers w l c second pair k q n) (bandNumbers w l c second pair k q n)) ∙ ap (addAll t) (run-turn n)
+      ∙ sym (added-append add1 t (runNumbers w l c second pair k q n) (bandNumbers w l c second pair k q n)) ∙ ap (addAll t) (run-turn n)
 
   -- what is written
   pub put-none : {o : List ℕ} {p : Put} {n : ℕ} → Room o (p .writer) n → Puts o p (runNumbers w l c second pair k q 0) o p
@@ -333,7 +393,101 @@ module _ (w : List ℤ) (l : Layout) (c second : Component) (pair : Bool) (k q :
           (h .small, strip-within h pair n b),
         )
 
+-- ---- the first subband, and the others
+no-and : (b : Bool) → (b && false) ≡ false
+no-and true = refl
+no-and false = refl
+
+module _ (w : List ℤ) (l : Layout) (c second : Component) (pair : Bool) (k q : ℕ) where
+  -- the strip of level 0
+  abbrev pub firstStrip : Strip
+  firstStrip = stripOf l c second pair 0 0 k q
+
+  pub rest-none : restNumbers w l c second pair k q 0 ≡ []
+  unfolding restNumbers
+  rest-none = refl
+
+  rest-next : (n : ℕ) → restNumbers w l c second pair k q (suc n) ≡ restNumbers w l c second pair k q n ++ bandNumbers w l c second pair k q (suc n)
+  unfolding restNumbers
+  rest-next n = refl
+
+  pub run-first : (n : ℕ) → runNumbers w l c second pair k q (suc n) ≡ stripNumbers w firstStrip ++ restNumbers w l c second pair k q n
+  unfolding startOf
+  run-first zero =
+      run-next w l c second pair k q 0 ∙ ap (λ (r : List ℤ). r ++ stripNumbers w firstStrip) (run-none w l c second pair k q)
+      ∙ sym (ap (λ (r : List ℤ). stripNumbers w firstStrip ++ r) rest-none ∙ append-nil (stripNumbers w firstStrip))
+  run-first (suc n) =
+      run-next w l c second pair k q (suc n)
+      ∙ ap (λ (r : List ℤ). r ++ bandNumbers w l c second pair k q (suc n)) (run-first n)
+      ∙ append-assoc (stripNumbers w firstStrip) (restNumbers w l c second pair k q n) (bandNumbers w l c second pair k q (suc n))
+      ∙ ap (λ (r : List ℤ). stripNumbers w firstStrip ++ r) (sym (rest-next n))
+
+  pub run-rest : runNumbers w l c second pair k q (bandCount l) ≡ stripNumbers w firstStrip ++ restNumbers w l c second pair k q (bandCount l - 1)
+  run-rest =
+      let e : bandCount l ≡ suc (bandCount l - 1) = omega arith in
+      ap (runNumbers w l c second pair k q) e ∙ run-first (bandCount l - 1)
+
+  rest-small : (n : ℕ) → trim.Small (restNumbers w l c second pair k q n)
+  unfolding restNumbers
+  rest-small zero = tt
+  rest-small (suc n) = small-append (restNumbers w l c second pair k q n) (bandNumbers w l c second pair k q (suc n)) (rest-small n) (rows-small w (bandStrip l c second pair k q (suc n)) _ _)
+
+  rest-length : (n : ℕ) → length (restNumbers w l c second pair k q n) ≤ 2 * startOf l c (suc n)
+  rest-length n =
+      omega (arith, ap length (run-first n), length-append (stripNumbers w firstStrip) (restNumbers w l c second pair k q n), run-length w l c second pair k q (suc n))
+
+  -- tallies
+  pub first-addable : {a e : ℕ} → RunIn l c second a e k q w → c .width * c .height ≤ 67108864 → (t : Tally) → t ≡ tallyAll noTally (stripNumbers w firstStrip)
+      → Addable t (2 * (c .width * c .height))
+  first-addable h m t e =
+      let xs = stripNumbers w firstStrip in
+      rw e (addable-after noTally xs (4 * (c .width * c .height)) (2 * (c .width * c .height)) (record { bits = omega arith; count = omega (arith, m) })
+      (rows-small w firstStrip _ _)
+      (omega (arith, ap length (run-first 0), length-append xs (restNumbers w l c second pair k q 0), run-length w l c second pair k q 1, start-first l c, start-next l c 0, band-fits l c 0 (omega arith))))
+
+  pub tally-whole : (t f : Tally) → f ≡ tallyAll noTally (stripNumbers w firstStrip) → t ≡ tallyAll f (restNumbers w l c second pair k q (bandCount l - 1))
+      → TallyOf (runNumbers w l c second pair k q (bandCount l)) t
+  tally-whole t f e d =
+      tally-of (runNumbers w l c second pair k q (bandCount l)) t
+      (d ∙ ap (λ (f : Tally). tallyAll f (restNumbers w l c second pair k q (bandCount l - 1))) e
+      ∙ sym (added-append tally1 noTally (stripNumbers w firstStrip) (restNumbers w l c second pair k q (bandCount l - 1))) ∙ ap (tallyAll noTally) (sym run-rest))
+
+  pub tally-none : (t : Tally) → t ≡ tallyAll t (restNumbers w l c second pair k q (1 - 1))
+  tally-none t = let e : 1 - 1 ≡ 0 = omega arith in sym (ap (λ (n : ℕ). tallyAll t (restNumbers w l c second pair k q n)) e ∙ ap (tallyAll t) rest-none ∙ added-none tally1 t)
+
+  pub tally-turn : (t r u : Tally) (s : Strip) (n : ℕ) → 1 ≤ n → s ≡ bandStrip l c second pair k q n → r ≡ tallyAll t (restNumbers w l c second pair k q (n - 1))
+      → u ≡ tallyAll r (stripNumbers w s) → u ≡ tallyAll t (restNumbers w l c second pair k q (n + 1 - 1))
+  tally-turn t r u s zero h e d f = absurd (omega arith)
+  tally-turn t r u s (suc n) h e d f =
+      let i : suc n - 1 ≡ n = omega arith in
+      let j : suc n + 1 - 1 ≡ suc n = omega arith in
+      f ∙ ap₂ (λ (r : Tally) (s : Strip). tallyAll r (stripNumbers w s)) (d ∙ ap (λ (m : ℕ). tallyAll t (restNumbers w l c second pair k q m)) i) e
+      ∙ sym (added-append tally1 t (restNumbers w l c second pair k q n) (bandNumbers w l c second pair k q (suc n)))
+      ∙ ap (tallyAll t) (sym (rest-next n)) ∙ ap (λ (m : ℕ). tallyAll t (restNumbers w l c second pair k q m)) (sym j)
+
+  module _ {a e : ℕ} (h : RunIn l c second a e k q w) (s : Strip) (n : ℕ) (b : n < bandCount l) where
+    -- what the next band asks
+    pub tally-ready : (t r : Tally) → 1 ≤ n → s ≡ bandStrip l c second pair k q n → r ≡ tallyAll t (restNumbers w l c second pair k q (n - 1))
+        → Addable t (2 * (c .width * c .height))
+        → Plain a e w s × Addable r (2 * ((s .bottom - s .top) * (s .right - s .left)))
+    unfolding stripOf
+    tally-ready t r g d f u =
+        let m : suc (n - 1) ≡ n = omega arith in
+        rw (f, d) (
+          record { small = h .small; within = strip-within h pair n b; plain = ap (λ (b : Bool). l .predicted && b) (ne-eqb n 0 (omega arith)) ∙ no-and (l .predicted) },
+          addable-after t (restNumbers w l c second pair k q (n - 1)) _ _ u (rest-small (n - 1))
+              (omega (arith, rest-length (n - 1), ap (startOf l c) m, partSize-most (gridIn l) (bandSize l c n) k, band-fits l c n b)),
+        )
+
 -- the strip of level 0
 pub first-within : {l : Layout} {c second : Component} {a e k q : ℕ} {w : List ℤ} → RunIn l c second a e k q w → (pair : Bool) (s : Strip) → s ≡ stripOf l c second pair 0 0 k q → Within a e s
 unfolding startOf
 first-within h pair s e = rw e (strip-within h pair 0 (omega arith))
+
+-- and its numbers can be counted
+pub first-ready : (w : List ℤ) (l : Layout) (c second : Component) (pair : Bool) (k q : ℕ) {a e : ℕ} → RunIn l c second a e k q w → (s : Strip)
+    → c .width * c .height ≤ 67108864 → s ≡ stripOf l c second pair 0 0 k q
+    → Small a e w × (Within a e s × Countable (noCost 0) (2 * ((s .bottom - s .top) * (s .right - s .left))))
+unfolding startOf stripOf
+first-ready w l c second pair k q h s m e =
+    (h .small, (first-within h pair s e, record { bits = omega arith; count = rw e (omega (arith, m, partSize-most (gridIn l) (bandSize l c 0) k, band-fits l c 0 (omega arith))) }))

@@ -5,10 +5,13 @@ pub mod Head
 pub mod HeadLaws
 pub mod Run
 pub mod Cost
+pub mod Tally
 pub mod Put
 pub mod Layout
 pub mod RunLaws
+pub mod AddedLaws
 pub mod CostLaws
+pub mod TallyLaws
 pub mod PutLaws
 pub mod LayoutLaws
 pub mod StripLaws

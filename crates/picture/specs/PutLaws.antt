@@ -3,15 +3,18 @@ use mathlib.Core.Path.{_≡_, refl, sym, ap, _∙_}
 use mathlib.Core.List.{List, [], _∷_, _++_, append-assoc, append-nil}
 use Prim.Native.Nat.{ℕ, zero, suc, _+_, _-_, _≤_, _<_}
 use native.Mathlib.Omega.{arith}
-use lib.IntN.{ℤ}
+use lib.IntN.{ℤ, pos, natAbs}
+use lib.Signed.{ltZ}
 use lib.ListN.{length, take, length-append}
 use lib.Seq.{take-nil}
 use Rattle.laws.specs.Chunks.{chunks}
-use Rattle.codewords.specs.Code.{codeS, codes}
+use Rattle.codewords.specs.Code.{codeS, codeM, codes}
 use Rattle.codewords.specs.CodeLaws.{codes-one, codes-append}
 use Rattle.codewords.specs.Writer.{Sound, Room, Wrote}
 use Rattle.codewords.specs.WriterLaws.{wrote-none, wrote-then, room-after}
 use Rattle.codewords.specs.declared.writer.BitWriter.{BitWriter}
+use Rattle.quantiser.specs.Quant.{forwardBy}
+use Rattle.quantiser.specs.SignLaws.{forward-code}
 use Rattle.picture.specs.declared.put.Put.{Put}
 use Rattle.picture.specs.Put.{RoomFor, Puts}
 
@@ -40,6 +43,10 @@ none-kept n = ap codes (take-nil n)
 zero-kept : (n : ℕ) (xs : List ℤ) → n ≡ 0 → codes (take n xs) ≡ []
 unfolding codes
 zero-kept n xs e = ap (λ (k : ℕ). codes (take k xs)) e
+
+-- the code word by the size of the number and the sign of the coefficient x, as the code reads c
+pub forward-word : (f m : ℕ) (c x : ℤ) → x ≡ c → m ≡ natAbs (forwardBy f x) → codeM m (ltZ x (pos 0)) ≡ codeS (forwardBy f c)
+forward-word f m c x e d = ap (λ (k : ℕ). codeM k (ltZ x (pos 0))) d ∙ sym (forward-code f x) ∙ ap (λ (z : ℤ). codeS (forwardBy f z)) e
 
 -- ---- what has been written
 pub puts-none : {o : List ℕ} {p : Put} {n : ℕ} → Room o (p .writer) n → Puts o p [] o p

@@ -114,6 +114,12 @@ pub record Within (a n : ℕ) (s : Strip) : Type 0 where
   pub offset : s .offset ≡ quantOffset (s .index)
   pub index : s .index ≤ 255
 
+-- a strip that is not predicted, in the work slice
+pub record Plain (a n : ℕ) (l : List ℤ) (s : Strip) : Type 0 where
+  pub small : Small a n l
+  pub within : Within a n s
+  pub plain : s .predicted ≡ false
+
 -- a place of a strip
 pub record Inside (s : Strip) (y x : ℕ) : Type 0 where
   pub below : s .top ≤ y

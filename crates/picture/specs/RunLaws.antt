@@ -150,7 +150,7 @@ small-set {a} {n} {l} i v m h b = record {
     by k q (no e) = rw (getD-set-other l i k v (pos 0) e) (m .bound k q)
 
 -- every number's code word has at most 128 bits
-number-by : (f : ℕ) (c : ℤ) → natAbs (forwardBy f c) ≤ 2 ^ 63
+pub number-by : (f : ℕ) (c : ℤ) → natAbs (forwardBy f c) ≤ 2 ^ 63
 unfolding forwardBy
 number-by f c = omega (arith, abs-signed c (cap (4 * natAbs c / f)), cap-lt (4 * natAbs c / f))
 

@@ -1,6 +1,5 @@
 // The choice of a high-quality slice: its index, the runs of its components there, what they need, the slice's size and share, the election, and
 // the choice noted in the work slice. All of it is for the picture call.
-use crate::cost::Cost;
 use crate::layout::Component;
 use crate::layout::Picture;
 use unit::RateControl;
@@ -14,7 +13,8 @@ ghost use Rattle.unit.specs.Elect.{elect};
 ghost use Rattle.unit.specs.HighQuality.{ceiling, shareOf};
 ghost use Rattle.picture.specs.Layout.{RunIn};
 ghost use Rattle.picture.specs.Picture.{slicesIn, runOf, numbersIn, SliceIn};
-ghost use Rattle.picture.specs.High.{fitsBy, halfOf, trimmedOf, choiceBy, choiceIn, needsBy, noteRun, noteIn, RunAt, FewBits, TermsIn, PlanIn, Notes};
+ghost use Rattle.picture.specs.Tally.{trimmedOf};
+ghost use Rattle.picture.specs.High.{fitsBy, halfOf, choiceBy, choiceIn, needsBy, noteRun, noteIn, RunAt, FewBits, TermsIn, PlanIn, Notes};
 
 // The bytes that the components of a slice need.
 pub struct Needs {
@@ -62,20 +62,12 @@ fn trimmed_run(work: &[i64], p: Picture, c: Component, k: u32, q: u32) -> Trimme
     requires { ⌜ RunIn (p .layout) c c (p .front) (p .end) k q (now work) × (c .width * c .height ≤ 67108864) ⌝ }
     ensures { λ r. ⌜ r ≡ trimmedOf (runOf (now (work .entry)) p c k q) ⌝ }
 {
-    let none = Cost {
-        room: 0,
-        bits: 0,
-        count: 0,
-        kept_bits: 0,
-        keep: 0,
-        fit_bits: 0,
-        fit: 0,
-    };
     let l = p.layout;
-    let t = crate::run::cost_run(work, p.front, p.end, l, c, c, false, k, q, none);
+    let first = crate::run::first_tally(work, p.front, p.end, l, c, c, false, k, q);
+    let t = crate::run::rest_tally(work, p.front, p.end, l, c, c, false, k, q, first);
     Trimmed {
         count: t.keep,
-        bits: t.kept_bits,
+        bits: crate::tally::kept_bits(t),
     }
 }
 

@@ -17,7 +17,8 @@ ghost use Rattle.codewords.specs.Writer.{Room, Wrote};
 ghost use Rattle.unit.specs.HighQuality.{componentBits, highBits};
 ghost use Rattle.picture.specs.Layout.{RunIn};
 ghost use Rattle.picture.specs.Picture.{slicesIn, runOf, numbersIn, SliceIn};
-ghost use Rattle.picture.specs.High.{threeBits, highRuns, trimmedOf, choiceBy, TermsIn, PlanIn, Notes};
+ghost use Rattle.picture.specs.Tally.{trimmedOf};
+ghost use Rattle.picture.specs.High.{threeBits, highRuns, choiceBy, TermsIn, PlanIn, Notes};
 
 // A component of slice k at index q, whose run is t: a byte that counts scalers, its numbers without trailing zeros, and ones.
 fn put_component(

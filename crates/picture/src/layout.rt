@@ -9,7 +9,7 @@ ghost use lib.Dec.{eqb, leb};
 ghost use Rattle.quantiser.specs.Quant.{bandIndex};
 ghost use Rattle.unit.specs.Slices.{bound};
 ghost use Rattle.picture.specs.Sides.{sizeIn};
-ghost use Rattle.picture.specs.Layout.{levelOf, bandSize, stripOf, LayoutIn, StripIn};
+ghost use Rattle.picture.specs.Layout.{levelOf, bandSize, windowOf, stripOf, LayoutIn, WindowIn, StripIn};
 
 // A component: where its coefficients begin, where its rebuilt level-0 plane begins, and its padded sides.
 pub struct Component {
@@ -27,6 +27,16 @@ pub struct Layout {
     pub down: u32,
     pub values: [u32; 25],
     pub predicted: bool,
+}
+
+// What a slice has of a subband: the subband's sides, and the slice's rows top to bottom and columns left to right.
+pub struct Window {
+    pub width: usize,
+    pub height: usize,
+    pub top: usize,
+    pub bottom: usize,
+    pub left: usize,
+    pub right: usize,
 }
 
 // A picture in the work slice: its layout and its components. Rebuilt level-0 planes stand before front, coefficients from there to end.
@@ -110,7 +120,76 @@ fn first_of(asked: bool, n: u32) -> bool
     if asked { n == 0 } else { false }
 }
 
-// What slice k has at index q of the n-th subband, whose coefficients begin start places behind those of its component.
+// What slice k has of the n-th subband.
+pub fn window_at(l: Layout, c: Component, n: u32, k: u32) -> Window
+    requires { ⌜ WindowIn l c n k ⌝ }
+    ensures { λ r. ⌜ r ≡ windowOf l c n k ⌝ }
+{
+    let z = band_size(l, c, n);
+    let y = k / l.across;
+    let x = k % l.across;
+    Window {
+        width: z.width as usize,
+        height: z.height as usize,
+        top: bound(l.down, z.height, y),
+        bottom: bound(l.down, z.height, y + 1),
+        left: bound(l.across, z.width, x),
+        right: bound(l.across, z.width, x + 1),
+    }
+}
+
+// The same, where v is what it has of the subband before: the subbands of a level are alike.
+pub fn next_window(l: Layout, c: Component, n: u32, k: u32, v: Window) -> Window
+    requires { ⌜ WindowIn l c n k × (v ≡ windowOf l c (n - 1) k) ⌝ }
+    ensures { λ r. ⌜ r ≡ windowOf l c n k ⌝ }
+{
+    let first = l.depth_ho;
+    if n > first {
+        if (n - first) % 3 != 1 {
+            return v;
+        }
+    }
+    window_at(l, c, n, k)
+}
+
+// The strip of the n-th subband at index q, of which slice k has the window v and whose coefficients begin start places behind those of its
+// component.
+pub fn strip_in(
+    l: Layout,
+    c: Component,
+    second: Component,
+    pair: bool,
+    n: u32,
+    start: usize,
+    k: u32,
+    q: u32,
+    v: Window,
+) -> Strip
+    requires { ⌜ StripIn l c second n start k q × (v ≡ windowOf l c n k) ⌝ }
+    ensures { λ r. ⌜ r ≡ stripOf l c second pair n start k q ⌝ }
+{
+    let i = band_index(q, l.values[n as usize]);
+    let factor = quantiser::factors::factor_at(i);
+    Strip {
+        coefs: c.coefs + start,
+        rebuilt: c.rebuilt,
+        coefs2: second.coefs + start,
+        rebuilt2: second.rebuilt,
+        width: v.width,
+        height: v.height,
+        top: v.top,
+        bottom: v.bottom,
+        left: v.left,
+        right: v.right,
+        index: i,
+        factor,
+        offset: quantiser::factors::offset_by(i, factor),
+        predicted: first_of(l.predicted, n),
+        pair,
+    }
+}
+
+// The strip where no window is at hand.
 pub fn strip_at(
     l: Layout,
     c: Component,
@@ -124,25 +203,6 @@ pub fn strip_at(
     requires { ⌜ StripIn l c second n start k q ⌝ }
     ensures { λ r. ⌜ r ≡ stripOf l c second pair n start k q ⌝ }
 {
-    let z = band_size(l, c, n);
-    let y = k / l.across;
-    let x = k % l.across;
-    let i = band_index(q, l.values[n as usize]);
-    Strip {
-        coefs: c.coefs + start,
-        rebuilt: c.rebuilt,
-        coefs2: second.coefs + start,
-        rebuilt2: second.rebuilt,
-        width: z.width as usize,
-        height: z.height as usize,
-        top: bound(l.down, z.height, y),
-        bottom: bound(l.down, z.height, y + 1),
-        left: bound(l.across, z.width, x),
-        right: bound(l.across, z.width, x + 1),
-        index: i,
-        factor: quantiser::factors::factor_at(i),
-        offset: quantiser::factors::offset_at(i),
-        predicted: first_of(l.predicted, n),
-        pair,
-    }
+    let v = window_at(l, c, n, k);
+    strip_in(l, c, second, pair, n, start, k, q, v)
 }

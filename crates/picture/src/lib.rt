@@ -17,4 +17,5 @@ pub mod run;
 pub mod sizes;
 pub mod slice_coder;
 pub mod strip;
+pub mod tally;
 pub mod words;

@@ -5,7 +5,8 @@ use borrow.Author.Needs.{needs}
 use Rattle.picture.specs.Run.{numberIn}
 use Rattle.picture.specs.RunLaws.{numbered, number-size}
 use Rattle.picture.specs.Cost.{add1}
-use Rattle.picture.specs.CostLaws.{added-len, place-added, countable-one}
+use Rattle.picture.specs.AddedLaws.{place-added}
+use Rattle.picture.specs.CostLaws.{added-len, countable-one}
 use Rattle.picture.proofs.cost.cost_place.Statement.{statement}
 use Rattle.picture.proofs.cost.cost_place.Tie as tie
 
@@ -31,7 +32,7 @@ add-second-requires c κs =
 returns : tie.Need-returns
 returns c =
     let a = c .before .before .before .args in
-    place-added (a .work .now) (a .s) (a .y) (a .x) (a .c) _ _ (number (c .before)) refl (added (c .before)) (c .add-second .ensures)
+    place-added add1 (a .work .now) (a .s) (a .y) (a .x) (a .c) _ _ (number (c .before)) refl (added (c .before)) (c .add-second .ensures)
 
 pub cost-place-spec : {M : Type 1} → statement M
 cost-place-spec =

@@ -3,9 +3,10 @@ use mathlib.Core.Path.{_≡_}
 use Prim.Native.Nat.{ℕ, _+_, _-_, _≤_}
 use Rattle.laws.specs.Chunks.{chunks}
 use Rattle.picture.specs.Run.{Inside}
-use Rattle.picture.specs.Cost.{addAll}
+use Rattle.picture.specs.Cost.{add1, addAll}
 use Rattle.picture.specs.RunLaws.{places, place-small, place-length, row-chunks, chunks-small, chunks-length}
-use Rattle.picture.specs.CostLaws.{added-chunks-none, added-turn, added-all, countable-after}
+use Rattle.picture.specs.AddedLaws.{added-chunks-none, added-turn, added-all}
+use Rattle.picture.specs.CostLaws.{countable-after}
 use native.Mathlib.Omega.{arith}
 use Rattle.picture.proofs.cost.cost_row.Statement.{statement}
 use Rattle.picture.proofs.cost.cost_row.Tie as tie
@@ -19,7 +20,7 @@ abbrev μ-loop : tie.MeasureT-loop
 loop-holds : tie.Need-loop-holds Inv-loop μ-loop
 loop-holds c =
     let a = c .args in
-    (omega arith, (c .pre .1 .0 .columns, added-chunks-none (places (a .work .now) (a .s) (a .y) (a .s .left)) (a .c) (a .s .left)))
+    (omega arith, (c .pre .1 .0 .columns, added-chunks-none add1 (places (a .work .now) (a .s) (a .y) (a .s .left)) (a .c) (a .s .left)))
 
 cost-place-requires : tie.Need-cost-place-requires Inv-loop μ-loop
 cost-place-requires c κs =
@@ -46,7 +47,7 @@ loop-again c =
     let l = c .before .before .before .loop in
     let F = places (a .work .now) (a .s) (a .y) (a .s .left) in
     let e : a .s .left + (l .x - a .s .left) ≡ l .x = omega (arith, l .inv .0) in
-    (omega (arith, l .inv .0), (omega (arith, c .before .if1 .taken), added-turn F (a .c) (l .t) _ (a .s .left) (l .x) (l .inv .0) (l .inv .1 .1) (rw e (c .cost-place .ensures))))
+    (omega (arith, l .inv .0), (omega (arith, c .before .if1 .taken), added-turn add1 F (a .c) (l .t) _ (a .s .left) (l .x) (l .inv .0) (l .inv .1 .1) (rw e (c .cost-place .ensures))))
 
 returns : tie.Need-returns Inv-loop μ-loop
 returns c =
@@ -54,7 +55,7 @@ returns c =
     let l = c .before .before .loop in
     let e : l .x ≡ a .s .right = omega (arith, l .inv .1 .0, c .if1 .left) in
     let F = places (a .work .now) (a .s) (a .y) (a .s .left) in
-    added-all F (a .c) (l .t) _ (a .s .left) (l .x) (a .s .right) e (l .inv .1 .1) (row-chunks (a .work .now) (a .s) (a .y) (a .s .left) (a .s .right - a .s .left))
+    added-all add1 F (a .c) (l .t) _ (a .s .left) (l .x) (a .s .right) e (l .inv .1 .1) (row-chunks (a .work .now) (a .s) (a .y) (a .s .left) (a .s .right - a .s .left))
 
 pub cost-row-spec : {M : Type 1} → statement M
 cost-row-spec =

@@ -2,9 +2,10 @@
 use mathlib.Core.Path.{_≡_}
 use Prim.Native.Nat.{ℕ, _+_, _*_, _-_, _≤_}
 use Rattle.laws.specs.Chunks.{chunks}
-use Rattle.picture.specs.Cost.{addAll}
+use Rattle.picture.specs.Cost.{add1, addAll}
 use Rattle.picture.specs.RunLaws.{rows, row-small, row-length, rows-chunks, chunks-small, chunks-length}
-use Rattle.picture.specs.CostLaws.{added-chunks-none, added-turn, added-all, countable-after, strip-room}
+use Rattle.picture.specs.AddedLaws.{added-chunks-none, added-turn, added-all}
+use Rattle.picture.specs.CostLaws.{countable-after, strip-room}
 use native.Mathlib.Omega.{arith}
 use Rattle.picture.proofs.cost.cost_strip.Statement.{statement}
 use Rattle.picture.proofs.cost.cost_strip.Tie as tie
@@ -18,7 +19,7 @@ abbrev μ-loop : tie.MeasureT-loop
 loop-holds : tie.Need-loop-holds Inv-loop μ-loop
 loop-holds c =
     let a = c .args in
-    (omega arith, (c .pre .1 .0 .rows, added-chunks-none (rows (a .work .now) (a .s) (a .s .top)) (a .c) (a .s .top)))
+    (omega arith, (c .pre .1 .0 .rows, added-chunks-none add1 (rows (a .work .now) (a .s) (a .s .top)) (a .c) (a .s .top)))
 
 cost-row-requires : tie.Need-cost-row-requires Inv-loop μ-loop
 cost-row-requires c κs =
@@ -46,7 +47,7 @@ loop-again c =
     let l = c .before .before .before .loop in
     let F = rows (a .work .now) (a .s) (a .s .top) in
     let e : a .s .top + (l .y - a .s .top) ≡ l .y = omega (arith, l .inv .0) in
-    (omega (arith, l .inv .0), (omega (arith, c .before .if1 .taken), added-turn F (a .c) (l .t) _ (a .s .top) (l .y) (l .inv .0) (l .inv .1 .1) (rw e (c .cost-row .ensures))))
+    (omega (arith, l .inv .0), (omega (arith, c .before .if1 .taken), added-turn add1 F (a .c) (l .t) _ (a .s .top) (l .y) (l .inv .0) (l .inv .1 .1) (rw e (c .cost-row .ensures))))
 
 returns : tie.Need-returns Inv-loop μ-loop
 returns c =
@@ -54,7 +55,7 @@ returns c =
     let l = c .before .before .loop in
     let e : l .y ≡ a .s .bottom = omega (arith, l .inv .1 .0, c .if1 .left) in
     let F = rows (a .work .now) (a .s) (a .s .top) in
-    added-all F (a .c) (l .t) _ (a .s .top) (l .y) (a .s .bottom) e (l .inv .1 .1) (rows-chunks (a .work .now) (a .s) (a .s .top) (a .s .bottom - a .s .top))
+    added-all add1 F (a .c) (l .t) _ (a .s .top) (l .y) (a .s .bottom) e (l .inv .1 .1) (rows-chunks (a .work .now) (a .s) (a .s .top) (a .s .bottom - a .s .top))
 
 pub cost-strip-spec : {M : Type 1} → statement M
 cost-strip-spec =

@@ -1,17 +1,35 @@
 -- `high_index::trimmed_run` meets its contract. Assumes nothing.
-use Rattle.picture.specs.HighIndexLaws.{trimmed-is}
+use mathlib.Core.Bool.{false}
 use borrow.Author.Needs.{needs}
+use Rattle.picture.specs.TallyLaws.{tally-keeps, tally-trimmed, TallyOf}
+use Rattle.picture.specs.Picture.{runOf}
+use Rattle.picture.specs.LayoutLaws.{first-addable, tally-whole}
 use Rattle.picture.proofs.high_index.trimmed_run.Statement.{statement}
 use Rattle.picture.proofs.high_index.trimmed_run.Tie as tie
 use Rattle.picture.proofs.high_index.trimmed_run.Reads as reads
 use Rattle.picture.proofs.high_index.trimmed_run.Lts as lts
-use Rattle.picture.proofs.run.cost_run.Reads as cost-run-reads
+use Rattle.picture.proofs.run.first_tally.Reads as first-tally-reads
 
-cost-run-requires : tie.Need-cost-run-requires
-cost-run-requires c κs = search needs
+-- the tally of the whole run
+whole : (c : tie.After-rest-tally) → let a = c .before .before .before .args in TallyOf (runOf (a .work .now) (a .p) (a .c) (a .k) (a .q)) (c .rest-tally .result)
+whole c =
+    let a = c .before .before .before .args in
+    tally-whole (a .work .now) (a .p .layout) (a .c) (a .c) false (a .k) (a .q) (c .rest-tally .result) (c .before .first-tally .result) (c .before .first-tally .ensures) (c .rest-tally .ensures)
+
+first-tally-requires : tie.Need-first-tally-requires
+first-tally-requires c κs = search needs
+
+rest-tally-requires : tie.Need-rest-tally-requires
+rest-tally-requires c κs =
+    let st = c .before .before in
+    let a = st .args in
+    (st .pre .0, first-addable (a .work .now) (a .p .layout) (a .c) (a .c) false (a .k) (a .q) (st .pre .0) (st .pre .1) (c .first-tally .result) (c .first-tally .ensures))
+
+kept-bits-requires : tie.Need-kept-bits-requires
+kept-bits-requires c κs = tally-keeps (whole c)
 
 returns : tie.Need-returns
-returns c = trimmed-is _ (c .cost-run .result) (c .cost-run .ensures)
+returns c = tally-trimmed (whole (c .before)) (c .kept-bits .result) (c .kept-bits .ensures)
 
 pub trimmed-run-spec : {M : Type 1} → statement M
-trimmed-run-spec = tie.close (tie.spec cost-run-requires returns)
+trimmed-run-spec = tie.close (tie.spec first-tally-requires rest-tally-requires kept-bits-requires returns)

@@ -1,0 +1,39 @@
+-- `run::first_tally` meets its contract. Assumes nothing.
+use mathlib.Core.Path.{ap, _∙_}
+use Rattle.picture.specs.declared.strip.Strip.{Strip}
+use Rattle.picture.specs.Run.{stripNumbers}
+use Rattle.picture.specs.Cost.{noCost}
+use Rattle.picture.specs.Tally.{tallyOf, tallyAll, noTally}
+use Rattle.picture.specs.TallyLaws.{tally-cost}
+use Rattle.picture.specs.LayoutLaws.{first-ready}
+use borrow.Author.Needs.{needs}
+use Rattle.picture.proofs.run.first_tally.Statement.{statement}
+use Rattle.picture.proofs.run.first_tally.Tie as tie
+use Rattle.picture.proofs.run.first_tally.Reads as reads
+use Rattle.picture.proofs.run.first_tally.Lts as lts
+use Rattle.picture.proofs.cost.cost_strip.Reads as cost-strip-reads
+use Rattle.picture.proofs.layout.strip_at.Reads as strip-at-reads
+use Rattle.picture.proofs.tally.tally_of.Reads as tally-of-reads
+
+strip-at-requires : tie.Need-strip-at-requires
+strip-at-requires c κs = search needs
+
+cost-strip-requires : tie.Need-cost-strip-requires
+cost-strip-requires c κs =
+    let st = c .before in
+    let a = st .args in
+    let s = c .strip-at in
+    first-ready (a .work .now) (a .l) (a .c) (a .second) (a .pair) (a .k) (a .q) (st .pre .0) (s .result) (st .pre .1) (s .ensures)
+
+tally-of-requires : tie.Need-tally-of-requires
+tally-of-requires c κs = search needs
+
+returns : tie.Need-returns
+returns c =
+    let a = c .before .before .before .args in
+    let s = c .before .before .strip-at in
+    c .tally-of .ensures ∙ ap tallyOf (c .before .cost-strip .ensures) ∙ tally-cost (noCost 0) (stripNumbers (a .work .now) (s .result)) ∙ ap (λ (s : Strip). tallyAll noTally (stripNumbers (a .work .now) s)) (s .ensures)
+
+pub first-tally-spec : {M : Type 1} → statement M
+first-tally-spec =
+    tie.close (tie.spec strip-at-requires cost-strip-requires tally-of-requires returns)
