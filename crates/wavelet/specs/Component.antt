@@ -7,16 +7,20 @@ use mathlib.Core.List.{List, [], _++_, append-assoc}
 use lib.ListN.{length, take, drop, length-append, length-drop}
 use lib.Seq.{take-at, drop-at, drop-drop, length-take-le}
 use lib.IntN.{ℤ}
-use Rattle.laws.specs.Wrap.{wrap}
-use Rattle.laws.specs.Window.{piece, put, put-lent, put-again, piece-put, drop-put}
-use Rattle.laws.specs.Plane.{asPlane, asList, length-asList}
-use Rattle.wavelet.specs.PlaneLaws.{dwt-cong}
-use Rattle.wavelet.specs.PlaneLists.{plane-is}
+use Rattle.laws.specs.Window.{piece, put, length-lent, put-lent, length-put, drop-put}
+use Rattle.laws.specs.Plane.{asList}
 use Rattle.wavelet.specs.Pad.{padded, componentOf}
 use Rattle.wavelet.specs.Level.{Place}
-use Rattle.wavelet.specs.Walk.{Deep, coefficientsOf}
+use Rattle.wavelet.specs.Walk.{Deep, none}
 use Rattle.wavelet.specs.declared.component.Component as Sides
 use Rattle.wavelet.specs.declared.component.Transform as Levels
+
+-- what the rows of a component ask: samples, and room for its padded plane
+pub record SamplesIn (s : List ℕ) (w h pw ph : ℕ) (l : List ℤ) : Type 0 where
+  pub some : (1 ≤ w) × (1 ≤ h)
+  pub whole : h * w ≤ length s
+  pub room : ph * pw ≤ length l
+  pub short : pw ≤ 65536
 
 -- what a component asks
 pub record ComponentIn (c : Sides.Component) (t : Levels.Transform) (s : List ℕ) (n off : ℕ) (l : List ℤ) : Type 0 where
@@ -37,25 +41,17 @@ pub record ComponentsIn (luma colour : Sides.Component) (t : Levels.Transform) (
   pub room : (luma .ph * luma .pw ≤ n) × (colour .ph * colour .pw ≤ n)
   pub fits : n + (luma .ph * luma .pw + colour .ph * colour .pw + colour .ph * colour .pw) ≤ length l
 
--- the plane is padded in its own part, which was lent, and then analysed
-pub component-is : (i j k d : ℕ) (s : List ℕ) (o w h pw ph n off : ℕ) (l ys l2 : List ℤ) → Place n off (ph * pw) l → ys ≡ asList ph pw (padded s o w h)
-    → drop n l2 ≡ put off (ph * pw) (coefficientsOf i j k d ph pw (piece off (ph * pw) (drop n (take (n + off) l ++ (ys ++ drop (n + off + ph * pw - (n + off)) (drop (n + off) l))))))
-    (drop n (take (n + off) l ++ (ys ++ drop (n + off + ph * pw - (n + off)) (drop (n + off) l))))
-    → drop n l2 ≡ put off (ph * pw) (componentOf i j k d s o w h pw ph) (drop n l)
-component-is i j k d s o w h pw ph n off l ys l2 p ey e2 =
-    let P = padded s o w h in
-    let x = asList ph pw P in
-    let u = drop n l in
+-- a part was lent and came back
+pub lent-long : (p m : ℕ) (ys l : List ℤ) → p + m ≤ length l → length ys ≡ length (piece p (p + m - p) l) → length (take p l ++ (ys ++ drop (p + m - p) (drop p l))) ≡ length l
+lent-long p m ys l h k = ap length (put-lent p m ys l) ∙ length-put p m ys l h (k ∙ length-lent p m l h)
+
+-- no level: the plane is padded in its own part, which was lent
+pub padded-none : (i j k d : ℕ) (s : List ℕ) (o w h pw ph n off : ℕ) (l ys : List ℤ) → d ≤ 0 → k ≤ 0 → Place n off (ph * pw) l → ys ≡ asList ph pw (padded s o w h)
+    → drop n (take (n + off) l ++ (ys ++ drop (n + off + ph * pw - (n + off)) (drop (n + off) l))) ≡ put off (ph * pw) (componentOf i j k d s o w h pw ph) (drop n l)
+padded-none i j k d s o w h pw ph n off l ys y z p ey =
     let m : ℕ = ph * pw in
-    let fit : off + m ≤ length u = rw (length-drop n l) (omega (arith, p .fits)) in
-    let long : length x ≡ m = length-asList ph pw P in
-    let view : drop n (take (n + off) l ++ (ys ++ drop (n + off + m - (n + off)) (drop (n + off) l))) ≡ put off m x u =
-    ap (drop n) (put-lent (n + off) m ys l ∙ ap (λ (z : List ℤ). put (n + off) m z l) ey) ∙ drop-put n off m x l (omega (arith, p .fits)) in
-    let same : piece off m (put off m x u) ≡ x = piece-put off m x u fit long in
-    let B : coefficientsOf i j k d ph pw x ≡ componentOf i j k d s o w h pw ph = dwt-cong wrap i j k d ph pw (asPlane pw x) P (plane-is ph pw P) in
-    e2 ∙ ap (λ (v : List ℤ). put off m (coefficientsOf i j k d ph pw (piece off m v)) v) view
-    ∙ ap (λ (y : List ℤ). put off m (coefficientsOf i j k d ph pw y) (put off m x u)) same ∙ put-again off m x u fit long (coefficientsOf i j k d ph pw x)
-    ∙ ap (λ (y : List ℤ). put off m y u) B
+    ap (drop n) (put-lent (n + off) m ys l ∙ ap (λ (x : List ℤ). put (n + off) m x l) (ey ∙ none i j k d ph pw (padded s o w h) y z))
+    ∙ drop-put n off m (componentOf i j k d s o w h pw ph) l (omega (arith, p .fits))
 
 -- one after the other: done is there, and the next one goes behind it
 lay-next : (done ys v u : List ℤ) (off m : ℕ) → off ≡ length done → v ≡ done ++ drop off u → put off m ys v ≡ done ++ ys ++ drop (off + m) u

@@ -1,28 +1,66 @@
 -- Padding row by row, and that padded sides are multiples of powers of two. Assumes nothing.
-use mathlib.Core.Path.{_≡_, sym, ap, ap₂, _∙_}
+use mathlib.Core.Path.{_≡_, refl, sym, ap, ap₂, _∙_}
 use Prim.Native.Nat.{ℕ, suc, _+_, _*_, _-_, _/_, _^_, _≤_, _<_, min}
 use native.Mathlib.Omega.{arith}
-use native.Mathlib.Nat.{suc-mul, mul-le-mul-right, min-le-right, mul-mod-left, zero-add, pow-le-pow-right}
+use native.Mathlib.Nat.{suc-mul, mul-le-mul-right, min-le-right, min-eq-left, min-eq-right, mul-mod-left, zero-add, pow-le-pow-right}
+use native.Mathlib.Decide.{decLt}
 use mathlib.Core.List.{List, _++_, append-nil}
-use lib.ListN.{length, getD, drop}
-use lib.Seq.{drop-length}
+use lib.ListN.{length, getD, set, drop, length-set}
+use lib.Seq.{drop-at, drop-length}
 use lib.Pow.{pow-pos}
 use lib.IntN.{ℤ, pos, _-ℤ_}
 use mir.Syntax.{w64}
 use mir.Val.{SFits, toZ, ofZ}
 use mir.Facts.{toZ-ofZ, toZ-pos}
 use Rattle.laws.specs.Integer.{var, _⊟_, parts}
+use Rattle.laws.specs.Wrap.{wrap}
 use Rattle.laws.specs.Rows.{row, length-span}
-use Rattle.laws.specs.Chunks.{chunks}
+use Rattle.laws.specs.Chunks.{chunks, fill-turn}
 use Rattle.laws.specs.Window.{put, Parts, parts-all}
 use Rattle.laws.specs.Plane.{asList}
-use Rattle.wavelet.specs.Planes.{Padded}
+use Rattle.wavelet.specs.Planes.{raise, Padded}
 use Rattle.wavelet.specs.PlaneLists.{rows-list}
 use Rattle.wavelet.specs.Pad.{centred, padded, paddedSide}
 
--- place x of a padded row whose samples stand from from on
-abbrev pub paddedRow : List ℕ → ℕ → ℕ → ℕ → ℕ → ℤ
-paddedRow s o w from x = centred o (getD s (from + min x (w - 1)) 0)
+-- place x of a padded row whose samples stand from from on, with b accuracy bits added
+abbrev pub paddedRow : ℕ → List ℕ → ℕ → ℕ → ℕ → ℕ → ℤ
+paddedRow b s o w from x = raise wrap b (centred o (getD s (from + min x (w - 1)) 0))
+
+-- the first k places of a row are there
+pub record Filled (b : ℕ) (s : List ℕ) (o w from : ℕ) (l now : List ℤ) (k : ℕ) : Type 0 where
+  pub long : length now ≡ length l
+  pub now-is : now ≡ row k (paddedRow b s o w from) ++ drop k l
+
+pub filled-next : (b : ℕ) (s : List ℕ) (o w from : ℕ) (l now : List ℤ) (k : ℕ) (v : ℤ) → k < length l → Filled b s o w from l now k → v ≡ paddedRow b s o w from k
+    → Filled b s o w from l (set now k v) (k + 1)
+filled-next b s o w from l now k v h q e = record {
+  long = simp length-set (q .long);
+  now-is = ap (set now k) e ∙ fill-turn (paddedRow b s o w from) l now k h (q .now-is);
+}
+
+-- the rest of the row is filled anew from there on
+pub filled-again : (b : ℕ) (s : List ℕ) (o w from : ℕ) (l now : List ℤ) (k : ℕ) → Filled b s o w from l now k → Filled b s o w from now now k
+filled-again b s o w from l now k q =
+    let f = paddedRow b s o w from in
+    record {
+      long = refl;
+      now-is = q .now-is ∙ ap (λ (z : List ℤ). row k f ++ z) (sym (ap (drop k) (q .now-is) ∙ drop-at (row k f) (drop k l) k (length-span f 0 k)));
+    }
+
+-- a place of a row of n that the samples do not reach
+pub past-samples : (n w k : ℕ) → min n w ≤ k → k < n → w ≤ k
+past-samples n w k h l = by (decLt n w)
+  where
+    by : Dec (n < w) → w ≤ k
+    by (yes a) = let e : n ≤ w = omega arith in absurd (omega (arith, min-eq-left e))
+    by (no a) = let e : w ≤ n = omega arith in omega (arith, min-eq-right e)
+
+-- a place among the samples, and one behind them
+pub padded-in : (b : ℕ) (s : List ℕ) (o w from k : ℕ) → k < w → raise wrap b (centred o (getD s (from + k) 0)) ≡ paddedRow b s o w from k
+padded-in b s o w from k h = let e : k ≤ w - 1 = omega arith in ap (λ (m : ℕ). raise wrap b (centred o (getD s (from + m) 0))) (sym (min-eq-left e))
+
+pub padded-behind : (b : ℕ) (s : List ℕ) (o w from k : ℕ) → w ≤ k → raise wrap b (centred o (getD s (from + (w - 1)) 0)) ≡ paddedRow b s o w from k
+padded-behind b s o w from k h = let e : w - 1 ≤ k = omega arith in ap (λ (m : ℕ). raise wrap b (centred o (getD s (from + m) 0))) (sym (min-eq-right e))
 
 pub record Pads (s : List ℕ) (w h pw ph : ℕ) (l : List ℤ) : Type 0 where
   pub some : (1 ≤ w) × (1 ≤ h)

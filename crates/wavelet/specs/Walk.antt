@@ -66,13 +66,13 @@ first-deeper ih iv k d a b g rest m e =
       ap (drop (a * b)) e ∙ drop-at (asList a b g) rest (a * b) long,
     )
 
-both-list : (ih iv k d h w : ℕ) (l : List ℤ) → 0 < d
-    → coefficientsOf ih iv k (d - 1) (h / 2) (w / 2) (take (h / 2 * (w / 2)) (quarters h w (vhPass wrap ih iv h w (asPlane w l))))
-    ++ drop (h / 2 * (w / 2)) (quarters h w (vhPass wrap ih iv h w (asPlane w l))) ≡ coefficientsOf ih iv k d h w l
+both-list : (ih iv k d h w : ℕ) (f : Plane) → 0 < d
+    → coefficientsOf ih iv k (d - 1) (h / 2) (w / 2) (take (h / 2 * (w / 2)) (quarters h w (vhPass wrap ih iv h w f)))
+    ++ drop (h / 2 * (w / 2)) (quarters h w (vhPass wrap ih iv h w f)) ≡ coefficients (dwt wrap ih iv k d h w f)
 unfolding dwt
-both-list ih iv k zero h w l z = absurd (omega arith)
-both-list ih iv k (suc d) h w l z =
-    let g = vhPass wrap ih iv h w (asPlane w l) in
+both-list ih iv k zero h w f z = absurd (omega arith)
+both-list ih iv k (suc d) h w f z =
+    let g = vhPass wrap ih iv h w f in
     let a : ℕ = h / 2 in
     let b : ℕ = w / 2 in
     let rest = asList a b (part 0 1 g) ++ (asList a b (part 1 0 g) ++ asList a b (part 1 1 g)) in
@@ -84,14 +84,14 @@ both-list ih iv k (suc d) h w l z =
     ∙ sym (coefficients-append (dwt wrap ih iv k d a b (part 0 0 g))
     (record { high = a; wide = b; plane = part 0 1 g } ∷ record { high = a; wide = b; plane = part 1 0 g } ∷ record { high = a; wide = b; plane = part 1 1 g } ∷ [])))
 
-across-list : (ih iv k d h w : ℕ) (l : List ℤ) → d ≤ 0 → 0 < k
-    → coefficientsOf ih iv (k - 1) 0 h (w / 2) (take (h * (w / 2)) (halves h w (hPass wrap ih h w (asPlane w l))))
-    ++ drop (h * (w / 2)) (halves h w (hPass wrap ih h w (asPlane w l))) ≡ coefficientsOf ih iv k d h w l
+across-list : (ih iv k d h w : ℕ) (f : Plane) → d ≤ 0 → 0 < k
+    → coefficientsOf ih iv (k - 1) 0 h (w / 2) (take (h * (w / 2)) (halves h w (hPass wrap ih h w f)))
+    ++ drop (h * (w / 2)) (halves h w (hPass wrap ih h w f)) ≡ coefficients (dwt wrap ih iv k d h w f)
 unfolding dwt dwtH
-across-list ih iv zero d h w l y z = absurd (omega arith)
-across-list ih iv (suc k) (suc d) h w l y z = absurd (omega arith)
-across-list ih iv (suc k) zero h w l y z =
-    let g = hPass wrap ih h w (asPlane w l) in
+across-list ih iv zero d h w f y z = absurd (omega arith)
+across-list ih iv (suc k) (suc d) h w f y z = absurd (omega arith)
+across-list ih iv (suc k) zero h w f y z =
+    let g = hPass wrap ih h w f in
     let b : ℕ = w / 2 in
     let r = first-deeper ih iv k 0 h b (partH 0 g) (asList h b (partH 1 g)) (halves h w g) refl in
     let e : suc k - 1 ≡ k = omega arith in
@@ -114,38 +114,37 @@ length-quarters h w g eh ew = simp (length-append, length-asList) (quarters-size
 length-halves : (h w : ℕ) (g : Plane) → w % 2 ≡ 0 → length (halves h w g) ≡ h * w
 length-halves h w g ew = simp (length-append, length-asList) (halves-size h w ew)
 
--- one level both ways, and the walk on its first quarter
-pub walk-both : (ih iv k d h w n off : ℕ) (l l1 l2 : List ℤ) → 0 < d → EvenSides h w → Place n off (h * w) l
-    → drop n l1 ≡ put off (h * w) (quarters h w (vhPass wrap ih iv h w (asPlane w (piece off (h * w) (drop n l))))) (drop n l)
+-- one level of the plane f both ways, and the walk on its first quarter
+pub walk-both : (ih iv k d h w n off : ℕ) (f : Plane) (l l1 l2 : List ℤ) → 0 < d → EvenSides h w → Place n off (h * w) l
+    → drop n l1 ≡ put off (h * w) (quarters h w (vhPass wrap ih iv h w f)) (drop n l)
     → drop n l2 ≡ put off (h / 2 * (w / 2)) (coefficientsOf ih iv k (d - 1) (h / 2) (w / 2) (piece off (h / 2 * (w / 2)) (drop n l1))) (drop n l1)
-    → drop n l2 ≡ put off (h * w) (coefficientsOf ih iv k d h w (piece off (h * w) (drop n l))) (drop n l)
-walk-both ih iv k d h w n off l l1 l2 z e p e1 e2 =
-    let o = piece off (h * w) (drop n l) in
-    let g = vhPass wrap ih iv h w (asPlane w o) in
-    step n off (h * w) (h / 2 * (w / 2)) l l1 l2 (quarters h w g) (coefficientsOf ih iv k d h w o) p (quarter-le h w) (length-quarters h w g (e .high) (e .wide)) e1
-    (coefficientsOf ih iv k (d - 1) (h / 2) (w / 2)) e2 (both-list ih iv k d h w o z)
+    → drop n l2 ≡ put off (h * w) (coefficients (dwt wrap ih iv k d h w f)) (drop n l)
+walk-both ih iv k d h w n off f l l1 l2 z e p e1 e2 =
+    let g = vhPass wrap ih iv h w f in
+    step n off (h * w) (h / 2 * (w / 2)) l l1 l2 (quarters h w g) (coefficients (dwt wrap ih iv k d h w f)) p (quarter-le h w) (length-quarters h w g (e .high) (e .wide)) e1
+    (coefficientsOf ih iv k (d - 1) (h / 2) (w / 2)) e2 (both-list ih iv k d h w f z)
 
 -- one horizontal-only level, and the walk on its first half
-pub walk-across : (ih iv k d h w n off : ℕ) (l l1 l2 : List ℤ) → d ≤ 0 → 0 < k → EvenWidth h w → Place n off (h * w) l
-    → drop n l1 ≡ put off (h * w) (halves h w (hPass wrap ih h w (asPlane w (piece off (h * w) (drop n l))))) (drop n l)
+pub walk-across : (ih iv k d h w n off : ℕ) (f : Plane) (l l1 l2 : List ℤ) → d ≤ 0 → 0 < k → EvenWidth h w → Place n off (h * w) l
+    → drop n l1 ≡ put off (h * w) (halves h w (hPass wrap ih h w f)) (drop n l)
     → drop n l2 ≡ put off (h * (w / 2)) (coefficientsOf ih iv (k - 1) 0 h (w / 2) (piece off (h * (w / 2)) (drop n l1))) (drop n l1)
-    → drop n l2 ≡ put off (h * w) (coefficientsOf ih iv k d h w (piece off (h * w) (drop n l))) (drop n l)
-walk-across ih iv k d h w n off l l1 l2 y z e p e1 e2 =
-    let o = piece off (h * w) (drop n l) in
-    let g = hPass wrap ih h w (asPlane w o) in
-    step n off (h * w) (h * (w / 2)) l l1 l2 (halves h w g) (coefficientsOf ih iv k d h w o) p (half-le h w) (length-halves h w g (e .wide)) e1
-    (coefficientsOf ih iv (k - 1) 0 h (w / 2)) e2 (across-list ih iv k d h w o y z)
+    → drop n l2 ≡ put off (h * w) (coefficients (dwt wrap ih iv k d h w f)) (drop n l)
+walk-across ih iv k d h w n off f l l1 l2 y z e p e1 e2 =
+    let g = hPass wrap ih h w f in
+    step n off (h * w) (h * (w / 2)) l l1 l2 (halves h w g) (coefficients (dwt wrap ih iv k d h w f)) p (half-le h w) (length-halves h w g (e .wide)) e1
+    (coefficientsOf ih iv (k - 1) 0 h (w / 2)) e2 (across-list ih iv k d h w f y z)
 
 -- no level is left
-none : (ih iv k d h w : ℕ) (l : List ℤ) → d ≤ 0 → k ≤ 0 → length l ≡ h * w → l ≡ coefficientsOf ih iv k d h w l
+pub none : (ih iv k d h w : ℕ) (f : Plane) → d ≤ 0 → k ≤ 0 → asList h w f ≡ coefficients (dwt wrap ih iv k d h w f)
 unfolding dwt dwtH
-none ih iv zero zero h w l y z e = sym (append-nil (asList h w (asPlane w l)) ∙ asList-back h w l e)
-none ih iv (suc k) zero h w l y z e = absurd (omega arith)
-none ih iv k (suc d) h w l y z e = absurd (omega arith)
+none ih iv zero zero h w f y z = sym (append-nil (asList h w f))
+none ih iv (suc k) zero h w f y z = absurd (omega arith)
+none ih iv k (suc d) h w f y z = absurd (omega arith)
 
 pub walk-none : (ih iv k d h w n off : ℕ) (l : List ℤ) → d ≤ 0 → k ≤ 0 → Place n off (h * w) l
     → drop n l ≡ put off (h * w) (coefficientsOf ih iv k d h w (piece off (h * w) (drop n l))) (drop n l)
 walk-none ih iv k d h w n off l y z p =
     let u = drop n l in
+    let o = piece off (h * w) u in
     let fit : off + h * w ≤ length u = rw (length-drop n l) (omega (arith, p .fits)) in
-    put-self off (h * w) u ∙ ap (λ (x : List ℤ). put off (h * w) x u) (none ih iv k d h w (piece off (h * w) u) y z (length-piece off (h * w) u fit))
+    put-self off (h * w) u ∙ ap (λ (x : List ℤ). put off (h * w) x u) (sym (asList-back h w o (length-piece off (h * w) u fit)) ∙ none ih iv k d h w (asPlane w o) y z)

@@ -1,11 +1,17 @@
-// Components from their samples to their coefficients. All of it is for the layer above.
+// Components from their samples to their coefficients. What is public is for the layer above.
 ghost use mathlib.Core.Path.{_≡_};
 ghost use mathlib.Core.List.{_++_};
-ghost use Prim.Native.Nat.{_+_, _*_};
+ghost use Prim.Native.Nat.{_+_, _*_, _<_, _≤_};
 ghost use lib.ListN.{drop};
 ghost use Rattle.laws.specs.Window.{put};
-ghost use Rattle.wavelet.specs.Pad.{componentOf};
-ghost use Rattle.wavelet.specs.Component.{ComponentIn, ComponentsIn};
+ghost use Rattle.laws.specs.Plane.{asList};
+ghost use Rattle.laws.specs.Wrap.{wrap};
+ghost use Rattle.wavelet.specs.Planes.{hPass, vhPass};
+ghost use Rattle.wavelet.specs.Pad.{padded, componentOf};
+ghost use Rattle.wavelet.specs.Level.{halves, quarters};
+ghost use Rattle.wavelet.specs.Component.{SamplesIn, ComponentIn, ComponentsIn};
+use crate::arith;
+use crate::lift;
 use crate::pad;
 use crate::plane;
 
@@ -26,7 +32,49 @@ pub struct Transform {
     pub iv: usize,
 }
 
-// A component, padded and analysed: its coefficients stand off places behind the n of scratch, and nothing else there changes.
+// The rows of a component's padded plane: analysed, with the filter's shift, into the scratch.
+fn pad_rows(work: &mut [i64], samples: &[u16], c: Component, index: usize)
+    requires { ⌜ SamplesIn (now samples) (c .w) (c .h) (c .pw) (c .ph) (now work) × (index ≤ 6) ⌝ }
+    ensures { λ _. ⌜ now (work .exit) ≡ put 0 (c .ph * c .pw) (asList (c .ph) (c .pw) (hPass wrap index (c .ph) (c .pw) (padded (now (samples .entry)) (c .offset) (c .w) (c .h)))) (now (work .entry)) ⌝ }
+{
+    let w = c.w;
+    let pw = c.pw;
+    let ph = c.ph;
+    let offset = c.offset;
+    let last = c.h - 1;
+    let bits = plane::filter_shift(index);
+    let mut n = 0;
+    let mut at = 0;
+    while n < ph {
+        let e = at + pw;
+        let f = arith::least(n, last) * w;
+        pad::pad_row(&mut work[at..e], samples, f, w, offset, bits);
+        lift::analyse(&mut work[at..e], index);
+        at = e;
+        n += 1;
+    }
+}
+
+// The first level of a component from its samples, horizontal-only: its bands L, H.
+fn h_component(work: &mut [i64], n: usize, off: usize, samples: &[u16], c: Component, t: Transform)
+    requires { ⌜ ComponentIn c t (now samples) n off (now work) × ((t .d ≤ 0) × (0 < t .k)) ⌝ }
+    ensures { λ _. ⌜ drop n (now (work .exit)) ≡ put off (c .ph * c .pw) (halves (c .ph) (c .pw) (hPass wrap (t .ih) (c .ph) (c .pw) (padded (now (samples .entry)) (c .offset) (c .w) (c .h)))) (drop n (now (work .entry))) ⌝ }
+{
+    pad_rows(work, samples, c, t.ih);
+    plane::h_bands(work, n, off, c.ph, c.pw);
+}
+
+// The first level of a component from its samples, both ways: its bands LL, HL, LH, HH.
+fn vh_component(work: &mut [i64], n: usize, off: usize, samples: &[u16], c: Component, t: Transform)
+    requires { ⌜ ComponentIn c t (now samples) n off (now work) × (0 < t .d) ⌝ }
+    ensures { λ _. ⌜ drop n (now (work .exit)) ≡ put off (c .ph * c .pw) (quarters (c .ph) (c .pw) (vhPass wrap (t .ih) (t .iv) (c .ph) (c .pw) (padded (now (samples .entry)) (c .offset) (c .w) (c .h)))) (drop n (now (work .entry))) ⌝ }
+{
+    pad_rows(work, samples, c, t.ih);
+    plane::vh_bands(work, n, off, c.ph, c.pw, t.iv);
+}
+
+// A component, padded and analysed: its coefficients stand off places behind the n of scratch, and nothing else there changes. The first
+// level takes the samples, and the level below its first band.
 pub fn analyse_component(
     work: &mut [i64],
     n: usize,
@@ -40,10 +88,18 @@ pub fn analyse_component(
 {
     let pw = c.pw;
     let ph = c.ph;
-    let to = n + off;
-    let e = to + ph * pw;
-    pad::pad_component(&mut work[to..e], samples, c.w, c.h, pw, ph, c.offset);
-    plane::dwt(work, n, off, ph, pw, t.k, t.d, t.ih, t.iv);
+    let b = pw / 2;
+    if t.d > 0 {
+        vh_component(work, n, off, samples, c, t);
+        plane::dwt(work, n, off, ph / 2, b, t.k, t.d - 1, t.ih, t.iv);
+    } else if t.k > 0 {
+        h_component(work, n, off, samples, c, t);
+        plane::dwt(work, n, off, ph, b, t.k - 1, 0, t.ih, t.iv);
+    } else {
+        let to = n + off;
+        let e = to + ph * pw;
+        pad::pad_component(&mut work[to..e], samples, c.w, c.h, pw, ph, c.offset);
+    }
 }
 
 // Three components one after the other behind the scratch. The two colours are alike.

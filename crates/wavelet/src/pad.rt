@@ -27,18 +27,25 @@ fn centred(s: u16, offset: u16) -> i64
     x - o
 }
 
-// A row: the w samples from from on, the last one repeated.
-fn pad_row(dst: &mut [i64], samples: &[u16], from: usize, w: usize, offset: u16)
-    requires { ⌜ (1 ≤ w) × (from + w ≤ length (now samples)) ⌝ }
-    ensures { λ _. ⌜ now (dst .exit) ≡ row (length (now (dst .entry))) (paddedRow (now (samples .entry)) offset w from) ⌝ }
+// A row: the w samples from from on, the last one repeated, with their accuracy bits added.
+pub fn pad_row(dst: &mut [i64], samples: &[u16], from: usize, w: usize, offset: u16, bits: u32)
+    requires { ⌜ ((1 ≤ w) × (from + w ≤ length (now samples))) × (bits ≤ 1) ⌝ }
+    ensures { λ _. ⌜ now (dst .exit) ≡ row (length (now (dst .entry))) (paddedRow bits (now (samples .entry)) offset w from) ⌝ }
 {
     let n = dst.len();
-    let last = w - 1;
+    let m = arith::least(n, w);
+    let last = from + (w - 1);
     let mut k = 0;
-    while k < n {
-        let p = from + arith::least(k, last);
+    while k < m {
+        let p = from + k;
         let s = samples[p];
-        let y = centred(s, offset);
+        let y = arith::raised(centred(s, offset), bits);
+        dst[k] = y;
+        k += 1;
+    }
+    let s = samples[last];
+    let y = arith::raised(centred(s, offset), bits);
+    while k < n {
         dst[k] = y;
         k += 1;
     }
@@ -63,7 +70,7 @@ pub fn pad_component(
     while n < ph {
         let e = at + pw;
         let f = arith::least(n, last) * w;
-        pad_row(&mut plane[at..e], samples, f, w, offset);
+        pad_row(&mut plane[at..e], samples, f, w, offset, 0);
         at = e;
         n += 1;
     }

@@ -11,7 +11,7 @@ ghost use Rattle.laws.specs.Plane.{asPlane, asList};
 ghost use Rattle.laws.specs.Wrap.{wrap};
 ghost use Rattle.wavelet.specs.Lifting.{lifted};
 ghost use Rattle.wavelet.specs.Filters.{filterOf, analysisBy};
-ghost use Rattle.wavelet.specs.Planes.{coefficients, columnsBy, raise, hPass, vhPass, dwt};
+ghost use Rattle.wavelet.specs.Planes.{coefficients, columnsBy, hPass, vhPass, dwt};
 ghost use Rattle.wavelet.specs.Table.{stageOf, Legal};
 ghost use Rattle.wavelet.specs.Copy.{copied, Copies, bandRow, BandIn, bandOf, BandsIn};
 ghost use Rattle.wavelet.specs.Columns.{PlaneIn};
@@ -24,23 +24,11 @@ use crate::lift::LiftStage;
 // The shift of each filter.
 const SHIFTS: [u32; 7] = [1, 1, 1, 0, 1, 0, 1];
 
-fn filter_shift(index: usize) -> u32
+pub fn filter_shift(index: usize) -> u32
     requires { ⌜ index ≤ 6 ⌝ }
     ensures { λ r. ⌜ r ≡ filterOf index .bits ⌝ }
 {
     SHIFTS[index]
-}
-
-// A number with its accuracy bits added.
-fn raised(x: i64, bits: u32) -> i64
-    requires { ⌜ bits ≤ 1 ⌝ }
-    ensures { λ r. ⌜ r ≡ raise wrap bits x ⌝ }
-{
-    if bits == 0 {
-        x
-    } else {
-        arith::wrapping_add_i64(x, x)
-    }
 }
 
 fn number_at(s: &[i64], p: usize) -> i64
@@ -76,7 +64,7 @@ fn copy_into(
     while k < len {
         let p = from + step * k;
         let x = number_at(work, p);
-        let y = raised(x, bits);
+        let y = arith::raised(x, bits);
         let t = to + k;
         store_at(&mut work[a..e], t, y);
         k += 1;
@@ -165,15 +153,32 @@ fn bands(work: &mut [i64], to: usize, v: usize, a: usize, w: usize)
     }
 }
 
+// A horizontal-only level whose h rows of w are analysed in the scratch: its bands L, H go off places behind the n of scratch.
+pub fn h_bands(work: &mut [i64], n: usize, off: usize, h: usize, w: usize)
+    requires { ⌜ EvenWidth h w × Place n off (h * w) (now work) ⌝ }
+    ensures { λ _. ⌜ drop n (now (work .exit)) ≡ put off (h * w) (halves h w (asPlane w (now (work .entry)))) (drop n (now (work .entry))) ⌝ }
+{
+    bands(work, n + off, 1, h, w);
+}
+
+// A level both ways whose rows are analysed in the scratch: columns there, and its bands LL, HL, LH, HH go to the place.
+pub fn vh_bands(work: &mut [i64], n: usize, off: usize, h: usize, w: usize, iv: usize)
+    requires { ⌜ EvenSides h w × (Place n off (h * w) (now work) × (iv ≤ 6)) ⌝ }
+    ensures { λ _. ⌜ drop n (now (work .exit)) ≡ put off (h * w) (quarters h w (columnsBy (analysisBy wrap iv) h w (asPlane w (now (work .entry))))) (drop n (now (work .entry))) ⌝ }
+{
+    let m = h * w;
+    columns(&mut work[..m], h, w, iv);
+    bands(work, n + off, 2, h / 2, w);
+}
+
 // A horizontal-only level of the plane of h rows of w that stands off places behind the n of scratch: its bands L, H stand there then. For the
 // layer above, as are the functions below.
 pub fn h_analysis(work: &mut [i64], n: usize, off: usize, h: usize, w: usize, ih: usize)
     requires { ⌜ EvenWidth h w × (Place n off (h * w) (now work) × (ih ≤ 6)) ⌝ }
     ensures { λ _. ⌜ drop n (now (work .exit)) ≡ put off (h * w) (halves h w (hPass wrap ih h w (asPlane w (piece off (h * w) (drop n (now (work .entry))))))) (drop n (now (work .entry))) ⌝ }
 {
-    let to = n + off;
-    rows(work, to, h, w, ih, filter_shift(ih));
-    bands(work, to, 1, h, w);
+    rows(work, n + off, h, w, ih, filter_shift(ih));
+    h_bands(work, n, off, h, w);
 }
 
 // A level both ways: rows with the horizontal filter, whose shift is the only one, then columns; its bands LL, HL, LH, HH stand there then.
@@ -181,13 +186,9 @@ pub fn vh_analysis(work: &mut [i64], n: usize, off: usize, h: usize, w: usize, i
     requires { ⌜ EvenSides h w × (Place n off (h * w) (now work) × ((ih ≤ 6) × (iv ≤ 6))) ⌝ }
     ensures { λ _. ⌜ drop n (now (work .exit)) ≡ put off (h * w) (quarters h w (vhPass wrap ih iv h w (asPlane w (piece off (h * w) (drop n (now (work .entry))))))) (drop n (now (work .entry))) ⌝ }
 {
-    let to = n + off;
-    let m = h * w;
-    let a = h / 2;
     let bits = filter_shift(ih);
-    rows(work, to, h, w, ih, bits);
-    columns(&mut work[..m], h, w, iv);
-    bands(work, to, 2, a, w);
+    rows(work, n + off, h, w, ih, bits);
+    vh_bands(work, n, off, h, w, iv);
 }
 
 // d levels both ways and then k horizontal-only ones of the plane that stands off places behind the n of scratch: its bands, in the stream's

@@ -1,8 +1,42 @@
 -- `component::analyse_component` meets its contract. Assumes nothing.
-use Rattle.wavelet.specs.Component.{component-is}
+use Prim.Native.Nat.{_*_, _/_}
+use Rattle.wavelet.specs.Pad.{padded}
+use Rattle.wavelet.specs.Walk.{deep-both, deep-across, place-down, quarter-le, half-le, walk-both, walk-across}
+use Rattle.wavelet.specs.Component.{padded-none}
 use borrow.Author.Needs.{needs}
 use Rattle.wavelet.proofs.component.analyse_component.Statement.{statement}
 use Rattle.wavelet.proofs.component.analyse_component.Tie as tie
+
+vh-component-requires : tie.Need-vh-component-requires
+vh-component-requires c κs = search needs
+
+sub-dwt : tie.Need-sub-dwt
+sub-dwt c = search needs
+
+dwt-requires : tie.Need-dwt-requires
+dwt-requires c κs =
+    let st = c .before .before .before .before .before .before .before .before in
+    let a = st .args in
+    let level = c .before .before .before .vh-component in (
+      deep-both (a .t .k) (a .t .d) (a .c .ph) (a .c .pw) (a .t .ih) (a .t .iv) (c .before .before .before .before .before .if1 .taken) (st .pre .deep) .1,
+      place-down (a .n) (a .off) (a .c .ph * a .c .pw) (a .c .ph / 2 * (a .c .pw / 2)) (a .work .now) (level .last .0) (st .pre .place) (quarter-le (a .c .ph) (a .c .pw)) (level .kept .0),
+    )
+
+h-component-requires : tie.Need-h-component-requires
+h-component-requires c κs = search needs
+
+sub-dwt-2 : tie.Need-sub-dwt-2
+sub-dwt-2 c = search needs
+
+dwt-requires-2 : tie.Need-dwt-requires-2
+dwt-requires-2 c κs =
+    let st = c .before .before .before .before .before .before .before .before .before .before in
+    let a = st .args in
+    let level = c .before .before .before .h-component in
+    let flat = c .before .before .before .before .before .before .before .if1 .left in (
+      deep-across (a .t .k) (a .t .d) (a .c .ph) (a .c .pw) (a .t .ih) (a .t .iv) flat (c .before .before .before .before .before .if2 .taken) (st .pre .deep) .1,
+      place-down (a .n) (a .off) (a .c .ph * a .c .pw) (a .c .ph * (a .c .pw / 2)) (a .work .now) (level .last .0) (st .pre .place) (half-le (a .c .ph) (a .c .pw)) (level .kept .0),
+    )
 
 add-to : tie.Need-add-to
 add-to c = search needs
@@ -28,24 +62,54 @@ part-pad-component-end c = search needs
 pad-component-requires : tie.Need-pad-component-requires
 pad-component-requires c κs = search needs
 
-dwt-requires : tie.Need-dwt-requires
-dwt-requires c κs = search needs
-
 same-length : tie.Need-same-length
 same-length c = search needs
 
 returns : tie.Need-returns
 returns c =
-    let st = c .before .before .before .before .before .before .before in
+    let st = c .before .before .before .before .before .before .before .before .before .before in
     let a = st .args in
-    let p = c .before .before .before .before .pad-component in
-    let r = c .before .dwt in
-    component-is (a .t .ih) (a .t .iv) (a .t .k) (a .t .d) (a .samples .now) (a .c .offset) (a .c .w) (a .c .h) (a .c .pw) (a .c .ph) (a .n) (a .off) (a .work .now) (p .last .0) (r .last .0) (st .pre .place) (p .ensures) (r .ensures)
+    let some = c .before .before .before .before .before .before .before .if1 .taken in
+    let level = c .before .before .before .before .before .vh-component in
+    let rest = c .before .dwt in
+    walk-both (a .t .ih) (a .t .iv) (a .t .k) (a .t .d) (a .c .ph) (a .c .pw) (a .n) (a .off) (padded (a .samples .now) (a .c .offset) (a .c .w) (a .c .h)) (a .work .now) (level .last .0) (rest .last .0) some
+    (deep-both (a .t .k) (a .t .d) (a .c .ph) (a .c .pw) (a .t .ih) (a .t .iv) some (st .pre .deep) .0) (st .pre .place) (level .ensures) (rest .ensures)
+
+same-length-2 : tie.Need-same-length-2
+same-length-2 c = search needs
+
+returns-2 : tie.Need-returns-2
+returns-2 c =
+    let st = c .before .before .before .before .before .before .before .before .before .before .before .before in
+    let a = st .args in
+    let flat = c .before .before .before .before .before .before .before .before .before .if1 .left in
+    let some = c .before .before .before .before .before .before .before .if2 .taken in
+    let level = c .before .before .before .before .before .h-component in
+    let rest = c .before .dwt2 in
+    walk-across (a .t .ih) (a .t .iv) (a .t .k) (a .t .d) (a .c .ph) (a .c .pw) (a .n) (a .off) (padded (a .samples .now) (a .c .offset) (a .c .w) (a .c .h)) (a .work .now) (level .last .0) (rest .last .0) flat some
+    (deep-across (a .t .k) (a .t .d) (a .c .ph) (a .c .pw) (a .t .ih) (a .t .iv) flat some (st .pre .deep) .0) (st .pre .place) (level .ensures) (rest .ensures)
+
+same-length-3 : tie.Need-same-length-3
+same-length-3 c = search needs
+
+returns-3 : tie.Need-returns-3
+returns-3 c =
+    let st = c .before .before .before .before .before .before .before .before in
+    let a = st .args in
+    let p = c .before .pad-component in
+    padded-none (a .t .ih) (a .t .iv) (a .t .k) (a .t .d) (a .samples .now) (a .c .offset) (a .c .w) (a .c .h) (a .c .pw) (a .c .ph) (a .n) (a .off) (a .work .now) (p .last .0)
+    (c .before .before .before .before .before .if1 .left) (c .before .before .before .if2 .left) (st .pre .place) (p .ensures)
 
 pub analyse-component-spec : {M : Type 1} → statement M
 analyse-component-spec =
     tie.close
     (tie.spec
+    vh-component-requires
+    sub-dwt
+    dwt-requires
+    h-component-requires
+    sub-dwt-2
+    dwt-requires-2
     add-to
     mul-e
     add-e
@@ -54,6 +118,9 @@ analyse-component-spec =
     part-pad-component-start
     part-pad-component-end
     pad-component-requires
-    dwt-requires
     same-length
-    returns)
+    returns
+    same-length-2
+    returns-2
+    same-length-3
+    returns-3)

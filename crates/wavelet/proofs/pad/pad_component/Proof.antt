@@ -60,7 +60,7 @@ part-pad-row-end c = omega (arith, room (c .before), c .before .before .loop .in
 pad-row-requires : tie.Need-pad-row-requires Inv-loop μ-loop
 pad-row-requires c κs =
     let st = c .before .before .before .before .before in
-    (st .pre .some .0, rw (c .before .least .ensures) (room (c .before .before) .source))
+    ((st .pre .some .0, rw (c .before .least .ensures) (room (c .before .before) .source)), omega arith)
 
 add-n : tie.Need-add-n Inv-loop μ-loop
 add-n c = omega arith
@@ -77,7 +77,7 @@ loop-again c =
     let s = a .samples .now in
     let e = length-lent (l .at) (a .pw) (l .plane) (omega (arith, room i, l .inv .long)) in
     let f : c .before .pad-row .last .0 ≡ row (a .pw) (padded s (a .offset) (a .w) (a .h) (l .n)) =
-    c .before .pad-row .ensures ∙ ap₂ (λ (m from : ℕ). row m (paddedRow s (a .offset) (a .w) (from * a .w))) e (c .before .before .before .least .ensures) in
+    c .before .pad-row .ensures ∙ ap₂ (λ (m from : ℕ). row m (paddedRow 0 s (a .offset) (a .w) (from * a .w))) e (c .before .before .before .least .ensures) in
     lent-next (λ y. row (a .pw) (padded s (a .offset) (a .w) (a .h) y)) (a .plane .now) 0 (a .ph) (a .pw) (l .plane) (l .n) (l .at) (length-padded s (a .offset) (a .w) (a .h) (a .pw)) (l .inv) (omega (arith, st .pre .long)) (i .loop-test .taken) (c .before .pad-row .last .0) f
 
 same-length : tie.Need-same-length Inv-loop μ-loop

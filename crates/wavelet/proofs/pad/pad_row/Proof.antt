@@ -1,78 +1,156 @@
--- `pad::pad_row` meets its contract. The loop's invariant: the first k places are there. Assumes nothing.
-use mathlib.Core.Path.{_≡_, refl, ap, _∙_}
-use mathlib.Core.List.{_++_}
-use Prim.Native.Nat.{ℕ, _+_, _-_, _≤_}
-use native.Mathlib.Nat.{min-le-right}
-use lib.ListN.{length, set, drop, getD, length-set}
+-- `pad::pad_row` meets its contract. The invariant of both loops: the first k places are there. Assumes nothing.
+use mathlib.Core.Path.{refl, ap, _∙_}
+use Prim.Native.Nat.{ℕ, _-_, _<_, _≤_}
+use native.Mathlib.Nat.{min-le-left, min-le-right}
+use native.Mathlib.Omega.{arith}
+use lib.ListN.{length}
 use mir.Facts.{toZ-ofZ}
 use borrow.Author.Needs.{sfits-of}
+use Rattle.laws.specs.Wrap.{wrap}
 use Rattle.laws.specs.Rows.{row}
-use Rattle.laws.specs.Chunks.{fill-turn, fill-all}
-use Rattle.wavelet.specs.Pad.{centred}
-use Rattle.wavelet.specs.PadLaws.{paddedRow}
-use native.Mathlib.Omega.{arith}
+use Rattle.laws.specs.Chunks.{fill-all}
+use Rattle.wavelet.specs.Planes.{raise}
+use Rattle.wavelet.specs.PadLaws.{paddedRow, Filled, filled-next, filled-again, past-samples, padded-in, padded-behind}
 use Rattle.wavelet.proofs.pad.pad_row.Statement.{statement}
 use Rattle.wavelet.proofs.pad.pad_row.Tie as tie
 
 abbrev Inv-loop : tie.InvT-loop
-Inv-loop dst₀ samples from w offset n last k₀ dst k = (k ≤ length dst₀) × (length dst ≡ length dst₀) × (dst ≡ row k (paddedRow samples offset w from) ++ drop k dst₀)
+Inv-loop dst₀ samples from w offset bits n m last k₀ dst k = (k ≤ m) × Filled bits samples offset w from dst₀ dst k
 
 abbrev μ-loop : tie.MeasureT-loop
-μ-loop dst₀ samples from w offset n last k₀ dst k = length dst₀ - k
+μ-loop dst₀ samples from w offset bits n m last k₀ dst k = m - k
 
-sub-last : tie.Need-sub-last Inv-loop μ-loop
-sub-last c = omega arith
+abbrev Inv-loop2 : tie.InvT-loop2
+Inv-loop2 dst₀ samples from w offset bits n m last k₀ s y dst k = ((m ≤ k) × (k ≤ n)) × Filled bits samples offset w from dst₀ dst k
 
-loop-holds : tie.Need-loop-holds Inv-loop μ-loop
-loop-holds c = (omega arith, refl, refl)
+abbrev μ-loop2 : tie.MeasureT-loop2
+μ-loop2 dst₀ samples from w offset bits n m last k₀ s y dst k = n - k
 
-least-requires : tie.Need-least-requires Inv-loop μ-loop
+record Room (k w have : ℕ) : Type 0 where
+  inside : k < w
+  fits : k < have
+
+room : (c : tie.In-loop Inv-loop μ-loop Inv-loop2 μ-loop2) → Room (c .before .loop .k) (c .before .before .before .before .args .w) (length (c .before .before .before .before .args .dst .now))
+room c =
+    let a = c .before .before .before .before .args in
+    let e = c .before .before .least .ensures in
+    record {
+      inside = omega (arith, c .loop-test .taken, e, min-le-right (length (a .dst .now)) (a .w));
+      fits = omega (arith, c .loop-test .taken, e, min-le-left (length (a .dst .now)) (a .w));
+    }
+
+least-requires : tie.Need-least-requires Inv-loop μ-loop Inv-loop2 μ-loop2
 least-requires c κs = tt
 
-add-p : tie.Need-add-p Inv-loop μ-loop
-add-p c = omega arith
+sub-last : tie.Need-sub-last Inv-loop μ-loop Inv-loop2 μ-loop2
+sub-last c = omega arith
 
-mul-s : tie.Need-mul-s Inv-loop μ-loop
-mul-s c = omega arith
+add-last : tie.Need-add-last Inv-loop μ-loop Inv-loop2 μ-loop2
+add-last c = omega arith
 
-shared-slice-read-s : tie.Need-shared-slice-read-s Inv-loop μ-loop
-shared-slice-read-s c = let a = c .before .before .before .before .before .args in omega (arith, c .before .least .ensures, min-le-right (c .before .before .before .loop .k) (a .w - 1), c .before .before .before .before .before .pre)
+loop-holds : tie.Need-loop-holds Inv-loop μ-loop Inv-loop2 μ-loop2
+loop-holds c = (omega arith, record { long = refl; now-is = refl })
 
-centred-requires : tie.Need-centred-requires Inv-loop μ-loop
+add-p : tie.Need-add-p Inv-loop μ-loop Inv-loop2 μ-loop2
+add-p c = omega (arith, room c)
+
+mul-s : tie.Need-mul-s Inv-loop μ-loop Inv-loop2 μ-loop2
+mul-s c = omega (arith, room c, c .before .before .before .before .pre)
+
+shared-slice-read-s : tie.Need-shared-slice-read-s Inv-loop μ-loop Inv-loop2 μ-loop2
+shared-slice-read-s c = omega (arith, room (c .before), c .before .before .before .before .before .pre)
+
+centred-requires : tie.Need-centred-requires Inv-loop μ-loop Inv-loop2 μ-loop2
 centred-requires c κs = tt
 
-mul-y : tie.Need-mul-y Inv-loop μ-loop
-mul-y c = omega arith
+raised-requires : tie.Need-raised-requires Inv-loop μ-loop Inv-loop2 μ-loop2
+raised-requires c κs = c .before .before .before .before .before .before .pre .1
 
-slice-set-from-y : tie.Need-slice-set-from-y Inv-loop μ-loop
-slice-set-from-y c = omega arith
+mul-y : tie.Need-mul-y Inv-loop μ-loop Inv-loop2 μ-loop2
+mul-y c = omega (arith, room (c .before .before .before))
 
-add-k : tie.Need-add-k Inv-loop μ-loop
-add-k c = omega arith
+slice-set-from-y : tie.Need-slice-set-from-y Inv-loop μ-loop Inv-loop2 μ-loop2
+slice-set-from-y c = omega (arith, room (c .before .before .before), c .before .before .before .before .loop .inv .1 .long)
 
-loop-less : tie.Need-loop-less Inv-loop μ-loop
+add-k : tie.Need-add-k Inv-loop μ-loop Inv-loop2 μ-loop2
+add-k c = omega (arith, room (c .before .before .before))
+
+loop-less : tie.Need-loop-less Inv-loop μ-loop Inv-loop2 μ-loop2
 loop-less c = omega arith
 
-loop-again : tie.Need-loop-again Inv-loop μ-loop
+loop-again : tie.Need-loop-again Inv-loop μ-loop Inv-loop2 μ-loop2
 loop-again c =
-    let st = c .before .before .before .before .before .before in
+    let st = c .before .before .before .before .before .before .before in
     let a = st .args in
     let l = c .before .before .before .before .loop in
+    let r = room (c .before .before .before) in
     let s = a .samples .now in (
       omega arith,
-      simp length-set (l .inv .1),
-      ap (set (l .dst) (l .k)) (toZ-ofZ (sfits-of (c .centred .ok)) ∙ c .centred .ensures ∙ ap (λ (m : ℕ). centred (a .offset) (getD s (a .from + m) 0)) (c .before .before .least .ensures))
-          ∙ fill-turn (paddedRow s (a .offset) (a .w) (a .from)) (a .dst .now) (l .dst) (l .k) (omega arith) (l .inv .2),
+      filled-next (a .bits) s (a .offset) (a .w) (a .from) (a .dst .now) (l .dst) (l .k) _ (r .fits) (l .inv .1)
+          (toZ-ofZ (sfits-of (c .raised .ok)) ∙ c .raised .ensures ∙ ap (raise wrap (a .bits)) (toZ-ofZ (sfits-of (c .before .centred .ok)) ∙ c .before .centred .ensures)
+          ∙ padded-in (a .bits) s (a .offset) (a .w) (a .from) (l .k) (r .inside)),
     )
 
-same-length : tie.Need-same-length Inv-loop μ-loop
-same-length c = c .before .loop .inv .1
+mul-s-2 : tie.Need-mul-s-2 Inv-loop μ-loop Inv-loop2 μ-loop2
+mul-s-2 c = omega arith
 
-returns : tie.Need-returns Inv-loop μ-loop
+shared-slice-read-s-2 : tie.Need-shared-slice-read-s-2 Inv-loop μ-loop Inv-loop2 μ-loop2
+shared-slice-read-s-2 c = omega arith
+
+centred-requires-2 : tie.Need-centred-requires-2 Inv-loop μ-loop Inv-loop2 μ-loop2
+centred-requires-2 c κs = tt
+
+raised-requires-2 : tie.Need-raised-requires-2 Inv-loop μ-loop Inv-loop2 μ-loop2
+raised-requires-2 c κs = c .before .before .before .before .before .before .pre .1
+
+loop2-holds : tie.Need-loop2-holds Inv-loop μ-loop Inv-loop2 μ-loop2
+loop2-holds c =
+    let st = c .before .before .before .before .before .before .before in
+    let a = st .args in
+    let l = c .before .before .before .before .loop in (
+      (omega arith, omega (arith, l .inv .0, c .before .before .before .before .before .least .ensures, min-le-left (length (a .dst .now)) (a .w))),
+      filled-again (a .bits) (a .samples .now) (a .offset) (a .w) (a .from) (a .dst .now) (l .dst) (l .k) (l .inv .1),
+    )
+
+mul-y-2 : tie.Need-mul-y-2 Inv-loop μ-loop Inv-loop2 μ-loop2
+mul-y-2 c = omega arith
+
+slice-set-from-y-2 : tie.Need-slice-set-from-y-2 Inv-loop μ-loop Inv-loop2 μ-loop2
+slice-set-from-y-2 c = omega arith
+
+add-k-2 : tie.Need-add-k-2 Inv-loop μ-loop Inv-loop2 μ-loop2
+add-k-2 c = omega arith
+
+loop2-less : tie.Need-loop2-less Inv-loop μ-loop Inv-loop2 μ-loop2
+loop2-less c = omega arith
+
+loop2-again : tie.Need-loop2-again Inv-loop μ-loop Inv-loop2 μ-loop2
+loop2-again c =
+    let st = c .before .before .before .before .before .before .before .before .before in
+    let a = st .args in
+    let l = c .before .loop2 in
+    let l1 = c .before .before .before .before .before .before .loop in
+    let y = c .before .before .raised2 in
+    let z = c .before .before .before .centred2 in
+    let s = a .samples .now in
+    let past = past-samples (length (a .dst .now)) (a .w) (l .k) (omega (arith, c .before .before .before .before .before .before .before .least .ensures, l .inv .0)) (c .loop2-test .taken) in (
+      omega arith,
+      filled-next (a .bits) s (a .offset) (a .w) (a .from) (l1 .dst) (l .dst) (l .k) _ (omega (arith, l1 .inv .1 .long)) (l .inv .1)
+          (toZ-ofZ (sfits-of (y .ok)) ∙ y .ensures ∙ ap (raise wrap (a .bits)) (toZ-ofZ (sfits-of (z .ok)) ∙ z .ensures) ∙ padded-behind (a .bits) s (a .offset) (a .w) (a .from) (l .k) past),
+    )
+
+same-length : tie.Need-same-length Inv-loop μ-loop Inv-loop2 μ-loop2
+same-length c = c .before .loop2 .inv .1 .long ∙ c .before .before .before .before .before .before .loop .inv .1 .long
+
+returns : tie.Need-returns Inv-loop μ-loop Inv-loop2 μ-loop2
 returns c =
-    let a = c .before .before .before .args in
-    let l = c .before .loop in
-    l .inv .2 ∙ fill-all (paddedRow (a .samples .now) (a .offset) (a .w) (a .from)) (a .dst .now) (l .k) (omega arith)
+    let st = c .before .before .before .before .before .before .before .before .before in
+    let a = st .args in
+    let l = c .before .loop2 in
+    let l1 = c .before .before .before .before .before .before .loop in
+    let f = paddedRow (a .bits) (a .samples .now) (a .offset) (a .w) (a .from) in
+    let long = l1 .inv .1 .long in
+    l .inv .1 .now-is ∙ fill-all f (l1 .dst) (l .k) (omega (arith, long)) ∙ ap (λ (n : ℕ). row n f) long
 
 pub pad-row-spec : {M : Type 1} → statement M
 pad-row-spec =
@@ -80,17 +158,31 @@ pad-row-spec =
     (tie.spec
     Inv-loop
     μ-loop
-    sub-last
-    loop-holds
+    Inv-loop2
+    μ-loop2
     least-requires
+    sub-last
+    add-last
+    loop-holds
     add-p
     mul-s
     shared-slice-read-s
     centred-requires
+    raised-requires
     mul-y
     slice-set-from-y
     add-k
     loop-less
     loop-again
+    mul-s-2
+    shared-slice-read-s-2
+    centred-requires-2
+    raised-requires-2
+    loop2-holds
+    mul-y-2
+    slice-set-from-y-2
+    add-k-2
+    loop2-less
+    loop2-again
     same-length
     returns)

@@ -2,6 +2,9 @@
 use mathlib.Core.Path.{_∙_}
 use native.Mathlib.Omega.{arith}
 use Prim.Native.Nat.{ℕ, _+_, _*_, _/_, _<_}
+use lib.ListN.{drop}
+use Rattle.laws.specs.Window.{piece}
+use Rattle.laws.specs.Plane.{asPlane}
 use borrow.Fn.Kinds.{In}
 use borrow.Fn.PlainCycle.{Measures, is, falls, and}
 use Rattle.wavelet.specs.Walk.{deep-both, deep-across, place-down, quarter-le, half-le, walk-both, walk-across, walk-none}
@@ -89,7 +92,7 @@ dwt-returns t c =
     let some = c .before .before .before .before .before .before .if1 .taken in
     let level = c .before .before .before .before .vh-analysis in
     let rest = c .before .dwt in
-    walk-both (a .ih) (a .iv) (a .k) (a .d) (a .h) (a .w) (a .n) (a .off) (a .work .now) (level .last .0) (rest .last .0) some
+    walk-both (a .ih) (a .iv) (a .k) (a .d) (a .h) (a .w) (a .n) (a .off) (asPlane (a .w) (piece (a .off) (a .h * a .w) (drop (a .n) (a .work .now)))) (a .work .now) (level .last .0) (rest .last .0) some
     (deep-both (a .k) (a .d) (a .h) (a .w) (a .ih) (a .iv) some (st .pre .1 .0) .0) (st .pre .1 .1) (level .ensures) (rest .ensures)
 
 dwt-same-length-2 : (t : ℕ) → dwt-lts.Need-same-length-2 (claims t) (dwt-at t) dwt.Post
@@ -103,7 +106,7 @@ dwt-returns-2 t c =
     let some = c .before .before .before .before .before .before .if2 .taken in
     let level = c .before .before .before .before .h-analysis in
     let rest = c .before .dwt2 in
-    walk-across (a .ih) (a .iv) (a .k) (a .d) (a .h) (a .w) (a .n) (a .off) (a .work .now) (level .last .0) (rest .last .0) flat some
+    walk-across (a .ih) (a .iv) (a .k) (a .d) (a .h) (a .w) (a .n) (a .off) (asPlane (a .w) (piece (a .off) (a .h * a .w) (drop (a .n) (a .work .now)))) (a .work .now) (level .last .0) (rest .last .0) flat some
     (deep-across (a .k) (a .d) (a .h) (a .w) (a .ih) (a .iv) flat some (st .pre .1 .0) .0) (st .pre .1 .1) (level .ensures) (rest .ensures)
 
 dwt-returns-3 : (t : ℕ) → dwt-lts.Need-returns-3 (claims t) (dwt-at t) dwt.Post

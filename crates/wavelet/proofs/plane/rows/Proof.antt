@@ -1,6 +1,7 @@
 -- `plane::rows` meets its contract. The loop's invariant: the first n rows of the scratch are there. Assumes nothing.
 use Prim.Native.Nat.{ℕ, _+_, _*_, _-_, _≤_}
-use lib.ListN.{length}
+use lib.ListN.{length, drop}
+use Rattle.laws.specs.Plane.{asPlane}
 use Rattle.laws.specs.Window.{Parts, parts-first, length-lent}
 use Rattle.wavelet.specs.PlaneLaws.{bits-le}
 use Rattle.wavelet.specs.Level.{rowOf, rows-room, rows-copies, rows-turn, rows-all}
@@ -9,7 +10,7 @@ use Rattle.wavelet.proofs.plane.rows.Statement.{statement}
 use Rattle.wavelet.proofs.plane.rows.Tie as tie
 
 abbrev Inv-loop : tie.InvT-loop
-Inv-loop work₀ from h w index bits m n₀ at₀ work n at = Parts (rowOf index work₀ from w) work₀ 0 h w work n at
+Inv-loop work₀ from h w index bits m n₀ at₀ work n at = Parts (rowOf index (asPlane w (drop from work₀)) w) work₀ 0 h w work n at
 
 abbrev μ-loop : tie.MeasureT-loop
 μ-loop work₀ from h w index bits m n₀ at₀ work n at = h - n
@@ -25,7 +26,7 @@ room c =
     let a = st .args in
     let l = c .before .loop in
     record {
-      fits = rows-room (a .index) (a .work .now) (a .from) (a .h) (a .w) (st .pre .0) (l .work) (l .n) (l .at) (l .inv) (c .loop-test .taken);
+      fits = rows-room (a .index) (asPlane (a .w) (drop (a .from) (a .work .now))) (a .work .now) (a .h) (a .w) (omega (arith, st .pre .0 .fits)) (l .work) (l .n) (l .at) (l .inv) (c .loop-test .taken);
       front = st .pre .0 .room;
       behind = st .pre .0 .fits;
     }
@@ -93,7 +94,7 @@ returns : tie.Need-returns Inv-loop μ-loop
 returns c =
     let a = c .before .before .args in
     let l = c .before .loop in
-    rows-all (a .index) (a .work .now) (a .from) (a .h) (a .w) (l .work) (l .n) (l .at) (l .inv) (omega arith)
+    rows-all (a .index) (asPlane (a .w) (drop (a .from) (a .work .now))) (a .work .now) (a .h) (a .w) (l .work) (l .n) (l .at) (l .inv) (omega arith)
 
 pub rows-spec : {M : Type 1} → statement M
 rows-spec =

@@ -1,4 +1,4 @@
--- `plane::raised` meets its contract. Assumes nothing.
+-- `arith::raised` meets its contract. Assumes nothing.
 use mathlib.Core.Path.{_≡_, sym, ap, _∙_}
 use Prim.Native.Nat.{ℕ}
 use native.Mathlib.Omega.{arith}
@@ -7,9 +7,8 @@ use borrow.Author.Needs.{needs, sfits-of}
 use Rattle.laws.specs.Wrap.{wrap}
 use Rattle.wavelet.specs.Planes.{raise}
 use Rattle.wavelet.specs.Copy.{raise-one}
-use borrow.Author.Needs.{needs}
-use Rattle.wavelet.proofs.plane.raised.Statement.{statement}
-use Rattle.wavelet.proofs.plane.raised.Tie as tie
+use Rattle.wavelet.proofs.arith.raised.Statement.{statement}
+use Rattle.wavelet.proofs.arith.raised.Tie as tie
 
 wrapping-add-i64-requires : tie.Need-wrapping-add-i64-requires
 wrapping-add-i64-requires c κs = search needs
