@@ -1,5 +1,5 @@
 -- Rebuilding a slice does not look at what stood in its places: another candidate rebuilt before leaves no trace. Assumes nothing.
-use mathlib.Core.Path.{_≡_, refl, sym, ap, ap₂, _∙_}
+use mathlib.Core.Path.{_≡_, refl, sym, ap, ap₂, _∙_, fun-ext}
 use mathlib.Core.Bool.{cond}
 use mathlib.Core.List.{List}
 use Prim.Native.Nat.{ℕ, _+_, _*_, _-_, _/_, _%_, _≤_, _<_}
@@ -191,19 +191,20 @@ apart-index p c k q r w a = record { rows = a .rows; columns = a .columns; wide 
 apart-strip : (p : Picture) (c : Component) (k q : ℕ) (w : List ℤ) → RunIn (p .layout) c c (p .front) (p .end) k 0 w → Apart w (strip0 p c k q)
 apart-strip p c k q w r = apart-index p c k 0 q w (apart-run (p .layout) c c (p .front) (p .end) k 0 w r)
 
+-- level 0 lies within a component's area
+first-fits : (p : Picture) (c : Component) → let z = bandSize (p .layout) c 0 in z .height * z .width ≤ c .width * c .height
+first-fits p c =
+    let z = bandSize (p .layout) c 0 in
+    omega (arith, band-fits (p .layout) c 0 (omega arith), mul-comm (z .width) (z .height))
+
 in-order : (p : Picture) (k q : ℕ) → Arranged p → InOrder (strip0 p (p .y) k q) (strip0 p (p .c1) k q) (strip0 p (p .c2) k q)
 unfolding stripOf
 in-order p k q a = record {
-  first = omega (arith, fits (p .y), a .behind-y);
-  second = omega (arith, fits (p .c1), a .behind-c1);
-  behind-s = omega (arith, fits (p .c2), a .c2 .rebuilt, a .y .coefs .0);
-  behind-t = omega (arith, fits (p .c2), a .c2 .rebuilt, a .c1 .coefs .0);
+  first = omega (arith, first-fits p (p .y), a .behind-y);
+  second = omega (arith, first-fits p (p .c1), a .behind-c1);
+  behind-s = omega (arith, first-fits p (p .c2), a .c2 .rebuilt, a .y .coefs .0);
+  behind-t = omega (arith, first-fits p (p .c2), a .c2 .rebuilt, a .c1 .coefs .0);
 }
-  where
-    fits : (c : Component) → let z = bandSize (p .layout) c 0 in z .height * z .width ≤ c .width * c .height
-    fits c =
-        let z = bandSize (p .layout) c 0 in
-        omega (arith, band-fits (p .layout) c 0 (omega arith), mul-comm (z .width) (z .height))
 
 pub length-rebuilt : (w : List ℤ) (p : Picture) (k q : ℕ) → length (rebuiltIn w p k q) ≡ length w
 unfolding rebuiltIn
@@ -224,21 +225,38 @@ again p w k q r h =
     sym (three-other (y r) (c1 r) (c2 r) w (ay r) (a1 r) (a2 r) i
     (outside-same p (p .y) k q r i oy) (outside-same p (p .c1) k q r i o1) (outside-same p (p .c2) k q r i o2))))
 
+-- what stands behind the rebuilt planes stays
+pub rebuilt-behind : {p : Picture} {w : List ℤ} {k : ℕ} → SliceIn p w k 0 → (q i : ℕ) → p .front ≤ i → at (rebuiltIn w p k q) i ≡ at w i
+unfolding rebuiltIn stripOf
+rebuilt-behind {p} {w} {k} h q i f =
+    let ay = apart-strip p (p .y) k q w (run-y h) in
+    let a1 = apart-strip p (p .c1) k q w (run-c1 h) in
+    let a2 = apart-strip p (p .c2) k q w (run-c2 h) in
+    three-other (strip0 p (p .y) k q) (strip0 p (p .c1) k q) (strip0 p (p .c2) k q) w ay a1 a2 i
+    (out (p .y) (h .arranged .y .rebuilt) ay) (out (p .c1) (h .arranged .c1 .rebuilt) a1) (out (p .c2) (h .arranged .c2 .rebuilt) a2)
+  where
+    out : (c : Component) → c .rebuilt + c .width * c .height ≤ p .front → Apart w (strip0 p c k q) → Outside (strip0 p c k q) i
+    out c r a = outside-plane w (strip0 p c k q) a i (λ g. omega (arith, first-fits p c, r, f))
+
 -- ---- candidates
 module _ (p : Picture) (k : ℕ) where
   -- nothing is tried yet
   pub tried-none : (w : List ℤ) → Small (p .front) (p .end) w → Tried p k w w
-  tried-none w s = record { same = λ q h. refl; small = s; size = refl }
+  tried-none w s = record { same = λ q. refl; small = s; size = refl }
 
   -- one more
   pub tried-more : (w v u : List ℤ) (q : ℕ) → Arranged p → k < slicesIn p → Tried p k w v → u ≡ rebuiltIn v p k q → Small (p .front) (p .end) u → Tried p k w u
   tried-more w v u q a h t e s = record {
-    same = λ r o. ap (λ (x : List ℤ). rebuiltIn x p k r) e ∙ again p v k r q (record { arranged = a; small = t .small; slice = h; index = omega arith }) ∙ t .same r o;
+    same = λ r. ap (λ (x : List ℤ). rebuiltIn x p k r) e ∙ again p v k r q (record { arranged = a; small = t .small; slice = h; index = omega arith }) ∙ t .same r;
     small = s;
     size = ap length e ∙ length-rebuilt v p k q ∙ t .size;
   }
 
+  -- more, one after the other
+  pub tried-then : (w v u : List ℤ) → Tried p k w v → Tried p k v u → Tried p k w u
+  tried-then w v u t o = record { same = λ q. o .same q ∙ t .same q; small = o .small; size = o .size ∙ t .size }
+
   -- what fits, fits still
-  pub tried-fits : (w v : List ℤ) (room q : ℕ) → q ≤ 255 → Tried p k w v → lowFitsIn v p room k q ≡ lowFitsIn w p room k q
+  pub tried-fits : (w v : List ℤ) (room : ℕ) → Tried p k w v → lowFitsIn v p room k ≡ lowFitsIn w p room k
   unfolding lowFitsIn
-  tried-fits w v room q h t = rw (t .same q h)
+  tried-fits w v room t = fun-ext (λ q. rw (t .same q))

@@ -11,15 +11,11 @@ use lib.Dec.{leb, eqb}
 use lib.IntN.{ℤ, pos, negsuc, natAbs}
 use lib.ListN.{length, take, length-append, length-take}
 use lib.Seq.{take-take, take-all, append-snoc}
-use Rattle.laws.specs.Chunks.{chunks}
 use Rattle.codewords.specs.Code.{codeS, codes}
 use Rattle.codewords.specs.CodeLaws.{codes-more, length-codeS-zero, length-codeS}
 use Rattle.unit.specs.Trim.{trimCons, trimmed, bitsOf, trimmedCost, fitPrefix}
 use Rattle.unit.specs.TrimLaws.{Small, bits-most, fit-prefix}
-use Rattle.picture.specs.declared.strip.Strip.{Strip}
 use Rattle.picture.specs.declared.cost.Cost.{Cost}
-use Rattle.picture.specs.Run.{numberIn, secondNumber, placeNumbers}
-use Rattle.picture.specs.RunLaws.{second-one, second-none, place-is}
 use Rattle.picture.specs.Cost.{isZero, fitted, kept, addLen, add1, added, addAll, noCost, Countable, Kept}
 use Rattle.picture.specs.AddedLaws.{added-one}
 

@@ -23,7 +23,6 @@ use Rattle.unit.specs.ElectLaws.{elected}
 use Rattle.unit.specs.TestLaws.{no-truth}
 use Rattle.unit.specs.Valid.{RateFits}
 use Rattle.unit.specs.HighQuality.{ceiling, needOf, sliceSize, shareOf}
-use Rattle.picture.specs.declared.cost.Cost.{Cost}
 use Rattle.picture.specs.declared.layout.Component.{Component}
 use Rattle.picture.specs.declared.layout.Layout.{Layout}
 use Rattle.picture.specs.declared.layout.Picture.{Picture}
@@ -31,8 +30,7 @@ use Rattle.picture.specs.declared.high_index.Needs.{Needs}
 use Rattle.picture.specs.declared.high_index.Trimmed.{Trimmed}
 use Rattle.picture.specs.declared.high_index.Choice.{Choice}
 use Rattle.picture.specs.declared.high_index.Terms.{Terms}
-use Rattle.picture.specs.Cost.{addAll, noCost}
-use Rattle.picture.specs.CostLaws.{cost-of, trimmed-most}
+use Rattle.picture.specs.CostLaws.{trimmed-most}
 use Rattle.picture.specs.Layout.{bandCount, gridIn, bandSize, startOf, stripOf, runNumbers}
 use Rattle.picture.specs.LayoutLaws.{start-next, band-fits, bandNumbers, run-none, run-next, run-small}
 use Rattle.picture.specs.StripLaws.{strip-part}

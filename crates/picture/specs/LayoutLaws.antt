@@ -394,7 +394,7 @@ module _ (w : List ℤ) (l : Layout) (c second : Component) (pair : Bool) (k q :
         )
 
 -- ---- the first subband, and the others
-no-and : (b : Bool) → (b && false) ≡ false
+pub no-and : (b : Bool) → (b && false) ≡ false
 no-and true = refl
 no-and false = refl
 
@@ -427,7 +427,7 @@ module _ (w : List ℤ) (l : Layout) (c second : Component) (pair : Bool) (k q :
       let e : bandCount l ≡ suc (bandCount l - 1) = omega arith in
       ap (runNumbers w l c second pair k q) e ∙ run-first (bandCount l - 1)
 
-  rest-small : (n : ℕ) → trim.Small (restNumbers w l c second pair k q n)
+  pub rest-small : (n : ℕ) → trim.Small (restNumbers w l c second pair k q n)
   unfolding restNumbers
   rest-small zero = tt
   rest-small (suc n) = small-append (restNumbers w l c second pair k q n) (bandNumbers w l c second pair k q (suc n)) (rest-small n) (rows-small w (bandStrip l c second pair k q (suc n)) _ _)

@@ -27,7 +27,9 @@ pub mod RisesLaws
 pub mod SearchLaws
 pub mod HighSliceLaws
 pub mod Low
+pub mod LowRest
 pub mod AgainLaws
+pub mod LowRestLaws
 pub mod LowIndexLaws
 pub mod LowSliceLaws
 pub mod Analysed

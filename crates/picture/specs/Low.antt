@@ -86,7 +86,7 @@ module _ (p : Picture) (n : ℕ) where
 -- ---- outcomes
 -- candidates leave what another one makes
 pub record Tried (p : Picture) (k : ℕ) (w v : List ℤ) : Type 0 where
-  pub same : (q : ℕ) → q ≤ 255 → rebuiltIn v p k q ≡ rebuiltIn w p k q
+  pub same : (q : ℕ) → rebuiltIn v p k q ≡ rebuiltIn w p k q
   pub small : Small (p .front) (p .end) v
   pub size : length v ≡ length w
 

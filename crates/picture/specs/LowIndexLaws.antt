@@ -1,33 +1,23 @@
 -- Laws of a low-delay slice's index: its bytes and bits, its candidates in the work slice, what they cost, and the election. Assumes nothing.
-use mathlib.Core.Path.{_≡_, sym, ap, ap₂, _∙_}
-use mathlib.Core.Bool.{Bool, false}
+use mathlib.Core.Path.{_≡_, ap, _∙_}
 use mathlib.Core.List.{List}
 use Prim.Native.Nat.{ℕ, suc, _+_, _*_, _-_, _/_, _^_, _≤_, _<_}
 use native.Mathlib.Nat.{suc-mul, mul-le-mul-left, mul-le-mul-right, mul-one, add-mul-div-right}
 use native.Mathlib.Numerals.{add-one}
 use native.Mathlib.Omega.{arith}
-use borrow.Author.Tests.{eq-eqb, ne-eqb, lt-leb}
-use lib.Dec.{leb}
+use borrow.Author.Tests.{eq-eqb, ne-eqb}
 use lib.IntN.{ℤ}
-use lib.ListN.{length}
-use Rattle.unit.specs.Trim.{trimmedCost}
-use Rattle.unit.specs.TrimLaws.{cost-most}
 use Rattle.unit.specs.SliceLaws.{div-rises}
 use Rattle.unit.specs.Intlog2Laws.{intlog2-least, intlog2-most}
 use Rattle.unit.specs.LowDelay.{sliceBytes, lengthBits}
 use Rattle.unit.specs.LowDelayLaws.{bytes-some}
-use Rattle.picture.specs.declared.cost.Cost.{Cost}
-use Rattle.picture.specs.declared.layout.Component.{Component}
-use Rattle.picture.specs.declared.layout.Layout.{Layout}
 use Rattle.picture.specs.declared.layout.Picture.{Picture}
 use Rattle.picture.specs.Run.{rebuiltStrip}
-use Rattle.picture.specs.Cost.{addAll, noCost, Countable}
-use Rattle.picture.specs.CostLaws.{cost-of}
-use Rattle.picture.specs.Layout.{bandCount, startOf, runNumbers, RunIn}
-use Rattle.picture.specs.LayoutLaws.{band-fits, start-next, run-small, run-length}
+use Rattle.picture.specs.Cost.{noCost, Countable}
+use Rattle.picture.specs.Layout.{RunIn}
 use Rattle.picture.specs.Picture.{SliceIn}
 use Rattle.picture.specs.PictureLaws.{run-y, run-pair}
-use Rattle.picture.specs.Low.{strip0, rebuiltIn, lumaIn, colourIn, lowFitsIn, isLast}
+use Rattle.picture.specs.Low.{strip0, rebuiltIn, isLast}
 
 -- ---- bytes
 -- products of two numbers of 32 bits
@@ -86,37 +76,3 @@ luma-ready {p = p} room s = (run-y s, none-countable room (p .y .width * p .y .h
 pub colour-ready : {p : Picture} {w : List ℤ} {k q : ℕ} (room : ℕ) → SliceIn p w k q
     → RunIn (p .layout) (p .c1) (p .c2) (p .front) (p .end) k q w × Countable (noCost room) (2 * (p .c1 .width * p .c1 .height))
 colour-ready {p = p} room s = (run-pair s, none-countable room (p .c1 .width * p .c1 .height) (s .arranged .c1 .area))
-
--- the kept bits of a run are what it costs
-kept-is : (room : ℕ) (xs : List ℤ) (r : Cost) → r ≡ addAll (noCost room) xs → r .«kept_bits» ≡ trimmedCost xs
-kept-is room xs r e = ap (λ (r : Cost). r .«kept_bits») e ∙ cost-of room xs .kept-bits
-
--- and they are few
-module _ (w : List ℤ) (l : Layout) (c second : Component) (pair : Bool) (k q : ℕ) where
-  starts-most : startOf l c (bandCount l) ≤ c .width * c .height
-  starts-most =
-      let n : ℕ = l .«depth_ho» + 3 * l .depth in
-      let e : bandCount l ≡ suc n = omega arith in
-      rw e (omega (arith, start-next l c n, band-fits l c n (omega arith)))
-
-  pub kept-few : (room : ℕ) (r : Cost) → c .width * c .height ≤ 67108864 → r ≡ addAll (noCost room) (runNumbers w l c second pair k q (bandCount l)) → r .«kept_bits» ≤ 2 ^ 40
-  kept-few room r h e =
-      let n : ℕ = bandCount l in
-      let xs = runNumbers w l c second pair k q n in
-      omega (arith, kept-is room xs r e, cost-most xs (run-small w l c second pair k q n), run-length w l c second pair k q n, starts-most)
-
--- ---- whether a slice fits
--- where luma alone does not, the slice does not
-pub fits-not : (w v : List ℤ) (p : Picture) (room k q : ℕ) (y : Cost) → v ≡ rebuiltIn w p k q → y ≡ addAll (noCost room) (lumaIn v p k q)
-    → room < y .«kept_bits» → false ≡ lowFitsIn w p room k q
-unfolding lowFitsIn
-fits-not w v p room k q y e f h =
-    sym (lt-leb (trimmedCost (lumaIn v p k q) + trimmedCost (colourIn v p k q)) room (omega (arith, kept-is room (lumaIn v p k q) y f)))
-    ∙ ap (λ (v : List ℤ). leb (trimmedCost (lumaIn v p k q) + trimmedCost (colourIn v p k q)) room) e
-
-pub fits-is : (w v : List ℤ) (p : Picture) (room k q : ℕ) (y c : Cost) → v ≡ rebuiltIn w p k q → y ≡ addAll (noCost room) (lumaIn v p k q)
-    → c ≡ addAll (noCost room) (colourIn v p k q) → leb (y .«kept_bits» + c .«kept_bits») room ≡ lowFitsIn w p room k q
-unfolding lowFitsIn
-fits-is w v p room k q y c e f g =
-    ap₂ (λ (a b : ℕ). leb (a + b) room) (kept-is room (lumaIn v p k q) y f) (kept-is room (colourIn v p k q) c g)
-    ∙ ap (λ (v : List ℤ). leb (trimmedCost (lumaIn v p k q) + trimmedCost (colourIn v p k q)) room) e

@@ -29,18 +29,17 @@ use Rattle.unit.specs.LowDelay.{sliceBytes, lengthBits, roomOf, lowBits, Runs, 
 use Rattle.unit.specs.LowDelayLaws.{bytes-some, runs-fit, runs-whole, length-low}
 use Rattle.picture.specs.declared.layout.Picture.{Picture}
 use Rattle.picture.specs.declared.cost.Cost.{Cost}
+use Rattle.picture.specs.declared.high_index.Trimmed.{Trimmed}
 use Rattle.picture.specs.declared.low_slice.Run.{Run}
 use Rattle.picture.specs.declared.low_slice.Kept as code
 use Rattle.picture.specs.declared.slice_coder.SliceCoder.{SliceCoder}
-use Rattle.picture.specs.declared.strip.Strip.{Strip}
-use Rattle.picture.specs.Run.{Small, rebuiltStrip}
-use Rattle.picture.specs.RunLaws.{rebuilt-rows-length}
+use Rattle.picture.specs.Run.{Small}
 use Rattle.picture.specs.Cost.{noCost, addAll}
-use Rattle.picture.specs.CostLaws.{CostOf, cost-of, kept-run, fit-run, fit-shorter, keep-shorter, fit-shorter-bits, keep-shorter-bits}
+use Rattle.picture.specs.CostLaws.{CostOf, cost-of, trimmed-prefix, kept-run, fit-run, fit-shorter, keep-shorter, fit-shorter-bits, keep-shorter-bits}
 use Rattle.picture.specs.HeadLaws.{room-first, room-rest}
-use Rattle.picture.specs.Layout.{RunIn}
-use Rattle.picture.specs.Picture.{slicesIn, SliceIn}
-use Rattle.picture.specs.Low.{strip0, rebuiltIn, lumaIn, colourIn, lowFitsIn, lowBitsBy, isLast, bytesAt, lowIndexIn, lowWorkIn, lowBitsIn, workAt, lowRuns, cutsIn, Tried, Shorter, CutIn, runBits, KeptOf, LowIn}
+use Rattle.picture.specs.Picture.{slicesIn}
+use Rattle.picture.specs.Tally.{trimmedOf}
+use Rattle.picture.specs.Low.{rebuiltIn, lumaIn, colourIn, lowFitsIn, lowBitsBy, isLast, bytesAt, lowIndexIn, lowWorkIn, lowBitsIn, workAt, lowRuns, cutsIn, Tried, Shorter, runBits, KeptOf, LowIn}
 use Rattle.picture.specs.AgainLaws.{length-rebuilt}
 
 -- ---- the runs that are kept
@@ -98,27 +97,23 @@ module _ (room : ℕ) (ys cs : List ℤ) where
       }
 
   -- a slice that fits
-  pub kept-whole : (y c : Cost) → y ≡ addAll (noCost room) ys → c ≡ addAll (noCost room) cs → y .«kept_bits» + c .«kept_bits» ≤ room
-      → KeptOf room ys cs (record { luma = y .keep; «luma_bits» = y .«kept_bits»; colour = c .keep; «colour_bits» = c .«kept_bits» })
+  pub kept-whole : (y c : Trimmed) → y ≡ trimmedOf ys → c ≡ trimmedOf cs → y .bits + c .bits ≤ room
+      → KeptOf room ys cs (record { luma = y .count; «luma_bits» = y .bits; colour = c .count; «colour_bits» = c .bits })
   unfolding trimmedCost
   kept-whole y c e d h =
-      let a = cost room ys y e in
-      let b = cost room cs c d in
-      let k = runs-whole room ys cs (omega (arith, a .kept-bits, b .kept-bits)) in
+      let a = ap (λ (t : Trimmed). t .bits) e in
+      let b = ap (λ (t : Trimmed). t .bits) d in
+      let k = runs-whole room ys cs (omega (arith, a, b)) in
       record {
-        luma = ap (λ (v : Runs). v .luma) k ∙ kept-run a;
-        luma-bits = a .kept-bits ∙ sym (ap (λ (v : Runs). bitsOf (v .luma)) k);
-        colour = ap (λ (v : Runs). v .colour) k ∙ kept-run b;
-        colour-bits = b .kept-bits ∙ sym (ap (λ (v : Runs). bitsOf (v .colour)) k);
+        luma = ap (λ (v : Runs). v .luma) k ∙ trimmed-prefix ys ∙ ap (λ (t : Trimmed). take (t .count) ys) (sym e);
+        luma-bits = a ∙ sym (ap (λ (v : Runs). bitsOf (v .luma)) k);
+        colour = ap (λ (v : Runs). v .colour) k ∙ trimmed-prefix cs ∙ ap (λ (t : Trimmed). take (t .count) cs) (sym d);
+        colour-bits = b ∙ sym (ap (λ (v : Runs). bitsOf (v .colour)) k);
         fits = h;
       }
 
-pub not-whole : (w : List ℤ) (p : Picture) (room k q : ℕ) (y c : Cost) → y ≡ addAll (noCost room) (lumaIn w p k q) → c ≡ addAll (noCost room) (colourIn w p k q)
-    → room < y .«kept_bits» + c .«kept_bits» → CutIn w p room k q y
-not-whole w p room k q y c e d h = record {
-  luma = e;
-  over = omega (arith, cost room (lumaIn w p k q) y e .kept-bits, cost room (colourIn w p k q) c d .kept-bits);
-}
+  pub not-whole : (y c : Trimmed) → y ≡ trimmedOf ys → c ≡ trimmedOf cs → room < y .bits + c .bits → room < trimmedCost ys + trimmedCost cs
+  not-whole y c e d h = omega (arith, ap (λ (t : Trimmed). t .bits) e, ap (λ (t : Trimmed). t .bits) d)
 
 -- ---- the parts of a slice
 -- a writer at the start of a byte
@@ -250,10 +245,10 @@ module _ (p : Picture) (n : ℕ) (w : List ℤ) (k d bytes : ℕ) (ed : d ≡ sl
 
   -- candidates have left u, and the elected one was made again
   pub elects : (room q : ℕ) → room ≡ roomOf bytes → q ≡ elect 0 127 (lowFitsIn w p room k)
-      → {u v : List ℤ} → q ≤ 127 → Tried p k w u → v ≡ rebuiltIn u p k q → Elects p n w k bytes q v
-  elects room q er ei {u} {v} h t e =
+      → {u v : List ℤ} → Tried p k w u → v ≡ rebuiltIn u p k q → Elects p n w k bytes q v
+  elects room q er ei {u} {v} t e =
       let i = index-is room q er ei in
-      let f : v ≡ lowWorkIn p n w k = e ∙ t .same q (omega arith) ∙ ap (rebuiltIn w p k) i in
+      let f : v ≡ lowWorkIn p n w k = e ∙ t .same q ∙ ap (rebuiltIn w p k) i in
       record {
         index = i;
         work = f;

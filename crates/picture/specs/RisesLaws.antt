@@ -1,6 +1,6 @@
 -- A slice that fits its share at an index fits at every larger one: its numbers are as many and none is larger. Assumes nothing.
 use mathlib.Core.Path.{_≡_, refl}
-use mathlib.Core.Bool.{true, false}
+use mathlib.Core.Bool.{Bool, true, false, cond}
 use mathlib.Core.List.{List, [], _∷_, _++_}
 use Prim.Native.Nat.{ℕ, zero, suc, _+_, _*_, _-_, _≤_, _<_}
 use native.Mathlib.Nat.{le-trans, le-div-iff-mul-le, div-mul-le-self, mul-le-mul-right}
@@ -20,9 +20,10 @@ use Rattle.unit.specs.HighQuality.{ceiling, needOf, scalersOf, sliceSize}
 use Rattle.picture.specs.declared.layout.Component.{Component}
 use Rattle.picture.specs.declared.layout.Layout.{Layout}
 use Rattle.picture.specs.declared.layout.Picture.{Picture}
-use Rattle.picture.specs.Run.{residualIn, placeNumbers, rowNumbers}
+use Rattle.picture.specs.Run.{residualIn, numberIn, secondNumber, placeNumbers, rowNumbers}
 use Rattle.picture.specs.RunLaws.{places, rows, row-chunks, rows-chunks}
-use Rattle.picture.specs.Layout.{bandCount, stripOf, runNumbers}
+use Rattle.picture.specs.TallyLaws.{bits-more, bits-none}
+use Rattle.picture.specs.Layout.{bandCount, startOf, stripOf, runNumbers, restNumbers}
 use Rattle.picture.specs.LayoutLaws.{bandStrip, bandNumbers, run-chunks}
 use Rattle.picture.specs.Picture.{numbersIn}
 use Rattle.picture.specs.High.{fitsBy}
@@ -46,14 +47,6 @@ falls-chunks F G zero h = tt
 falls-chunks F G (suc n) h = falls-append (chunks F n) (chunks G n) (F n) (G n) (falls-chunks F G n h) (h n)
 
 -- ---- what they cost
-bits-more : (x : ℤ) (xs : List ℤ) → bitsOf (x ∷ xs) ≡ length (codeS x) + bitsOf xs
-unfolding codes
-bits-more x xs = length-append (codeS x) (codes xs)
-
-bits-none : bitsOf [] ≡ 0
-unfolding codes
-bits-none = refl
-
 -- a number alone, which is dropped if it is 0
 alone-most : (x : ℤ) → bitsOf (trimCons x []) ≤ length (codeS x)
 alone-most (pos zero) = omega (arith, bits-none)
@@ -83,6 +76,12 @@ cost-falls [] (y ∷ ys) a = absurd a
 cost-falls (x ∷ xs) [] a = absurd a
 cost-falls (x ∷ xs) (y ∷ ys) a = trim-falls x y (trimmed xs) (trimmed ys) (a .0) (cost-falls xs ys (a .1))
 
+-- behind other numbers
+pub cost-behind : (xs ys zs : List ℤ) → trimmedCost ys ≤ trimmedCost zs → trimmedCost (xs ++ ys) ≤ trimmedCost (xs ++ zs)
+unfolding trimmedCost trimmed
+cost-behind [] ys zs h = h
+cost-behind (x ∷ xs) ys zs h = trim-falls x x (trimmed (xs ++ ys)) (trimmed (xs ++ zs)) (omega arith) (cost-behind xs ys zs h)
+
 ceiling-rises : (m n c : ℕ) → 1 ≤ c → m ≤ n → ceiling m c ≤ ceiling n c
 ceiling-rises m n c p h = le-div-iff-mul-le p .1 (omega (arith, div-mul-le-self (m + (c - 1)) c))
 
@@ -103,44 +102,66 @@ size-falls prefix c u v p a =
     omega (arith, whole-falls c (u .y) (v .y) p (a .y), whole-falls c (u .c1) (v .c1) p (a .c1), whole-falls c (u .c2) (v .c2) p (a .c2))
 
 -- ---- a slice's numbers at two indices: of equal residuals, by factors of which that at j is not the smaller
-module _ (w : List ℤ) (l : Layout) (c : Component) (k i j : ℕ) (h : i ≤ j) where
-  place-falls : (n y x : ℕ) → Falls (placeNumbers w (bandStrip l c c false k j n) y x) (placeNumbers w (bandStrip l c c false k i n) y x)
-  unfolding placeNumbers stripOf
-  place-falls n y x =
-      let s = bandStrip l c c false k i n in
+module _ (w : List ℤ) (l : Layout) (c second : Component) (pair : Bool) (k i j : ℕ) (h : i ≤ j) where
+  number-falls : (n coefs base y x : ℕ) → natAbs (numberIn w (bandStrip l c second pair k j n) coefs base y x) ≤ natAbs (numberIn w (bandStrip l c second pair k i n) coefs base y x)
+  unfolding stripOf
+  number-falls n coefs base y x =
       let a : ℕ = bandIndex i (getD (l .values) n 0) in
       let b : ℕ = bandIndex j (getD (l .values) n 0) in
       let p : 0 < quantFactor a = omega (arith, quantFactor-least a) in
-      (forward-falls (quantFactor a) (quantFactor b) (residualIn w s (s .coefs) (s .rebuilt) y x) p (factor-rises a b (omega arith)), tt)
+      forward-falls (quantFactor a) (quantFactor b) (residualIn w (bandStrip l c second pair k i n) coefs base y x) p (factor-rises a b (omega arith))
 
-  row-falls : (n y x m : ℕ) → Falls (rowNumbers w (bandStrip l c c false k j n) y x m) (rowNumbers w (bandStrip l c c false k i n) y x m)
+  second-falls : (n y x : ℕ) → Falls (secondNumber w (bandStrip l c second pair k j n) y x) (secondNumber w (bandStrip l c second pair k i n) y x)
+  unfolding stripOf
+  second-falls n y x = by pair _ _ (number-falls n (second .coefs + startOf l c n) (second .rebuilt) y x)
+    where
+      by : (t : Bool) (u v : ℤ) → natAbs u ≤ natAbs v → Falls (cond t (u ∷ []) []) (cond t (v ∷ []) [])
+      by true u v d = (d, tt)
+      by false u v d = tt
+
+  place-falls : (n y x : ℕ) → Falls (placeNumbers w (bandStrip l c second pair k j n) y x) (placeNumbers w (bandStrip l c second pair k i n) y x)
+  unfolding placeNumbers stripOf
+  place-falls n y x = (number-falls n (c .coefs + startOf l c n) (c .rebuilt) y x, second-falls n y x)
+
+  row-falls : (n y x m : ℕ) → Falls (rowNumbers w (bandStrip l c second pair k j n) y x m) (rowNumbers w (bandStrip l c second pair k i n) y x m)
   row-falls n y x m =
-      let s = bandStrip l c c false k i n in
-      let t = bandStrip l c c false k j n in
+      let s = bandStrip l c second pair k i n in
+      let t = bandStrip l c second pair k j n in
       rw (row-chunks w s y x m, row-chunks w t y x m) (falls-chunks (places w t y x) (places w s y x) m (λ z. place-falls n y (x + z)))
 
-  strip-falls : (n : ℕ) → Falls (bandNumbers w l c c false k j n) (bandNumbers w l c c false k i n)
+  strip-falls : (n : ℕ) → Falls (bandNumbers w l c second pair k j n) (bandNumbers w l c second pair k i n)
   unfolding stripOf
   strip-falls n =
-      let s = bandStrip l c c false k i n in
-      let t = bandStrip l c c false k j n in
+      let s = bandStrip l c second pair k i n in
+      let t = bandStrip l c second pair k j n in
       let m : ℕ = s .bottom - s .top in
       rw (rows-chunks w s (s .top) m, rows-chunks w t (s .top) m)
       (falls-chunks (rows w t (s .top)) (rows w s (s .top)) m (λ z. row-falls n (s .top + z) (s .left) (s .right - s .left)))
 
-  run-falls : (n : ℕ) → Falls (runNumbers w l c c false k j n) (runNumbers w l c c false k i n)
+  run-falls : (n : ℕ) → Falls (runNumbers w l c second pair k j n) (runNumbers w l c second pair k i n)
   run-falls n =
-      rw (run-chunks w l c c false k i n, run-chunks w l c c false k j n)
-      (falls-chunks (bandNumbers w l c c false k j) (bandNumbers w l c c false k i) n strip-falls)
+      rw (run-chunks w l c second pair k i n, run-chunks w l c second pair k j n)
+      (falls-chunks (bandNumbers w l c second pair k j) (bandNumbers w l c second pair k i) n strip-falls)
+
+  -- behind the first subband
+  rest-falls : (n : ℕ) → Falls (restNumbers w l c second pair k j n) (restNumbers w l c second pair k i n)
+  unfolding restNumbers
+  rest-falls zero = tt
+  rest-falls (suc n) =
+      falls-append (restNumbers w l c second pair k j n) (restNumbers w l c second pair k i n) (bandNumbers w l c second pair k j (suc n))
+      (bandNumbers w l c second pair k i (suc n)) (rest-falls n) (strip-falls (suc n))
+
+  pub rest-cost-falls : (n : ℕ) → trimmedCost (restNumbers w l c second pair k j n) ≤ trimmedCost (restNumbers w l c second pair k i n)
+  rest-cost-falls n = cost-falls (restNumbers w l c second pair k j n) (restNumbers w l c second pair k i n) (rest-falls n)
 
 numbers-fall : (w : List ℤ) (p : Picture) (k i j : ℕ) → i ≤ j → Falls3 (numbersIn w p k j) (numbersIn w p k i)
 unfolding numbersIn
 numbers-fall w p k i j h =
     let l = p .layout in
     record {
-      y = run-falls w l (p .y) k i j h (bandCount l);
-      c1 = run-falls w l (p .c1) k i j h (bandCount l);
-      c2 = run-falls w l (p .c2) k i j h (bandCount l);
+      y = run-falls w l (p .y) (p .y) false k i j h (bandCount l);
+      c1 = run-falls w l (p .c1) (p .c1) false k i j h (bandCount l);
+      c2 = run-falls w l (p .c2) (p .c2) false k i j h (bandCount l);
     }
 
 -- indices end at 255, which the law itself does not need

@@ -2,7 +2,7 @@
 use mathlib.Core.Path.{_≡_, refl, sym, ap, ap₂, _∙_}
 use mathlib.Core.Bool.{Bool, true, false, cond}
 use mathlib.Core.List.{List, [], _∷_, _++_}
-use Prim.Native.Nat.{ℕ, zero, suc, _+_, _*_, _-_, _^_, _≤_, _<_}
+use Prim.Native.Nat.{ℕ, zero, suc, _+_, _-_, _^_, _≤_}
 use native.Mathlib.Omega.{arith}
 use lib.Dec.{eqb}
 use lib.IntN.{ℤ, pos, negsuc, natAbs, _-ℤ_, +ℤ-idr}
@@ -18,9 +18,9 @@ use Rattle.picture.specs.declared.tally.Tally.{Tally}
 use Rattle.picture.specs.declared.high_index.Trimmed.{Trimmed}
 use Rattle.picture.specs.Run.{planeFrom, numberIn, secondNumber, placeNumbers}
 use Rattle.picture.specs.RunLaws.{prediction-no, second-one, place-is}
-use Rattle.picture.specs.Cost.{Counted, isZero, fitted, kept, add1, added, addAll, noCost}
+use Rattle.picture.specs.Cost.{Counted, fitted, kept, add1, added, addAll, noCost}
 use Rattle.picture.specs.AddedLaws.{added-one}
-use Rattle.picture.specs.CostLaws.{one-bit, cost-of, trimmed-most, CostOf}
+use Rattle.picture.specs.CostLaws.{one-bit, cost-of, trimmed-most}
 use Rattle.picture.specs.Tally.{tally1, tallyLen, tallyAll, noTally, tallyOf, trimmedOf, Addable}
 
 -- ---- one number
@@ -78,25 +78,25 @@ tally-of xs t e =
     rw d (record { bits = h .bits; count = h .count; keep = h .keep })
 
 -- trailing zeros have a bit each
-more-bits : (x : ℤ) (xs : List ℤ) → bitsOf (x ∷ xs) ≡ length (codeS x) + bitsOf xs
+pub bits-more : (x : ℤ) (xs : List ℤ) → bitsOf (x ∷ xs) ≡ length (codeS x) + bitsOf xs
 unfolding codes
-more-bits x xs = length-append (codeS x) (codes xs)
+bits-more x xs = length-append (codeS x) (codes xs)
 
-no-bits : bitsOf [] ≡ 0
+pub bits-none : bitsOf [] ≡ 0
 unfolding codes
-no-bits = refl
+bits-none = refl
 
 pub trailing-bits : (xs : List ℤ) → bitsOf xs ≡ trimmedCost xs + (length xs - length (trimmed xs))
 unfolding trimmed trimmedCost
-trailing-bits [] = omega (arith, no-bits)
+trailing-bits [] = omega (arith, bits-none)
 trailing-bits (x ∷ xs) = by x (trimmed xs) (trimmed-most xs) (trailing-bits xs)
   where
     by : (x : ℤ) (ts : List ℤ) → length ts ≤ length xs → bitsOf xs ≡ bitsOf ts + (length xs - length ts)
         → bitsOf (x ∷ xs) ≡ bitsOf (trimCons x ts) + (length (x ∷ xs) - length (trimCons x ts))
-    by x (t ∷ ts) h e = omega (arith, more-bits x xs, more-bits x (t ∷ ts), h, e)
-    by (pos zero) [] h e = omega (arith, more-bits (pos zero) xs, length-codeS-zero (pos zero) refl, e, no-bits)
-    by (pos (suc n)) [] h e = omega (arith, more-bits (pos (suc n)) xs, more-bits (pos (suc n)) [], e, no-bits)
-    by (negsuc n) [] h e = omega (arith, more-bits (negsuc n) xs, more-bits (negsuc n) [], e, no-bits)
+    by x (t ∷ ts) h e = omega (arith, bits-more x xs, bits-more x (t ∷ ts), h, e)
+    by (pos zero) [] h e = omega (arith, bits-more (pos zero) xs, length-codeS-zero (pos zero) refl, e, bits-none)
+    by (pos (suc n)) [] h e = omega (arith, bits-more (pos (suc n)) xs, bits-more (pos (suc n)) [], e, bits-none)
+    by (negsuc n) [] h e = omega (arith, bits-more (negsuc n) xs, bits-more (negsuc n) [], e, bits-none)
 
 module _ {xs : List ℤ} {t : Tally} (h : TallyOf xs t) where
   pub tally-keeps : (t .keep ≤ t .count) × (t .count - t .keep ≤ t .bits)

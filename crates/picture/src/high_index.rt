@@ -248,7 +248,7 @@ fn better(t: Trial, best: Choice) -> Choice
 }
 
 // Twice the step, at most 256.
-fn wider(step: u32) -> u32
+pub fn wider(step: u32) -> u32
     requires { ⌜ (1 ≤ step) × (step ≤ 256) ⌝ }
     ensures { λ r. ⌜ (1 ≤ r) × (r ≤ 256) ⌝ }
 {

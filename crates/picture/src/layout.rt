@@ -189,7 +189,7 @@ pub fn strip_in(
     }
 }
 
-// The strip where no window is at hand.
+// The strip where no window is at hand: put together in one function, since a window that is handed on costs more time than it saves.
 pub fn strip_at(
     l: Layout,
     c: Component,
@@ -203,6 +203,26 @@ pub fn strip_at(
     requires { ⌜ StripIn l c second n start k q ⌝ }
     ensures { λ r. ⌜ r ≡ stripOf l c second pair n start k q ⌝ }
 {
-    let v = window_at(l, c, n, k);
-    strip_in(l, c, second, pair, n, start, k, q, v)
+    let z = band_size(l, c, n);
+    let row = k / l.across;
+    let column = k % l.across;
+    let i = band_index(q, l.values[n as usize]);
+    let factor = quantiser::factors::factor_at(i);
+    Strip {
+        coefs: c.coefs + start,
+        rebuilt: c.rebuilt,
+        coefs2: second.coefs + start,
+        rebuilt2: second.rebuilt,
+        width: z.width as usize,
+        height: z.height as usize,
+        top: bound(l.down, z.height, row),
+        bottom: bound(l.down, z.height, row + 1),
+        left: bound(l.across, z.width, column),
+        right: bound(l.across, z.width, column + 1),
+        index: i,
+        factor,
+        offset: quantiser::factors::offset_by(i, factor),
+        predicted: first_of(l.predicted, n),
+        pair,
+    }
 }

@@ -1,15 +1,61 @@
 // The index of a low-delay slice: its size, its candidates in the work slice, and the election. All of it is for the picture call.
 use crate::cost::Cost;
 use crate::high_index::Range;
+use crate::high_index::Trimmed;
+use crate::layout::Component;
 use crate::layout::Picture;
+use crate::tally::Tally;
 ghost use mathlib.Core.Path.{_≡_};
-ghost use Prim.Native.Nat.{ℕ, _+_, _*_, _^_, _≤_, _<_};
+ghost use mathlib.Core.Bool.{_&&_};
+ghost use Prim.Native.Nat.{ℕ, _+_, _*_, _-_, _^_, _≤_, _<_};
+ghost use lib.Dec.{leb, ltb};
 ghost use Rattle.unit.specs.Elect.{elect};
 ghost use Rattle.unit.specs.LowDelay.{sliceBytes, lengthBits, roomOf};
 ghost use Rattle.picture.specs.Run.{Small};
 ghost use Rattle.picture.specs.Cost.{noCost, addAll};
+ghost use Rattle.picture.specs.Layout.{bandCount, restNumbers, RunIn};
 ghost use Rattle.picture.specs.Picture.{slicesIn, SliceIn, Arranged};
+ghost use Rattle.picture.specs.Tally.{trimmedOf};
 ghost use Rattle.picture.specs.Low.{rebuiltIn, lumaIn, colourIn, lowFitsIn, isLast, Tried};
+ghost use Rattle.picture.specs.LowRest.{joinedOf, bitsWith, FirstOf, Known, Joins};
+
+// The tallies of a slice's level-0 numbers, of luma and of the two colours.
+pub struct First {
+    pub luma: Tally,
+    pub colour: Tally,
+}
+
+// A slice's runs of the subbands behind the first at an index, without trailing zeros: luma, and the two colours.
+pub struct Rest {
+    pub index: u32,
+    pub luma: Trimmed,
+    pub colour: Trimmed,
+}
+
+// Whether a slice fits at an index, and its runs at two indices.
+pub struct Trial {
+    pub fits: bool,
+    pub low: Rest,
+    pub high: Rest,
+}
+
+// Whether a slice fits at an index, and its runs there.
+pub struct Probe {
+    pub fits: bool,
+    pub rest: Rest,
+}
+
+// A slice's runs at two indices.
+pub struct Bracket {
+    pub low: Rest,
+    pub high: Rest,
+}
+
+// The elected index, and the slice's runs at an index.
+pub struct Elected {
+    pub index: u32,
+    pub rest: Rest,
+}
 
 // How many slices there are.
 pub fn slice_count(p: Picture) -> u32
@@ -68,7 +114,7 @@ pub fn rebuild_planes(work: &mut [i64], p: Picture, k: u32, q: u32)
 // What luma costs, with room for a run.
 pub fn luma_cost(work: &[i64], p: Picture, k: u32, q: u32, room: u64) -> Cost
     requires { ⌜ SliceIn p (now work) k q ⌝ }
-    ensures { λ r. ⌜ (r ≡ addAll (noCost room) (lumaIn (now (work .entry)) p k q)) × (r .«kept_bits» ≤ 2 ^ 40) ⌝ }
+    ensures { λ r. ⌜ r ≡ addAll (noCost room) (lumaIn (now (work .entry)) p k q) ⌝ }
 {
     let none = Cost {
         room,
@@ -87,7 +133,7 @@ pub fn luma_cost(work: &[i64], p: Picture, k: u32, q: u32, room: u64) -> Cost
 // What the two colours cost.
 pub fn colour_cost(work: &[i64], p: Picture, k: u32, q: u32, room: u64) -> Cost
     requires { ⌜ SliceIn p (now work) k q ⌝ }
-    ensures { λ r. ⌜ (r ≡ addAll (noCost room) (colourIn (now (work .entry)) p k q)) × (r .«kept_bits» ≤ 2 ^ 40) ⌝ }
+    ensures { λ r. ⌜ r ≡ addAll (noCost room) (colourIn (now (work .entry)) p k q) ⌝ }
 {
     let none = Cost {
         room,
@@ -104,31 +150,270 @@ pub fn colour_cost(work: &[i64], p: Picture, k: u32, q: u32, room: u64) -> Cost
     crate::run::cost_run(work, p.front, p.end, l, c1, c2, true, k, q, none)
 }
 
-// Whether slice k takes at most room bits at index q. The rebuilt planes are left as this index makes them. Where luma alone does not fit, the
-// colours are not looked at.
-fn fits(work: &mut [i64], p: Picture, room: u64, k: u32, q: u32) -> bool
+// The tallies of slice k's level-0 numbers at index q, where the planes are rebuilt.
+pub fn first_of(work: &[i64], p: Picture, k: u32, q: u32) -> First
     requires { ⌜ SliceIn p (now work) k q ⌝ }
-    ensures { λ r. ⌜ (r ≡ lowFitsIn (now (work .entry)) p room k q) × ((now (work .exit) ≡ rebuiltIn (now (work .entry)) p k q) × Small (p .front) (p .end) (now (work .exit))) ⌝ }
+    ensures { λ r. ⌜ FirstOf (now (work .entry)) p k q r ⌝ }
 {
-    rebuild_planes(work, p, k, q);
-    let y = luma_cost(work, p, k, q, room);
-    if y.kept_bits > room {
-        return false;
+    let l = p.layout;
+    let y = p.y;
+    let c1 = p.c1;
+    let c2 = p.c2;
+    First {
+        luma: crate::run::first_tally(work, p.front, p.end, l, y, y, false, k, q),
+        colour: crate::run::first_tally(work, p.front, p.end, l, c1, c2, true, k, q),
     }
-    let c = colour_cost(work, p, k, q, room);
-    y.kept_bits + c.kept_bits <= room
 }
 
-// The election from 0 to 127. The last index that was tried need not be the elected one.
-pub fn elect_qindex(work: &mut [i64], p: Picture, room: u64, k: u32) -> u32
-    requires { ⌜ SliceIn p (now work) k 0 ⌝ }
-    ensures { λ r. ⌜ (r ≡ elect 0 127 (lowFitsIn (now (work .entry)) p room k)) × ((r ≤ 127) × Tried p k (now (work .entry)) (now (work .exit))) ⌝ }
+// A run of a component's subbands behind the first, without trailing zeros.
+fn rest_run(
+    work: &[i64],
+    p: Picture,
+    c: Component,
+    second: Component,
+    pair: bool,
+    k: u32,
+    q: u32,
+) -> Trimmed
+    requires { ⌜ RunIn (p .layout) c second (p .front) (p .end) k q (now work) × (c .width * c .height ≤ 67108864) ⌝ }
+    ensures { λ r. ⌜ r ≡ trimmedOf (restNumbers (now (work .entry)) (p .layout) c second pair k q (bandCount (p .layout) - 1)) ⌝ }
 {
+    let none = Tally {
+        bits: 0,
+        count: 0,
+        keep: 0,
+    };
+    let l = p.layout;
+    let t = crate::run::rest_tally(work, p.front, p.end, l, c, second, pair, k, q, none);
+    Trimmed {
+        count: t.keep,
+        bits: crate::tally::kept_bits(t),
+    }
+}
+
+// Slice k's runs of the subbands behind the first at index q. No prediction is in them, so that they do not depend on the rebuilt planes.
+pub fn rest_of(work: &[i64], p: Picture, k: u32, q: u32) -> Rest
+    requires { ⌜ SliceIn p (now work) k q ⌝ }
+    ensures { λ r. ⌜ Known (now (work .entry)) p k r × (r .index ≡ q) ⌝ }
+{
+    let y = p.y;
+    let c1 = p.c1;
+    let c2 = p.c2;
+    Rest {
+        index: q,
+        luma: rest_run(work, p, y, y, false, k, q),
+        colour: rest_run(work, p, c1, c2, true, k, q),
+    }
+}
+
+// The run of the numbers that are tallied in t and of the run r behind them, without trailing zeros.
+pub fn joined(t: Tally, r: Trimmed) -> Trimmed
+    requires { ⌜ Joins t r ⌝ }
+    ensures { λ z. ⌜ z ≡ joinedOf t r ⌝ }
+{
+    if r.count == 0 {
+        Trimmed {
+            count: t.keep,
+            bits: crate::tally::kept_bits(t),
+        }
+    } else {
+        Trimmed {
+            count: t.count + r.count,
+            bits: t.bits + r.bits,
+        }
+    }
+}
+
+// The bits of a slice whose level-0 numbers are tallied in f, with the runs r behind them.
+fn bits_with(f: First, r: Rest) -> u64
+    requires { ⌜ Joins (f .luma) (r .luma) × Joins (f .colour) (r .colour) ⌝ }
+    ensures { λ n. ⌜ n ≡ bitsWith f r ⌝ }
+{
+    let luma = f.luma;
+    let luma_rest = r.luma;
+    let colour = f.colour;
+    let colour_rest = r.colour;
+    let y = joined(luma, luma_rest);
+    let c = joined(colour, colour_rest);
+    y.bits + c.bits
+}
+
+// Whether a slice whose level-0 numbers at index q are tallied in f surely fits, since the other numbers at q take no more bits than those of r at a
+// lower index.
+fn surely_fits(f: First, r: Rest, q: u32, room: u64) -> bool
+    requires { ⌜ Joins (f .luma) (r .luma) × Joins (f .colour) (r .colour) ⌝ }
+    ensures { λ b. ⌜ b ≡ (leb (r .index) q && leb (bitsWith f r) room) ⌝ }
+{
+    if r.index > q {
+        return false;
+    }
+    bits_with(f, r) <= room
+}
+
+// Whether it surely does not, since they take no fewer than those of r at a higher index.
+fn never_fits(f: First, r: Rest, q: u32, room: u64) -> bool
+    requires { ⌜ Joins (f .luma) (r .luma) × Joins (f .colour) (r .colour) ⌝ }
+    ensures { λ b. ⌜ b ≡ (leb q (r .index) && ltb room (bitsWith f r)) ⌝ }
+{
+    if q > r.index {
+        return false;
+    }
+    bits_with(f, r) > room
+}
+
+// Whether slice k takes at most room bits at index q, with the runs of two indices at hand; the runs at q take the place of those on its side where they
+// had to be worked out. The rebuilt planes are left as this index makes them.
+fn fits(work: &mut [i64], p: Picture, room: u64, k: u32, q: u32, low: Rest, high: Rest) -> Trial
+    requires { ⌜ SliceIn p (now work) k q × (Known (now work) p k low × Known (now work) p k high) ⌝ }
+    ensures { λ r. ⌜ (r .fits ≡ lowFitsIn (now (work .entry)) p room k q) × ((now (work .exit) ≡ rebuiltIn (now (work .entry)) p k q)
+        × (Small (p .front) (p .end) (now (work .exit)) × (Known (now (work .exit)) p k (r .low) × Known (now (work .exit)) p k (r .high)))) ⌝ }
+{
+    rebuild_planes(work, p, k, q);
+    let f = first_of(work, p, k, q);
+    if surely_fits(f, low, q, room) | surely_fits(f, high, q, room) {
+        return Trial {
+            fits: true,
+            low,
+            high,
+        };
+    }
+    if never_fits(f, low, q, room) | never_fits(f, high, q, room) {
+        return Trial {
+            fits: false,
+            low,
+            high,
+        };
+    }
+    let r = rest_of(work, p, k, q);
+    if bits_with(f, r) <= room {
+        Trial {
+            fits: true,
+            low,
+            high: r,
+        }
+    } else {
+        Trial {
+            fits: false,
+            low: r,
+            high,
+        }
+    }
+}
+
+// Whether slice k takes at most room bits at index q, and its runs there. The rebuilt planes are left as this index makes them.
+fn probe_at(work: &mut [i64], p: Picture, room: u64, k: u32, q: u32) -> Probe
+    requires { ⌜ SliceIn p (now work) k q ⌝ }
+    ensures { λ r. ⌜ (now (work .exit) ≡ rebuiltIn (now (work .entry)) p k q) × (Small (p .front) (p .end) (now (work .exit)) × Known (now (work .exit)) p k (r .rest)) ⌝ }
+{
+    rebuild_planes(work, p, k, q);
+    let f = first_of(work, p, k, q);
+    let rest = rest_of(work, p, k, q);
+    Probe {
+        fits: bits_with(f, rest) <= room,
+        rest,
+    }
+}
+
+// The index that is step below q, or above it, from 0 to 127.
+fn moved(q: u32, step: u32, down: bool) -> u32
+    requires { ⌜ (q ≤ 127) × (step ≤ 256) ⌝ }
+    ensures { λ r. ⌜ r ≤ 127 ⌝ }
+{
+    if down {
+        if q < step { 0 } else { q - step }
+    } else if q + step < 127 {
+        q + step
+    } else {
+        127
+    }
+}
+
+// One turn less, or none.
+fn turns_left(left: u32, again: bool) -> u32
+    requires { ⌜ 0 < left ⌝ }
+    ensures { λ r. ⌜ r < left ⌝ }
+{
+    if again { left - 1 } else { 0 }
+}
+
+// The step of the next turn: the second one is as wide as the first, since most slices are near their guess.
+fn widened(step: u32, left: u32) -> u32
+    requires { ⌜ (1 ≤ step) × (step ≤ 256) ⌝ }
+    ensures { λ r. ⌜ (1 ≤ r) × (r ≤ 256) ⌝ }
+{
+    if left < 7 {
+        crate::high_index::wider(step)
+    } else {
+        step
+    }
+}
+
+// Runs at two indices near the guess g, in widening steps from there down where it fits and up where it does not, until that changes. The election's
+// index does not depend on them.
+fn bracket_at(work: &mut [i64], p: Picture, room: u64, k: u32, g: u32) -> Bracket
+    requires { ⌜ SliceIn p (now work) k 0 × (g ≤ 127) ⌝ }
+    ensures { λ r. ⌜ Tried p k (now (work .entry)) (now (work .exit)) × (Known (now (work .exit)) p k (r .low) × Known (now (work .exit)) p k (r .high)) ⌝ }
+{
+    let start = probe_at(work, p, room, k, g);
+    let down = start.fits;
+    let mut low = start.rest;
+    let mut high = start.rest;
+    let mut q = g;
+    let mut step: u32 = 1;
+    let mut left: u32 = 8;
+    while left > 0 {
+        let next = moved(q, step, down);
+        let t = probe_at(work, p, room, k, next);
+        let rest = t.rest;
+        if t.fits {
+            high = rest;
+        } else {
+            low = rest;
+        }
+        left = turns_left(left, (t.fits == down) & (next != q));
+        step = widened(step, left);
+        q = next;
+    }
+    Bracket { low, high }
+}
+
+// The election from 0 to 127, from the guess g on: its index, and runs at an index. The last index that was tried need not be the elected one.
+pub fn elect_qindex(work: &mut [i64], p: Picture, room: u64, k: u32, g: u32) -> Elected
+    requires { ⌜ SliceIn p (now work) k 0 × (g ≤ 127) ⌝ }
+    ensures { λ r. ⌜ (r .index ≡ elect 0 127 (lowFitsIn (now (work .entry)) p room k)) × ((r .index ≤ 127)
+        × (Tried p k (now (work .entry)) (now (work .exit)) × Known (now (work .exit)) p k (r .rest))) ⌝ }
+{
+    let b = bracket_at(work, p, room, k, g);
+    let mut low = b.low;
+    let mut high = b.high;
     let mut r = Range { lo: 0, hi: 127 };
     while r.lo < r.hi {
         let mid = crate::high_index::middle(r);
-        let fit = fits(work, p, room, k, mid);
-        r = crate::high_index::narrowed(r, mid, fit);
+        let t = fits(work, p, room, k, mid, low, high);
+        low = t.low;
+        high = t.high;
+        r = crate::high_index::narrowed(r, mid, t.fits);
     }
-    r.lo
+    Elected {
+        index: r.lo,
+        rest: high,
+    }
+}
+
+// The runs at index q: those at hand, where they are of this index.
+pub fn rest_at(work: &[i64], p: Picture, k: u32, q: u32, r: Rest) -> Rest
+    requires { ⌜ SliceIn p (now work) k q × Known (now work) p k r ⌝ }
+    ensures { λ z. ⌜ Known (now (work .entry)) p k z × (z .index ≡ q) ⌝ }
+{
+    if r.index == q {
+        return r;
+    }
+    rest_of(work, p, k, q)
+}
+
+// A guess that is an index of low delay.
+pub fn guess(index: u32) -> u32
+    ensures { λ r. ⌜ r ≤ 127 ⌝ }
+{
+    if index < 127 { index } else { 127 }
 }

@@ -1,6 +1,7 @@
 // A low-delay slice, cut where it does not fit, and written. All of it is for the picture call.
 use crate::cost::Cost;
 use crate::layout::Picture;
+use crate::low_index::Rest;
 use crate::put::Put;
 use crate::slice_coder::SliceCoder;
 use codewords::writer::BitWriter;
@@ -13,6 +14,7 @@ ghost use Rattle.codewords.specs.Writer.{Room, Wrote};
 ghost use Rattle.unit.specs.LowDelay.{roomOf, lowBits, keptRuns};
 ghost use Rattle.picture.specs.Run.{Small};
 ghost use Rattle.picture.specs.Picture.{slicesIn, SliceIn};
+ghost use Rattle.picture.specs.LowRest.{Known};
 ghost use Rattle.picture.specs.Low.{lumaIn, colourIn, runBits, lowBitsBy, lowRuns, workAt, cutsIn, KeptOf, LowIn, Shorter, CutIn};
 
 // How many numbers are written of luma and of the colours, and their bits.
@@ -62,22 +64,34 @@ fn cut(work: &[i64], p: Picture, room: u64, k: u32, q: u32, y: Cost) -> Kept
     }
 }
 
-// The runs that are written in room bits: all but trailing zeros where that fits, else a cut.
-fn kept_runs(work: &[i64], p: Picture, room: u64, k: u32, q: u32) -> Kept
-    requires { ⌜ SliceIn p (now work) k q ⌝ }
-    ensures { λ r. ⌜ KeptOf room (lumaIn (now (work .entry)) p k q) (colourIn (now (work .entry)) p k q) r ⌝ }
+// The runs that are written in room bits: all but trailing zeros where that fits, else a cut. The runs behind level 0 are r.
+fn kept_runs(work: &[i64], p: Picture, room: u64, k: u32, q: u32, r: Rest) -> Kept
+    requires { ⌜ SliceIn p (now work) k q × (Known (now work) p k r × (r .index ≡ q)) ⌝ }
+    ensures { λ z. ⌜ KeptOf room (lumaIn (now (work .entry)) p k q) (colourIn (now (work .entry)) p k q) z ⌝ }
 {
-    let y = crate::low_index::luma_cost(work, p, k, q, room);
-    let c = crate::low_index::colour_cost(work, p, k, q, room);
-    if y.kept_bits + c.kept_bits <= room {
+    let f = crate::low_index::first_of(work, p, k, q);
+    let luma = f.luma;
+    let luma_rest = r.luma;
+    let colour = f.colour;
+    let colour_rest = r.colour;
+    let y = crate::low_index::joined(luma, luma_rest);
+    let c = crate::low_index::joined(colour, colour_rest);
+    if y.bits + c.bits <= room {
         return Kept {
-            luma: y.keep,
-            luma_bits: y.kept_bits,
-            colour: c.keep,
-            colour_bits: c.kept_bits,
+            luma: y.count,
+            luma_bits: y.bits,
+            colour: c.count,
+            colour_bits: c.bits,
         };
     }
-    cut(work, p, room, k, q, y)
+    cut(
+        work,
+        p,
+        room,
+        k,
+        q,
+        crate::low_index::luma_cost(work, p, k, q, room),
+    )
 }
 
 // The numbers of the two runs.
@@ -133,7 +147,7 @@ fn put_runs(
     b.writer
 }
 
-// Slice k of n bytes at index q from place at on: where it ends.
+// Slice k of n bytes at index q from place at on: where it ends. Its runs behind level 0 at an index are at hand.
 pub fn put_ld_slice(
     out: &mut [u8],
     at: usize,
@@ -142,12 +156,20 @@ pub fn put_ld_slice(
     n: u64,
     k: u32,
     q: u32,
+    rest: Rest,
 ) -> usize
-    requires { ⌜ SliceIn p (now work) k q × (((1 ≤ n) × (n ≤ 2 ^ 30)) × (at + n ≤ length (now out))) ⌝ }
+    requires { ⌜ SliceIn p (now work) k q × (((1 ≤ n) × (n ≤ 2 ^ 30)) × ((at + n ≤ length (now out)) × Known (now work) p k rest)) ⌝ }
     ensures { λ r. ⌜ Lays (now (out .entry)) at (toBytes (lowBitsBy (now (work .entry)) p n k q)) (now (out .exit)) r ⌝ }
 {
     let room = crate::low_index::room_of(n);
-    let r = kept_runs(work, p, room, k, q);
+    let r = kept_runs(
+        work,
+        p,
+        room,
+        k,
+        q,
+        crate::low_index::rest_at(work, p, k, q, rest),
+    );
     let w = BitWriter {
         at,
         pending: 0,

@@ -1,7 +1,6 @@
 // A slice's kept numbers, written. All of it is for the picture call.
 use crate::strip::Strip;
 use codewords::writer::BitWriter;
-ghost use mathlib.Core.Path.{_≡_};
 ghost use mathlib.Core.List.{[], _∷_};
 ghost use Prim.Native.Nat.{ℕ, _+_, _*_, _-_, _≤_, _<_, _^_};
 ghost use Rattle.quantiser.specs.Quant.{forwardBy};

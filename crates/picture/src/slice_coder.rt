@@ -12,8 +12,8 @@ ghost use Rattle.picture.specs.Picture.{slicesIn};
 ghost use Rattle.picture.specs.High.{planIn, choiceIn, noteIn, plannedBy, FewBits, TermsIn, PlanIn, PlansOn, Notes};
 ghost use Rattle.picture.specs.Low.{isLast, lowIndexIn, lowBitsIn, lowWorkIn, LowIn};
 
-// Where the next slice goes in the output, how many low-delay slices carry index 127, the largest need of a component, and in a planning pass
-// the index of the slice before, where the next election begins.
+// Where the next slice goes in the output, how many low-delay slices carry index 127, the largest need of a component, and the index of the slice
+// before, where the next election begins.
 pub struct SliceCoder {
     pub at: usize,
     pub cut_slices: u32,
@@ -107,13 +107,17 @@ impl SliceCoder {
             × ((r .«cut_slices» ≡ self .«cut_slices» + isLast (lowIndexIn p n (now (work .entry)) k)) × (r .largest ≡ self .largest)))) ⌝ }
     {
         let bytes = crate::low_index::slice_bytes(n, crate::low_index::slice_count(p), k);
-        let q = crate::low_index::elect_qindex(work, p, crate::low_index::room_of(bytes), k);
+        let room = crate::low_index::room_of(bytes);
+        let g = crate::low_index::guess(self.index);
+        let e = crate::low_index::elect_qindex(work, p, room, k, g);
+        let q = e.index;
+        let rest = e.rest;
         crate::low_index::rebuild_planes(work, p, k, q);
         SliceCoder {
-            at: crate::low_slice::put_ld_slice(out, self.at, work, p, bytes, k, q),
+            at: crate::low_slice::put_ld_slice(out, self.at, work, p, bytes, k, q, rest),
             cut_slices: self.cut_slices + crate::low_index::is_last(q),
             largest: self.largest,
-            index: self.index,
+            index: q,
         }
     }
 }

@@ -2,7 +2,6 @@
 use crate::cost::Cost;
 use crate::strip::Strip;
 ghost use mathlib.Core.Path.{_≡_};
-ghost use mathlib.Core.Bool.{false};
 ghost use Prim.Native.Nat.{ℕ, _+_, _*_, _-_, _≤_, _<_, _^_};
 ghost use Rattle.quantiser.specs.Quant.{forwardBy};
 ghost use Rattle.picture.specs.Run.{planeFrom, secondNumber, placeNumbers, rowNumbers, stripNumbers, Readable, Inside, Plain};

@@ -1,24 +1,33 @@
--- `low_index::elect_qindex` meets its contract. The invariant: the search in the range ends where the whole one does, and what the candidates
--- left in the work slice is rebuilt as if none had been tried. Assumes nothing.
-use mathlib.Core.Path.{_∙_}
-use Prim.Native.Nat.{_-_}
-use native.Mathlib.Omega.{arith}
+-- `low_index::elect_qindex` meets its contract. The invariant: the search in the range ends where the whole one does, what the candidates
+-- left in the work slice is rebuilt as if none had been tried, and the runs at hand are known. Assumes nothing.
+use mathlib.Core.Path.{ap, _∙_}
+use mathlib.Core.Bool.{Bool}
+use Prim.Native.Nat.{ℕ, _-_}
+use Rattle.unit.specs.Elect.{elect}
 use Rattle.picture.specs.Low.{lowFitsIn, Tried}
+use Rattle.picture.specs.LowRest.{Known}
 use Rattle.picture.specs.ElectLoopLaws.{Halving, halving-start, halving-middle, halving-less, halving-turn, halving-end, halving-low}
-use Rattle.picture.specs.AgainLaws.{tried-none, tried-more, tried-fits}
+use Rattle.picture.specs.AgainLaws.{tried-none, tried-more, tried-then, tried-fits}
+use Rattle.picture.specs.LowRestLaws.{slice-at}
+use native.Mathlib.Omega.{arith}
 use Rattle.picture.proofs.low_index.elect_qindex.Statement.{statement}
 use Rattle.picture.proofs.low_index.elect_qindex.Tie as tie
 
 abbrev Inv-loop : tie.InvT-loop
-Inv-loop work₀ p room k r₀ work r = Halving (lowFitsIn work₀ p room k) 127 r × Tried p k work₀ work
+Inv-loop work₀ p room k g low₀ high₀ r₀ work low high r =
+    Halving (lowFitsIn work₀ p room k) 127 r × (Tried p k work₀ work × (Known work p k low × Known work p k high))
 
 abbrev μ-loop : tie.MeasureT-loop
-μ-loop work₀ p room k r₀ work r = r .hi - r .lo
+μ-loop work₀ p room k g low₀ high₀ r₀ work low high r = r .hi - r .lo
+
+bracket-at-requires : tie.Need-bracket-at-requires Inv-loop μ-loop
+bracket-at-requires c κs = c .before .pre
 
 loop-holds : tie.Need-loop-holds Inv-loop μ-loop
 loop-holds c =
-    let a = c .args in
-    (halving-start (lowFitsIn (a .work .now) (a .p) (a .room) (a .k)) 127, tried-none (a .p) (a .k) (a .work .now) (c .pre .small))
+    let a = c .before .before .before .before .before .args in
+    let b = c .before .before .before .bracket-at in
+    (halving-start (lowFitsIn (b .last .0) (a .p) (a .room) (a .k)) 127, (tried-none (a .p) (a .k) (b .last .0) (b .ensures .0 .small), b .ensures .1))
 
 middle-requires : tie.Need-middle-requires Inv-loop μ-loop
 middle-requires c κs =
@@ -27,43 +36,52 @@ middle-requires c κs =
 
 fits-requires : tie.Need-fits-requires Inv-loop μ-loop
 fits-requires c κs =
-    let h = c .before .before .before .before .before .pre in
     let v = c .before .before .before .before .loop in
     let m = c .before .middle in
-    record { arranged = h .arranged; small = v .inv .1 .small; slice = h .slice; index = omega (arith, halving-middle (v .inv .0) (m .result) (m .ensures)) }
+    (slice-at (v .work) (m .result) (c .before .before .before .before .before .before .before .before .before .before .pre .0) (v .inv .1 .0 .small) (omega (arith, halving-middle (v .inv .0) (m .result) (m .ensures))), v .inv .1 .1)
 
 narrowed-requires : tie.Need-narrowed-requires Inv-loop μ-loop
 narrowed-requires c κs =
-    let v = c .before .before .before .before .before .before .loop in
-    let m = c .before .before .before .middle in
+    let v = c .before .before .before .before .before .before .before .before .loop in
+    let m = c .before .before .before .before .before .middle in
     omega (arith, halving-middle (v .inv .0) (m .result) (m .ensures))
 
 loop-less : tie.Need-loop-less Inv-loop μ-loop
 loop-less c =
-    let v = c .before .before .before .before .before .before .before .loop in
-    let m = c .before .before .before .before .middle in
-    halving-less (v .r) (m .result) (c .before .before .before .before .before .if1 .taken) (m .ensures) (c .before .before .fits2 .result) (c .narrowed .result) (c .narrowed .ensures)
+    let v = c .before .before .before .before .before .before .before .before .before .loop in
+    let m = c .before .before .before .before .before .before .middle in
+    halving-less (v .r) (m .result) (c .before .before .before .before .before .before .before .if1 .taken) (m .ensures) (c .before .before .before .before .fits2 .result .fits) (c .narrowed .result) (c .narrowed .ensures)
 
 loop-again : tie.Need-loop-again Inv-loop μ-loop
 loop-again c =
-    let st = c .before .before .before .before .before .before .before .before in
+    let st = c .before .before .before .before .before .before .before .before .before .before .before .before .before .before .before in
     let a = st .args in
-    let v = c .before .before .before .before .before .before .before .loop in
-    let m = c .before .before .before .before .middle in
-    let f = c .before .before .fits2 in (
-      halving-turn (v .r) (m .result) (c .before .before .before .before .before .if1 .taken) (m .ensures) (v .inv .0) (f .result) (c .narrowed .result)
-          (f .ensures .0 ∙ tried-fits (a .p) (a .k) (a .work .now) (v .work) (a .room) (m .result) (omega (arith, halving-middle (v .inv .0) (m .result) (m .ensures))) (v .inv .1))
+    let w = c .before .before .before .before .before .before .before .before .before .before .before .before .before .bracket-at .last .0 in
+    let v = c .before .before .before .before .before .before .before .before .before .loop in
+    let m = c .before .before .before .before .before .before .middle in
+    let f = c .before .before .before .before .fits2 in
+    let e = f .ensures in (
+      halving-turn (v .r) (m .result) (c .before .before .before .before .before .before .before .if1 .taken) (m .ensures) (v .inv .0) (f .result .fits) (c .narrowed .result)
+          (e .0 ∙ ap (λ (g : ℕ → Bool). g (m .result)) (tried-fits (a .p) (a .k) w (v .work) (a .room) (v .inv .1 .0)))
           (c .narrowed .ensures),
-      tried-more (a .p) (a .k) (a .work .now) (v .work) (f .last .0) (m .result) (st .pre .arranged) (st .pre .slice) (v .inv .1) (f .ensures .1 .0) (f .ensures .1 .1),
+      (
+        tried-more (a .p) (a .k) w (v .work) (f .last .0) (m .result) (st .pre .0 .arranged) (st .pre .0 .slice) (v .inv .1 .0) (e .1 .0) (e .1 .1 .0),
+        e .1 .1 .1,
+      ),
     )
-
-same-length : tie.Need-same-length Inv-loop μ-loop
-same-length c = c .before .before .loop .inv .1 .size
 
 returns : tie.Need-returns Inv-loop μ-loop
 returns c =
-    let v = c .before .before .loop .inv in
-    (halving-end (v .0) (omega (arith, c .if1 .left)), (halving-low (v .0), v .1))
+    let a = c .before .before .before .before .before .before .before .before .args in
+    let b = c .before .before .before .before .before .before .bracket-at in
+    let v = c .before .before .loop in
+    let t = b .ensures .0 in (
+      halving-end (v .inv .0) (omega (arith, c .if1 .left)) ∙ ap (elect 0 127) (tried-fits (a .p) (a .k) (a .work .now) (b .last .0) (a .room) t),
+      (halving-low (v .inv .0), (tried-then (a .p) (a .k) (a .work .now) (b .last .0) (v .work) t (v .inv .1 .0), v .inv .1 .1 .1)),
+    )
+
+same-length : tie.Need-same-length Inv-loop μ-loop
+same-length c = returns c .1 .1 .0 .size
 
 pub elect-qindex-spec : {M : Type 1} → statement M
 elect-qindex-spec =
@@ -71,6 +89,7 @@ elect-qindex-spec =
     (tie.spec
     Inv-loop
     μ-loop
+    bracket-at-requires
     loop-holds
     middle-requires
     fits-requires

@@ -31,7 +31,7 @@ returns c =
     let a = st .args in
     let l = c .before .before .before .shorter in
     let d = c .before .colour-cost in
-    kept-cut (a .room) (lumaIn (a .work .now) (a .p) (a .k) (a .q)) (colourIn (a .work .now) (a .p) (a .k) (a .q)) (a .y) (l .result) (d .result) (c .shorter2 .result) (st .pre .1 .luma) (st .pre .1 .over) (l .ensures) (d .ensures .0) (c .shorter2 .ensures)
+    kept-cut (a .room) (lumaIn (a .work .now) (a .p) (a .k) (a .q)) (colourIn (a .work .now) (a .p) (a .k) (a .q)) (a .y) (l .result) (d .result) (c .shorter2 .result) (st .pre .1 .luma) (st .pre .1 .over) (l .ensures) (d .ensures) (c .shorter2 .ensures)
 
 pub cut-spec : {M : Type 1} → statement M
 cut-spec =

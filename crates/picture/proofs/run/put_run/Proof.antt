@@ -1,7 +1,7 @@
 -- `run::put_run` meets its contract. The invariant: the bands before the n-th are written, start is their area, and v is the window of the band
 -- before. Assumes nothing.
-use mathlib.Core.Path.{_≡_, sym, ap, _∙_}
-use Prim.Native.Nat.{ℕ, _+_, _-_, _≤_}
+use mathlib.Core.Path.{_≡_, sym, ap}
+use Prim.Native.Nat.{_-_, _≤_}
 use Rattle.picture.specs.Put.{Puts}
 use Rattle.picture.specs.PutLaws.{puts-same}
 use Rattle.picture.specs.Layout.{bandCount, startOf, windowOf, runNumbers}

@@ -2,7 +2,9 @@
 use mathlib.Core.Path.{refl, ap, _∙_}
 use Prim.Native.Nat.{ℕ, _+_}
 use lib.ListN.{length}
+use Rattle.picture.specs.Picture.{SliceIn}
 use Rattle.picture.specs.Low.{isLast}
+use Rattle.picture.specs.LowRestLaws.{slice-at, known-rebuilt}
 use Rattle.picture.specs.LowSliceLaws.{last-small, slice-fits, elects}
 use native.Mathlib.Omega.{arith}
 use borrow.Author.Needs.{needs}
@@ -11,6 +13,7 @@ use Rattle.picture.proofs.slice_coder.SliceCoder.code_ld_slice.Tie as t
 use Rattle.picture.proofs.slice_coder.SliceCoder.code_ld_slice.Reads as reads
 use Rattle.picture.proofs.slice_coder.SliceCoder.code_ld_slice.Lts as lts
 use Rattle.picture.proofs.low_index.elect_qindex.Reads as elect-qindex-reads
+use Rattle.picture.proofs.low_index.guess.Reads as guess-reads
 use Rattle.picture.proofs.low_index.is_last.Reads as is-last-reads
 use Rattle.picture.proofs.low_index.rebuild_planes.Reads as rebuild-planes-reads
 use Rattle.picture.proofs.low_index.room_of.Reads as room-of-reads
@@ -27,36 +30,44 @@ slice-bytes-requires c κs = search needs
 room-of-requires : tie.Need-room-of-requires
 room-of-requires c κs = search needs
 
+guess-requires : tie.Need-guess-requires
+guess-requires c κs = search needs
+
 elect-qindex-requires : tie.Need-elect-qindex-requires
 elect-qindex-requires c κs = search needs
 
 rebuild-planes-requires : tie.Need-rebuild-planes-requires
 rebuild-planes-requires c κs =
-    let st = c .before .before .before .before .before .before .before .before in
-    let q = c .before .before .elect-qindex in
-    record { arranged = st .pre .0 .arranged; small = q .ensures .1 .1 .small; slice = st .pre .1 .0; index = omega (arith, q .ensures .1 .0) }
+    let st = c .before .before .before .before .before .before .before .before .before .before in
+    let q = c .before .before .before .elect-qindex in
+    record { arranged = st .pre .0 .arranged; small = q .ensures .1 .1 .0 .small; slice = st .pre .1 .0; index = omega (arith, q .ensures .1 .0) }
 
 put-ld-slice-requires : tie.Need-put-ld-slice-requires
 put-ld-slice-requires c κs =
-    let st = c .before .before .before .before .before .before .before .before .before .before .before .before in
+    let st = c .before .before .before .before .before .before .before .before .before .before .before .before .before .before in
     let a = st .args in
-    let d = c .before .before .before .before .before .before .before .before .before .before .slice-count in
-    let b = c .before .before .before .before .before .before .before .before .before .slice-bytes in
-    let q = c .before .before .before .before .before .before .elect-qindex in (
-      record { arranged = st .pre .0 .arranged; small = c .before .before .before .rebuild-planes .ensures .1; slice = st .pre .1 .0; index = omega (arith, q .ensures .1 .0) },
+    let d = c .before .before .before .before .before .before .before .before .before .before .before .before .slice-count in
+    let b = c .before .before .before .before .before .before .before .before .before .before .before .slice-bytes in
+    let q = c .before .before .before .before .before .before .before .elect-qindex in
+    let v = c .before .before .before .rebuild-planes in
+    let h : SliceIn (a .p) (q .last .0) (a .k) (q .result .index) = record { arranged = st .pre .0 .arranged; small = q .ensures .1 .1 .0 .small; slice = st .pre .1 .0; index = omega (arith, q .ensures .1 .0) } in (
+      slice-at (v .last .0) (q .result .index) h (v .ensures .1) (h .index),
       (
         (b .ensures .1 .0, omega (arith, b .ensures .1 .1, st .pre .0 .few)),
-        slice-fits (a .p) (a .n) (a .work .now) (a .k) (d .result) (b .result) (d .ensures .0) (b .ensures .0) (a .self .at) (length (a .out .now)) (b .ensures .1 .0) (st .pre .1 .1 .1),
+        (
+          slice-fits (a .p) (a .n) (a .work .now) (a .k) (d .result) (b .result) (d .ensures .0) (b .ensures .0) (a .self .at) (length (a .out .now)) (b .ensures .1 .0) (st .pre .1 .1 .1),
+          known-rebuilt (v .last .0) (q .result .index) h (v .ensures .0) (q .ensures .1 .1 .1),
+        ),
       ),
     )
 
 is-last-requires : tie.Need-is-last-requires
 is-last-requires c κs = search needs
 
-add-t21 : tie.Need-add-t21
-add-t21 c =
-    let st = c .before .before .before .before .before .before .before .before .before .before .before .before .before .before .before .before .before in
-    omega (arith, st .pre .1 .0, st .pre .1 .1 .0, st .pre .0 .arranged .slices, c .before .is-last .ensures, last-small (c .before .before .before .before .before .before .before .before .before .before .before .elect-qindex .result))
+add-t24 : tie.Need-add-t24
+add-t24 c =
+    let st = c .before .before .before .before .before .before .before .before .before .before .before .before .before .before .before .before .before .before .before in
+    omega (arith, st .pre .1 .0, st .pre .1 .1 .0, st .pre .0 .arranged .slices, c .before .is-last .ensures, last-small (c .before .before .before .before .before .before .before .before .before .before .before .before .elect-qindex .result .index))
 
 same-length : tie.Need-same-length
 same-length c = search needs
@@ -66,14 +77,14 @@ same-length-2 c = search needs
 
 returns : tie.Need-returns
 returns c =
-    let st = c .before .before .before .before .before .before .before .before .before .before .before .before .before .before .before .before .before in
+    let st = c .before .before .before .before .before .before .before .before .before .before .before .before .before .before .before .before .before .before .before in
     let a = st .args in
-    let d = c .before .before .before .before .before .before .before .before .before .before .before .before .before .before .before .slice-count in
-    let b = c .before .before .before .before .before .before .before .before .before .before .before .before .before .before .slice-bytes in
-    let r = c .before .before .before .before .before .before .before .before .before .before .before .before .room-of in
-    let q = c .before .before .before .before .before .before .before .before .before .before .before .elect-qindex in
+    let d = c .before .before .before .before .before .before .before .before .before .before .before .before .before .before .before .before .before .slice-count in
+    let b = c .before .before .before .before .before .before .before .before .before .before .before .before .before .before .before .before .slice-bytes in
+    let r = c .before .before .before .before .before .before .before .before .before .before .before .before .before .before .before .room-of in
+    let q = c .before .before .before .before .before .before .before .before .before .before .before .before .elect-qindex in
     let v = c .before .before .before .before .before .before .before .before .rebuild-planes in
-    let e = elects (a .p) (a .n) (a .work .now) (a .k) (d .result) (b .result) (d .ensures .0) (b .ensures .0) (r .result) (q .result) (r .ensures .0) (q .ensures .0) (q .ensures .1 .0) (q .ensures .1 .1) (v .ensures .0) in
+    let e = elects (a .p) (a .n) (a .work .now) (a .k) (d .result) (b .result) (d .ensures .0) (b .ensures .0) (r .result) (q .result .index) (r .ensures .0) (q .ensures .0) (q .ensures .1 .1 .0) (v .ensures .0) in
     let z = c .before .is-last .ensures ∙ ap (λ (x : ℕ). isLast x) (e .index) in
     (rw (e .bits) at (c .before .before .before .before .put-ld-slice .ensures), (e .work, (v .ensures .1, (ap (λ (x : ℕ). a .self .«cut_slices» + x) z, refl))))
 
@@ -84,11 +95,12 @@ code-ld-slice-spec =
     slice-count-requires
     slice-bytes-requires
     room-of-requires
+    guess-requires
     elect-qindex-requires
     rebuild-planes-requires
     put-ld-slice-requires
     is-last-requires
-    add-t21
+    add-t24
     same-length
     same-length-2
     returns)
