@@ -331,9 +331,6 @@ window-few {l} {c} {second} {a} {e} {k} h v d =
 
 -- what a window asks
 module _ {l : Layout} {c second : Component} {k q : ℕ} where
-  pub strip-window : {n start : ℕ} → StripIn l c second n start k q → WindowIn l c n k
-  strip-window h = record { layout = h .layout; first = h .first; band = h .band; slice = h .slice }
-
   pub run-window : {a e : ℕ} {w : List ℤ} → RunIn l c second a e k q w → (n : ℕ) → n < bandCount l → WindowIn l c n k
   run-window h n b = record { layout = h .layout; first = h .first; band = b; slice = h .slice }
 

@@ -11,7 +11,7 @@ use Rattle.picture.specs.declared.high_index.Trimmed.{Trimmed}
 use Rattle.picture.specs.declared.low_index.First.{First}
 use Rattle.picture.specs.declared.low_index.Rest.{Rest}
 use Rattle.picture.specs.Run.{stripNumbers}
-use Rattle.picture.specs.Tally.{tallyAll, noTally, trimmedOf}
+use Rattle.picture.specs.Tally.{tallyAll, noTally, trimmedOf, trimmedBy}
 use Rattle.picture.specs.Layout.{bandCount, stripOf, restNumbers}
 use Rattle.picture.specs.Low.{strip0}
 
@@ -32,7 +32,7 @@ colourRest w p k q = restNumbers w (p .layout) (p .c1) (p .c2) true k q (bandCou
 -- the run of numbers tallied in t and of a run r behind them, without trailing zeros
 abbrev pub joinedOf : Tally → Trimmed → Trimmed
 joinedOf t r = cond (eqb (r .count) 0)
-    (record { count = t .keep; bits = t .bits - (t .count - t .keep) })
+    (trimmedBy t)
     (record { count = t .count + r .count; bits = t .bits + r .bits })
 
 -- the bits of a slice whose level-0 numbers are tallied in f, with the runs r behind them

@@ -27,7 +27,7 @@ use Rattle.picture.specs.declared.low_index.First.{First}
 use Rattle.picture.specs.declared.low_index.Rest.{Rest}
 use Rattle.picture.specs.Run.{numberIn, placeNumbers, rowNumbers, stripNumbers, Small}
 use Rattle.picture.specs.RunLaws.{places, rows, row-chunks, rows-chunks, rows-small}
-use Rattle.picture.specs.Tally.{trimmedOf}
+use Rattle.picture.specs.Tally.{trimmedOf, trimmedBy}
 use Rattle.picture.specs.TallyLaws.{TallyOf, tally-of, tally-keeps, tally-kept, plain-number}
 use Rattle.picture.specs.Layout.{bandCount, startOf, stripOf, restNumbers}
 use Rattle.picture.specs.LayoutLaws.{no-and, rest-small, firstStrip, bandStrip, bandNumbers, run-small, run-length, run-rest, start-next, band-fits}
@@ -72,8 +72,8 @@ joined-is xs ys t r h e = rw e (by (trimmed ys) refl)
         ∙ ap (λ (zs : List ℤ). record { count = length zs; bits = bitsOf zs }) (sym f)
 
 -- as the code makes it
-pub joined-none : (t : Tally) (r : Trimmed) (n : ℕ) → r .count ≡ 0 → n ≡ t .bits - (t .count - t .keep) → record { count = t .keep; bits = n } ≡ joinedOf t r
-joined-none t r n h e = rw (eq-eqb (r .count) 0 h, e)
+pub joined-none : (t : Tally) (r : Trimmed) → r .count ≡ 0 → trimmedBy t ≡ joinedOf t r
+joined-none t r h = rw (eq-eqb (r .count) 0 h)
 
 pub joined-some : (t : Tally) (r : Trimmed) → (r .count ≡ 0 → ⊥) → record { count = t .count + r .count; bits = t .bits + r .bits } ≡ joinedOf t r
 joined-some t r h = rw (ne-eqb (r .count) 0 h)

@@ -1,7 +1,7 @@
 -- The tally of a run of numbers: their bits, their count, and their count without trailing zeros. Assumes nothing.
 use mathlib.Core.Bool.{cond}
 use mathlib.Core.List.{List}
-use Prim.Native.Nat.{ℕ, _+_}
+use Prim.Native.Nat.{ℕ, _+_, _-_}
 use lib.Dec.{eqb}
 use lib.IntN.{ℤ}
 use lib.ListN.{length}
@@ -34,6 +34,10 @@ tallyOf c = record { bits = c .bits; count = c .count; keep = c .keep }
 -- a run without trailing zeros: how many numbers, and their bits
 abbrev pub trimmedOf : List ℤ → Trimmed
 trimmedOf xs = record { count = length (trimmed xs); bits = trimmedCost xs }
+
+-- what is tallied, without trailing zeros, each of which has one bit
+abbrev pub trimmedBy : Tally → Trimmed
+trimmedBy t = record { count = t .keep; bits = t .bits - (t .count - t .keep) }
 
 -- n more numbers can be added
 abbrev pub Addable : Tally → ℕ → Type 0

@@ -21,7 +21,7 @@ use Rattle.picture.specs.RunLaws.{prediction-no, second-one, place-is}
 use Rattle.picture.specs.Cost.{Counted, fitted, kept, add1, added, addAll, noCost}
 use Rattle.picture.specs.AddedLaws.{added-one}
 use Rattle.picture.specs.CostLaws.{one-bit, cost-of, trimmed-most}
-use Rattle.picture.specs.Tally.{tally1, tallyLen, tallyAll, noTally, tallyOf, trimmedOf, Addable}
+use Rattle.picture.specs.Tally.{tally1, tallyLen, tallyAll, noTally, tallyOf, trimmedOf, trimmedBy, Addable}
 
 -- ---- one number
 pub tallied-yes : (t : Tally) (n : ℕ) → n ≡ 1 → record { bits = t .bits + n; count = t .count + 1; keep = t .keep } ≡ tallyLen t n
@@ -106,8 +106,8 @@ module _ {xs : List ℤ} {t : Tally} (h : TallyOf xs t) where
   tally-kept = omega (arith, h .bits, h .count, h .keep, trailing-bits xs)
 
   -- what the numbers are without trailing zeros
-  pub tally-trimmed : (n : ℕ) → n ≡ t .bits - (t .count - t .keep) → _≡_ {A = Trimmed} (record { count = t .keep; bits = n }) (trimmedOf xs)
-  tally-trimmed n e = ap₂ (λ (k b : ℕ). record { count = k; bits = b }) (h .keep) (e ∙ tally-kept)
+  pub tally-trimmed : trimmedBy t ≡ trimmedOf xs
+  tally-trimmed = ap₂ (λ (k b : ℕ). record { count = k; bits = b }) (h .keep) tally-kept
 
 -- ---- numbers that are not predicted
 pub plain-number : (l : List ℤ) (s : Strip) (coefs base y x : ℕ) → s .predicted ≡ false → forwardBy (s .factor) (planeFrom l coefs (s .width) y x) ≡ numberIn l s coefs base y x

@@ -65,10 +65,7 @@ fn trimmed_run(work: &[i64], p: Picture, c: Component, k: u32, q: u32) -> Trimme
     let l = p.layout;
     let first = crate::run::first_tally(work, p.front, p.end, l, c, c, false, k, q);
     let t = crate::run::rest_tally(work, p.front, p.end, l, c, c, false, k, q, first);
-    Trimmed {
-        count: t.keep,
-        bits: crate::tally::kept_bits(t),
-    }
+    crate::tally::trimmed_of(t)
 }
 
 // The choice of index q for slice k.

@@ -138,7 +138,7 @@ pub fn window_at(l: Layout, c: Component, n: u32, k: u32) -> Window
     }
 }
 
-// The same, where v is what it has of the subband before: the subbands of a level are alike.
+// The same, where v is what it has of the subband before, or for the first one its own: the subbands of a level are alike.
 pub fn next_window(l: Layout, c: Component, n: u32, k: u32, v: Window) -> Window
     requires { ⌜ WindowIn l c n k × (v ≡ windowOf l c (n - 1) k) ⌝ }
     ensures { λ r. ⌜ r ≡ windowOf l c n k ⌝ }
@@ -189,7 +189,7 @@ pub fn strip_in(
     }
 }
 
-// The strip where no window is at hand: put together in one function, since a window that is handed on costs more time than it saves.
+// The strip where no window is at hand. For a single subband window_at and strip_in apart take more time than this.
 pub fn strip_at(
     l: Layout,
     c: Component,

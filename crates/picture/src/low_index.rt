@@ -32,7 +32,7 @@ pub struct Rest {
     pub colour: Trimmed,
 }
 
-// Whether a slice fits at an index, and its runs at two indices.
+// Whether a slice fits at an index, and its runs at two indices: as a rule low did not fit and high did. What is proved needs no such rule, and no order.
 pub struct Trial {
     pub fits: bool,
     pub low: Rest,
@@ -45,7 +45,7 @@ pub struct Probe {
     pub rest: Rest,
 }
 
-// A slice's runs at two indices.
+// A slice's runs at two indices, as in a trial.
 pub struct Bracket {
     pub low: Rest,
     pub high: Rest,
@@ -116,15 +116,7 @@ pub fn luma_cost(work: &[i64], p: Picture, k: u32, q: u32, room: u64) -> Cost
     requires { ⌜ SliceIn p (now work) k q ⌝ }
     ensures { λ r. ⌜ r ≡ addAll (noCost room) (lumaIn (now (work .entry)) p k q) ⌝ }
 {
-    let none = Cost {
-        room,
-        bits: 0,
-        count: 0,
-        kept_bits: 0,
-        keep: 0,
-        fit_bits: 0,
-        fit: 0,
-    };
+    let none = crate::cost::no_cost(room);
     let l = p.layout;
     let y = p.y;
     crate::run::cost_run(work, p.front, p.end, l, y, y, false, k, q, none)
@@ -135,15 +127,7 @@ pub fn colour_cost(work: &[i64], p: Picture, k: u32, q: u32, room: u64) -> Cost
     requires { ⌜ SliceIn p (now work) k q ⌝ }
     ensures { λ r. ⌜ r ≡ addAll (noCost room) (colourIn (now (work .entry)) p k q) ⌝ }
 {
-    let none = Cost {
-        room,
-        bits: 0,
-        count: 0,
-        kept_bits: 0,
-        keep: 0,
-        fit_bits: 0,
-        fit: 0,
-    };
+    let none = crate::cost::no_cost(room);
     let l = p.layout;
     let c1 = p.c1;
     let c2 = p.c2;
@@ -151,7 +135,7 @@ pub fn colour_cost(work: &[i64], p: Picture, k: u32, q: u32, room: u64) -> Cost
 }
 
 // The tallies of slice k's level-0 numbers at index q, where the planes are rebuilt.
-pub fn first_of(work: &[i64], p: Picture, k: u32, q: u32) -> First
+pub fn first_tallies(work: &[i64], p: Picture, k: u32, q: u32) -> First
     requires { ⌜ SliceIn p (now work) k q ⌝ }
     ensures { λ r. ⌜ FirstOf (now (work .entry)) p k q r ⌝ }
 {
@@ -185,14 +169,11 @@ fn rest_run(
     };
     let l = p.layout;
     let t = crate::run::rest_tally(work, p.front, p.end, l, c, second, pair, k, q, none);
-    Trimmed {
-        count: t.keep,
-        bits: crate::tally::kept_bits(t),
-    }
+    crate::tally::trimmed_of(t)
 }
 
 // Slice k's runs of the subbands behind the first at index q. No prediction is in them, so that they do not depend on the rebuilt planes.
-pub fn rest_of(work: &[i64], p: Picture, k: u32, q: u32) -> Rest
+fn rest_of(work: &[i64], p: Picture, k: u32, q: u32) -> Rest
     requires { ⌜ SliceIn p (now work) k q ⌝ }
     ensures { λ r. ⌜ Known (now (work .entry)) p k r × (r .index ≡ q) ⌝ }
 {
@@ -212,10 +193,7 @@ pub fn joined(t: Tally, r: Trimmed) -> Trimmed
     ensures { λ z. ⌜ z ≡ joinedOf t r ⌝ }
 {
     if r.count == 0 {
-        Trimmed {
-            count: t.keep,
-            bits: crate::tally::kept_bits(t),
-        }
+        crate::tally::trimmed_of(t)
     } else {
         Trimmed {
             count: t.count + r.count,
@@ -269,7 +247,7 @@ fn fits(work: &mut [i64], p: Picture, room: u64, k: u32, q: u32, low: Rest, high
         × (Small (p .front) (p .end) (now (work .exit)) × (Known (now (work .exit)) p k (r .low) × Known (now (work .exit)) p k (r .high)))) ⌝ }
 {
     rebuild_planes(work, p, k, q);
-    let f = first_of(work, p, k, q);
+    let f = first_tallies(work, p, k, q);
     if surely_fits(f, low, q, room) | surely_fits(f, high, q, room) {
         return Trial {
             fits: true,
@@ -306,7 +284,7 @@ fn probe_at(work: &mut [i64], p: Picture, room: u64, k: u32, q: u32) -> Probe
     ensures { λ r. ⌜ (now (work .exit) ≡ rebuiltIn (now (work .entry)) p k q) × (Small (p .front) (p .end) (now (work .exit)) × Known (now (work .exit)) p k (r .rest)) ⌝ }
 {
     rebuild_planes(work, p, k, q);
-    let f = first_of(work, p, k, q);
+    let f = first_tallies(work, p, k, q);
     let rest = rest_of(work, p, k, q);
     Probe {
         fits: bits_with(f, rest) <= room,
@@ -377,7 +355,7 @@ fn bracket_at(work: &mut [i64], p: Picture, room: u64, k: u32, g: u32) -> Bracke
     Bracket { low, high }
 }
 
-// The election from 0 to 127, from the guess g on: its index, and runs at an index. The last index that was tried need not be the elected one.
+// The election from 0 to 127: its index, and runs at an index. The bracket begins at the guess g. The last index that was tried need not be the elected one.
 pub fn elect_qindex(work: &mut [i64], p: Picture, room: u64, k: u32, g: u32) -> Elected
     requires { ⌜ SliceIn p (now work) k 0 × (g ≤ 127) ⌝ }
     ensures { λ r. ⌜ (r .index ≡ elect 0 127 (lowFitsIn (now (work .entry)) p room k)) × ((r .index ≤ 127)

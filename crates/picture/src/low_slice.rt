@@ -69,7 +69,7 @@ fn kept_runs(work: &[i64], p: Picture, room: u64, k: u32, q: u32, r: Rest) -> Ke
     requires { ⌜ SliceIn p (now work) k q × (Known (now work) p k r × (r .index ≡ q)) ⌝ }
     ensures { λ z. ⌜ KeptOf room (lumaIn (now (work .entry)) p k q) (colourIn (now (work .entry)) p k q) z ⌝ }
 {
-    let f = crate::low_index::first_of(work, p, k, q);
+    let f = crate::low_index::first_tallies(work, p, k, q);
     let luma = f.luma;
     let luma_rest = r.luma;
     let colour = f.colour;
@@ -147,7 +147,7 @@ fn put_runs(
     b.writer
 }
 
-// Slice k of n bytes at index q from place at on: where it ends. Its runs behind level 0 at an index are at hand.
+// Slice k of n bytes at index q from place at on: where it ends. rest has its runs behind level 0 at q or at another index.
 pub fn put_ld_slice(
     out: &mut [u8],
     at: usize,

@@ -14,7 +14,7 @@ pub struct Put {
 }
 
 // One number, if it is to be kept.
-pub fn put_number(out: &mut [u8], p: Put, z: i64) -> Put
+fn put_number(out: &mut [u8], p: Put, z: i64) -> Put
     requires { ⌜ RoomFor (now out) p (z ∷ []) ⌝ }
     ensures { λ r. ⌜ Puts (now (out .entry)) p (z ∷ []) (now (out .exit)) r ⌝ }
 {

@@ -57,15 +57,7 @@ pub fn first_tally(
     requires { ⌜ RunIn l c second a e k q (now work) × (c .width * c .height ≤ 67108864) ⌝ }
     ensures { λ r. ⌜ r ≡ tallyAll noTally (stripNumbers (now (work .entry)) (stripOf l c second pair 0 0 k q)) ⌝ }
 {
-    let none = Cost {
-        room: 0,
-        bits: 0,
-        count: 0,
-        kept_bits: 0,
-        keep: 0,
-        fit_bits: 0,
-        fit: 0,
-    };
+    let none = crate::cost::no_cost(0);
     let s = crate::layout::strip_at(l, c, second, pair, 0, 0, k, q);
     crate::tally::tally_of(crate::cost::cost_strip(work, a, e, s, none))
 }

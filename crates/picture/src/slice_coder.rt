@@ -13,7 +13,7 @@ ghost use Rattle.picture.specs.High.{planIn, choiceIn, noteIn, plannedBy
 ghost use Rattle.picture.specs.Low.{isLast, lowIndexIn, lowBitsIn, lowWorkIn, LowIn};
 
 // Where the next slice goes in the output, how many low-delay slices carry index 127, the largest need of a component, and the index of the slice
-// before, where the next election begins.
+// before, from which the search in high quality and the bracket in low delay begin.
 pub struct SliceCoder {
     pub at: usize,
     pub cut_slices: u32,

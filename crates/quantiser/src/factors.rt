@@ -314,7 +314,7 @@ pub fn offset_by(index: u32, factor: u64) -> u64
     crate::cap(factor + 1) / 2
 }
 
-// For the layers above.
+// The offset of an index.
 pub fn offset_at(index: u32) -> u64
     requires { ⌜ index ≤ 255 ⌝ }
     ensures { λ r. ⌜ (r ≡ quantOffset index) × (r < 2 ^ 63) ⌝ }

@@ -1,4 +1,5 @@
 -- `high_index::trimmed_run` meets its contract. Assumes nothing.
+use mathlib.Core.Path.{_∙_}
 use mathlib.Core.Bool.{false}
 use borrow.Author.Needs.{needs}
 use Rattle.picture.specs.TallyLaws.{tally-keeps, tally-trimmed, TallyOf}
@@ -25,11 +26,11 @@ rest-tally-requires c κs =
     let a = st .args in
     (st .pre .0, first-addable (a .work .now) (a .p .layout) (a .c) (a .c) false (a .k) (a .q) (st .pre .0) (st .pre .1) (c .first-tally .result) (c .first-tally .ensures))
 
-kept-bits-requires : tie.Need-kept-bits-requires
-kept-bits-requires c κs = tally-keeps (whole c)
+trimmed-of-requires : tie.Need-trimmed-of-requires
+trimmed-of-requires c κs = tally-keeps (whole c)
 
 returns : tie.Need-returns
-returns c = tally-trimmed (whole (c .before)) (c .kept-bits .result) (c .kept-bits .ensures)
+returns c = c .trimmed-of .ensures ∙ tally-trimmed (whole (c .before))
 
 pub trimmed-run-spec : {M : Type 1} → statement M
-trimmed-run-spec = tie.close (tie.spec first-tally-requires rest-tally-requires kept-bits-requires returns)
+trimmed-run-spec = tie.close (tie.spec first-tally-requires rest-tally-requires trimmed-of-requires returns)

@@ -9,34 +9,34 @@ use Rattle.picture.proofs.low_index.fits.Tie as tie
 use Rattle.picture.proofs.low_index.fits.Reads as reads
 use Rattle.picture.proofs.low_index.fits.Lts as lts
 use Rattle.picture.proofs.low_index.bits_with.Reads as bits-with-reads
-use Rattle.picture.proofs.low_index.first_of.Reads as first-of-reads
+use Rattle.picture.proofs.low_index.first_tallies.Reads as first-tallies-reads
 use Rattle.picture.proofs.low_index.never_fits.Reads as never-fits-reads
 use Rattle.picture.proofs.low_index.rebuild_planes.Reads as rebuild-planes-reads
 use Rattle.picture.proofs.low_index.rest_of.Reads as rest-of-reads
 use Rattle.picture.proofs.low_index.surely_fits.Reads as surely-fits-reads
 
 -- the runs at hand, where the planes are rebuilt
-both : (c : tie.After-first-of) → let a = c .before .before .before .before .before .args in
+both : (c : tie.After-first-tallies) → let a = c .before .before .before .before .before .args in
     let v = c .before .before .before .rebuild-planes .last .0 in Known v (a .p) (a .k) (a .low) × Known v (a .p) (a .k) (a .high)
 both c =
     let st = c .before .before .before .before .before in
     let r = c .before .before .before .rebuild-planes in
     (known-rebuilt (r .last .0) (st .args .q) (st .pre .0) (r .ensures .0) (st .pre .1 .0), known-rebuilt (r .last .0) (st .args .q) (st .pre .0) (r .ensures .0) (st .pre .1 .1))
 
-arranged : (c : tie.After-first-of) → Arranged (c .before .before .before .before .before .args .p)
+arranged : (c : tie.After-first-tallies) → Arranged (c .before .before .before .before .before .args .p)
 arranged c = c .before .before .before .before .before .pre .0 .arranged
 
 rebuild-planes-requires : tie.Need-rebuild-planes-requires
 rebuild-planes-requires c κs = search needs
 
-first-of-requires : tie.Need-first-of-requires
-first-of-requires c κs = search needs
+first-tallies-requires : tie.Need-first-tallies-requires
+first-tallies-requires c κs = search needs
 
 surely-fits-requires : tie.Need-surely-fits-requires
-surely-fits-requires c κs = joins-both (c .first-of .ensures) (both c .0) (arranged c)
+surely-fits-requires c κs = joins-both (c .first-tallies .ensures) (both c .0) (arranged c)
 
 surely-fits-requires-2 : tie.Need-surely-fits-requires-2
-surely-fits-requires-2 c κs = let d = c .before in joins-both (d .first-of .ensures) (both d .1) (arranged d)
+surely-fits-requires-2 c κs = let d = c .before in joins-both (d .first-tallies .ensures) (both d .1) (arranged d)
 
 same-length : tie.Need-same-length
 same-length c = search needs
@@ -49,13 +49,13 @@ returns c =
     let k = both d in
     let x = c .before .before .surely-fits in
     let y = c .before .surely-fits2 in
-    (surely-either (d .first-of .ensures) (k .0) (k .1) (a .work .now) (r .0) (a .room) (x .result) (y .result) (x .ensures) (y .ensures) (c .if1 .taken), (r .0, (r .1, k)))
+    (surely-either (d .first-tallies .ensures) (k .0) (k .1) (a .work .now) (r .0) (a .room) (x .result) (y .result) (x .ensures) (y .ensures) (c .if1 .taken), (r .0, (r .1, k)))
 
 never-fits-requires : tie.Need-never-fits-requires
-never-fits-requires c κs = let d = c .before .before .before in joins-both (d .first-of .ensures) (both d .0) (arranged d)
+never-fits-requires c κs = let d = c .before .before .before in joins-both (d .first-tallies .ensures) (both d .0) (arranged d)
 
 never-fits-requires-2 : tie.Need-never-fits-requires-2
-never-fits-requires-2 c κs = let d = c .before .before .before .before in joins-both (d .first-of .ensures) (both d .1) (arranged d)
+never-fits-requires-2 c κs = let d = c .before .before .before .before in joins-both (d .first-tallies .ensures) (both d .1) (arranged d)
 
 same-length-2 : tie.Need-same-length-2
 same-length-2 c = search needs
@@ -68,13 +68,13 @@ returns-2 c =
     let k = both d in
     let x = c .before .before .never-fits in
     let y = c .before .never-fits2 in
-    (never-either (d .first-of .ensures) (k .0) (k .1) (a .work .now) (r .0) (a .room) (x .result) (y .result) (x .ensures) (y .ensures) (c .if2 .taken), (r .0, (r .1, k)))
+    (never-either (d .first-tallies .ensures) (k .0) (k .1) (a .work .now) (r .0) (a .room) (x .result) (y .result) (x .ensures) (y .ensures) (c .if2 .taken), (r .0, (r .1, k)))
 
 rest-of-requires : tie.Need-rest-of-requires
 rest-of-requires c κs = search needs
 
 bits-with-requires : tie.Need-bits-with-requires
-bits-with-requires c κs = let d = c .before .before .before .before .before .before .before .before in joins-both (d .first-of .ensures) (c .rest-of .ensures .0) (arranged d)
+bits-with-requires c κs = let d = c .before .before .before .before .before .before .before .before in joins-both (d .first-tallies .ensures) (c .rest-of .ensures .0) (arranged d)
 
 same-length-3 : tie.Need-same-length-3
 same-length-3 c = search needs
@@ -87,7 +87,7 @@ returns-3 c =
     let k = both d in
     let t = c .before .before .rest-of .ensures in
     let n = c .before .bits-with in
-    (fits-low (d .first-of .ensures) (t .0) (a .work .now) (r .0) (a .room) (omega (arith, t .1)) (omega (arith, n .ensures, c .if3 .taken)), (r .0, (r .1, (k .0, t .0))))
+    (fits-low (d .first-tallies .ensures) (t .0) (a .work .now) (r .0) (a .room) (omega (arith, t .1)) (omega (arith, n .ensures, c .if3 .taken)), (r .0, (r .1, (k .0, t .0))))
 
 same-length-4 : tie.Need-same-length-4
 same-length-4 c = search needs
@@ -100,14 +100,14 @@ returns-4 c =
     let k = both d in
     let t = c .before .before .rest-of .ensures in
     let n = c .before .bits-with in
-    (fits-high (d .first-of .ensures) (t .0) (a .work .now) (r .0) (a .room) (omega (arith, t .1)) (omega (arith, n .ensures, c .if3 .left)), (r .0, (r .1, (t .0, k .1))))
+    (fits-high (d .first-tallies .ensures) (t .0) (a .work .now) (r .0) (a .room) (omega (arith, t .1)) (omega (arith, n .ensures, c .if3 .left)), (r .0, (r .1, (t .0, k .1))))
 
 pub fits-spec : {M : Type 1} → statement M
 fits-spec =
     tie.close
     (tie.spec
     rebuild-planes-requires
-    first-of-requires
+    first-tallies-requires
     surely-fits-requires
     surely-fits-requires-2
     same-length

@@ -6,21 +6,21 @@ use Rattle.picture.proofs.low_index.probe_at.Tie as tie
 use Rattle.picture.proofs.low_index.probe_at.Reads as reads
 use Rattle.picture.proofs.low_index.probe_at.Lts as lts
 use Rattle.picture.proofs.low_index.bits_with.Reads as bits-with-reads
-use Rattle.picture.proofs.low_index.first_of.Reads as first-of-reads
+use Rattle.picture.proofs.low_index.first_tallies.Reads as first-tallies-reads
 use Rattle.picture.proofs.low_index.rebuild_planes.Reads as rebuild-planes-reads
 use Rattle.picture.proofs.low_index.rest_of.Reads as rest-of-reads
 
 rebuild-planes-requires : tie.Need-rebuild-planes-requires
 rebuild-planes-requires c κs = search needs
 
-first-of-requires : tie.Need-first-of-requires
-first-of-requires c κs = search needs
+first-tallies-requires : tie.Need-first-tallies-requires
+first-tallies-requires c κs = search needs
 
 rest-of-requires : tie.Need-rest-of-requires
 rest-of-requires c κs = search needs
 
 bits-with-requires : tie.Need-bits-with-requires
-bits-with-requires c κs = joins-both (c .before .before .first-of .ensures) (c .rest-of .ensures .0) (c .before .before .before .before .before .before .before .pre .arranged)
+bits-with-requires c κs = joins-both (c .before .before .first-tallies .ensures) (c .rest-of .ensures .0) (c .before .before .before .before .before .before .before .pre .arranged)
 
 same-length : tie.Need-same-length
 same-length c = search needs
@@ -33,7 +33,7 @@ probe-at-spec =
     tie.close
     (tie.spec
     rebuild-planes-requires
-    first-of-requires
+    first-tallies-requires
     rest-of-requires
     bits-with-requires
     same-length

@@ -1,4 +1,5 @@
 -- `low_index::rest_run` meets its contract. Assumes nothing.
+use mathlib.Core.Path.{_∙_}
 use Prim.Native.Nat.{_-_}
 use Rattle.picture.specs.Layout.{restNumbers, bandCount}
 use Rattle.picture.specs.TallyLaws.{TallyOf, tally-of, tally-keeps, tally-trimmed}
@@ -8,7 +9,7 @@ use Rattle.picture.proofs.low_index.rest_run.Tie as tie
 use Rattle.picture.proofs.low_index.rest_run.Reads as reads
 use Rattle.picture.proofs.low_index.rest_run.Lts as lts
 use Rattle.picture.proofs.run.rest_tally.Reads as rest-tally-reads
-use Rattle.picture.proofs.tally.kept_bits.Reads as kept-bits-reads
+use Rattle.picture.proofs.tally.trimmed_of.Reads as trimmed-of-reads
 
 -- the tally of the run
 whole : (c : tie.After-rest-tally) → let a = c .before .before .args in
@@ -18,11 +19,11 @@ whole c = tally-of _ (c .rest-tally .result) (c .rest-tally .ensures)
 rest-tally-requires : tie.Need-rest-tally-requires
 rest-tally-requires c κs = search needs
 
-kept-bits-requires : tie.Need-kept-bits-requires
-kept-bits-requires c κs = tally-keeps (whole c)
+trimmed-of-requires : tie.Need-trimmed-of-requires
+trimmed-of-requires c κs = tally-keeps (whole c)
 
 returns : tie.Need-returns
-returns c = tally-trimmed (whole (c .before)) (c .kept-bits .result) (c .kept-bits .ensures)
+returns c = c .trimmed-of .ensures ∙ tally-trimmed (whole (c .before))
 
 pub rest-run-spec : {M : Type 1} → statement M
-rest-run-spec = tie.close (tie.spec rest-tally-requires kept-bits-requires returns)
+rest-run-spec = tie.close (tie.spec rest-tally-requires trimmed-of-requires returns)

@@ -9,24 +9,24 @@ use Rattle.picture.proofs.low_slice.kept_runs.Statement.{statement}
 use Rattle.picture.proofs.low_slice.kept_runs.Tie as tie
 use Rattle.picture.proofs.low_slice.kept_runs.Reads as reads
 use Rattle.picture.proofs.low_slice.kept_runs.Lts as lts
-use Rattle.picture.proofs.low_index.first_of.Reads as first-of-reads
+use Rattle.picture.proofs.low_index.first_tallies.Reads as first-tallies-reads
 use Rattle.picture.proofs.low_index.joined.Reads as joined-reads
 use Rattle.picture.proofs.low_index.luma_cost.Reads as luma-cost-reads
 use Rattle.picture.proofs.low_slice.cut.Reads as cut-reads
 
-first-of-requires : tie.Need-first-of-requires
-first-of-requires c κs = search needs
+first-tallies-requires : tie.Need-first-tallies-requires
+first-tallies-requires c κs = search needs
 
 joined-requires : tie.Need-joined-requires
-joined-requires c κs = let h = c .before .before .before .before .before .pre in joins-both (c .before .before .before .before .first-of .ensures) (h .1 .0) (h .0 .arranged) .0
+joined-requires c κs = let h = c .before .before .before .before .before .pre in joins-both (c .before .before .before .before .first-tallies .ensures) (h .1 .0) (h .0 .arranged) .0
 
 joined-requires-2 : tie.Need-joined-requires-2
-joined-requires-2 c κs = let h = c .before .before .before .before .before .before .pre in joins-both (c .before .before .before .before .before .first-of .ensures) (h .1 .0) (h .0 .arranged) .1
+joined-requires-2 c κs = let h = c .before .before .before .before .before .before .pre in joins-both (c .before .before .before .before .before .first-tallies .ensures) (h .1 .0) (h .0 .arranged) .1
 
 add-if1 : tie.Need-add-if1
 add-if1 c =
     let st = c .before .before .before .before .before .before .before .before .before in
-    let f = c .before .before .before .before .before .before .before .before .first-of in
+    let f = c .before .before .before .before .before .before .before .before .first-tallies in
     let y = c .before .before .before .joined in
     let d = c .before .before .joined2 in
     let j = joins-both (f .ensures) (st .pre .1 .0) (st .pre .0 .arranged) in
@@ -38,7 +38,7 @@ returns c =
     let a = st .args in
     let ys = lumaIn (a .work .now) (a .p) (a .k) (a .q) in
     let cs = colourIn (a .work .now) (a .p) (a .k) (a .q) in
-    let f = c .before .before .before .before .before .before .before .before .before .first-of .ensures in
+    let f = c .before .before .before .before .before .before .before .before .before .first-tallies .ensures in
     let y = c .before .before .before .before .joined in
     let d = c .before .before .before .joined2 in
     let e = y .ensures ∙ luma-whole f (st .pre .1 .0) (st .pre .1 .1) in
@@ -54,7 +54,7 @@ cut-requires c κs =
     let a = st .args in
     let ys = lumaIn (a .work .now) (a .p) (a .k) (a .q) in
     let cs = colourIn (a .work .now) (a .p) (a .k) (a .q) in
-    let f = c .before .before .before .before .before .before .before .before .before .before .first-of .ensures in
+    let f = c .before .before .before .before .before .before .before .before .before .before .first-tallies .ensures in
     let y = c .before .before .before .before .before .joined in
     let d = c .before .before .before .before .joined2 in
     let e = y .ensures ∙ luma-whole f (st .pre .1 .0) (st .pre .1 .1) in
@@ -68,7 +68,7 @@ pub kept-runs-spec : {M : Type 1} → statement M
 kept-runs-spec =
     tie.close
     (tie.spec
-    first-of-requires
+    first-tallies-requires
     joined-requires
     joined-requires-2
     add-if1

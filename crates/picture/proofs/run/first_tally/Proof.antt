@@ -2,7 +2,8 @@
 use mathlib.Core.Path.{ap, _∙_}
 use Rattle.picture.specs.declared.strip.Strip.{Strip}
 use Rattle.picture.specs.Run.{stripNumbers}
-use Rattle.picture.specs.Cost.{noCost}
+use Rattle.picture.specs.declared.cost.Cost.{Cost}
+use Rattle.picture.specs.Cost.{addAll, noCost}
 use Rattle.picture.specs.Tally.{tallyOf, tallyAll, noTally}
 use Rattle.picture.specs.TallyLaws.{tally-cost}
 use Rattle.picture.specs.LayoutLaws.{first-ready}
@@ -15,25 +16,31 @@ use Rattle.picture.proofs.cost.cost_strip.Reads as cost-strip-reads
 use Rattle.picture.proofs.layout.strip_at.Reads as strip-at-reads
 use Rattle.picture.proofs.tally.tally_of.Reads as tally-of-reads
 
+no-cost-requires : tie.Need-no-cost-requires
+no-cost-requires c κs = search needs
+
 strip-at-requires : tie.Need-strip-at-requires
 strip-at-requires c κs = search needs
 
 cost-strip-requires : tie.Need-cost-strip-requires
 cost-strip-requires c κs =
-    let st = c .before in
+    let st = c .before .before in
     let a = st .args in
     let s = c .strip-at in
-    first-ready (a .work .now) (a .l) (a .c) (a .second) (a .pair) (a .k) (a .q) (st .pre .0) (s .result) (st .pre .1) (s .ensures)
+    rw (c .before .no-cost .ensures) (first-ready (a .work .now) (a .l) (a .c) (a .second) (a .pair) (a .k) (a .q) (st .pre .0) (s .result) (st .pre .1) (s .ensures))
 
 tally-of-requires : tie.Need-tally-of-requires
 tally-of-requires c κs = search needs
 
 returns : tie.Need-returns
 returns c =
-    let a = c .before .before .before .args in
+    let a = c .before .before .before .before .args in
     let s = c .before .before .strip-at in
-    c .tally-of .ensures ∙ ap tallyOf (c .before .cost-strip .ensures) ∙ tally-cost (noCost 0) (stripNumbers (a .work .now) (s .result)) ∙ ap (λ (s : Strip). tallyAll noTally (stripNumbers (a .work .now) s)) (s .ensures)
+    let z = c .before .before .before .no-cost in
+    c .tally-of .ensures
+    ∙ ap tallyOf (c .before .cost-strip .ensures ∙ ap (λ (t : Cost). addAll t (stripNumbers (a .work .now) (s .result))) (z .ensures))
+    ∙ tally-cost (noCost 0) (stripNumbers (a .work .now) (s .result)) ∙ ap (λ (s : Strip). tallyAll noTally (stripNumbers (a .work .now) s)) (s .ensures)
 
 pub first-tally-spec : {M : Type 1} → statement M
 first-tally-spec =
-    tie.close (tie.spec strip-at-requires cost-strip-requires tally-of-requires returns)
+    tie.close (tie.spec no-cost-requires strip-at-requires cost-strip-requires tally-of-requires returns)
