@@ -225,10 +225,6 @@ module _ (s : Settings) (m : List ℕ) where
   pub slices-are : slicesIn (pictureOf s m) ≡ count (gridOf s)
   slices-are = ap count grid-is
 
-  pub layout-is : pictureOf s m .layout ≡ layoutOf s m
-  unfolding pictureOf
-  layout-is = refl
-
   -- the matrix's values, of the picture's layout
   pub values-in : Called s m → (n : ℕ) → n < bandCount (pictureOf s m .layout) → getD (pictureOf s m .layout .values) n 0 ≡ getD (matrixValues s m) n 0
   unfolding pictureOf
@@ -260,9 +256,6 @@ module _ (s : Settings) (m : List ℕ) where
   small-by h = h
 
   module _ {p : Three (List ℕ)} {w : List ℤ} (a : Analysed s p w) where
-    pub small-in : Small (pictureOf s m .front) (pictureOf s m .end) w
-    small-in = small-by (a .small)
-
     pub holds-y : Holds w (pictureOf s m .y .coefs) (coefficientsOf s p .y)
     unfolding pictureOf
     holds-y = a .y

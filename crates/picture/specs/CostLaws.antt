@@ -2,14 +2,13 @@
 use mathlib.Core.Path.{_≡_, refl, sym, ap, ap₂, _∙_}
 use mathlib.Core.Bool.{Bool, true, false, cond}
 use mathlib.Core.List.{List, [], _∷_, _++_, append-nil}
-use Prim.Native.Nat.{ℕ, zero, suc, _+_, _*_, _-_, _^_, _≤_, _<_, min}
+use Prim.Native.Nat.{ℕ, zero, suc, _+_, _*_, _-_, _^_, _≤_, _<_}
 use native.Mathlib.Nat.{suc-mul, mul-assoc, mul-le-mul-right}
 use native.Mathlib.Omega.{arith}
-use native.Mathlib.Decide.{decLe}
 use borrow.Author.Tests.{leb-true, leb-false, le-leb, lt-leb, eq-eqb, ne-eqb}
 use lib.Dec.{leb, eqb}
 use lib.IntN.{ℤ, pos, negsuc, natAbs}
-use lib.ListN.{length, take, length-append, length-take}
+use lib.ListN.{length, take, length-append}
 use lib.Seq.{take-take, take-all, append-snoc}
 use Rattle.codewords.specs.Code.{codeS, codes}
 use Rattle.codewords.specs.CodeLaws.{codes-more, length-codeS-zero, length-codeS}
@@ -239,13 +238,6 @@ module _ {room : ℕ} {xs : List ℤ} {r : Cost} (h : CostOf room xs r) where
   pub keep-shorter : r .keep ≤ r .fit → fitPrefix (trimmed xs) room ≡ trimmed xs
   keep-shorter l = both ∙ ap (take (r .keep)) fit-run ∙ take-take (r .keep) (r .fit) xs l ∙ sym kept-run
 
-  pub fit-kept-run : fitPrefix (trimmed xs) room ≡ take (min (r .fit) (r .keep)) xs
-  fit-kept-run = by (decLe (r .fit) (r .keep))
-    where
-      by : Dec (r .fit ≤ r .keep) → fitPrefix (trimmed xs) room ≡ take (min (r .fit) (r .keep)) xs
-      by (yes l) = let e : r .fit ≡ min (r .fit) (r .keep) = omega arith in fit-shorter l ∙ fit-run ∙ ap (λ (k : ℕ). take k xs) e
-      by (no l) = let e : r .keep ≡ min (r .fit) (r .keep) = omega arith in keep-shorter (omega arith) ∙ kept-run ∙ ap (λ (k : ℕ). take k xs) e
-
   -- and the bits it takes
   pub fit-shorter-bits : r .fit ≤ r .keep → bitsOf (fitPrefix (trimmed xs) room) ≡ r .«fit_bits»
   fit-shorter-bits l = ap bitsOf (fit-shorter l) ∙ sym (h .fit-bits)
@@ -253,10 +245,3 @@ module _ {room : ℕ} {xs : List ℤ} {r : Cost} (h : CostOf room xs r) where
   pub keep-shorter-bits : r .keep ≤ r .fit → bitsOf (fitPrefix (trimmed xs) room) ≡ r .«kept_bits»
   unfolding trimmedCost
   keep-shorter-bits l = ap bitsOf (keep-shorter l) ∙ sym (h .kept-bits)
-
-  -- a kept run within the room fits
-  pub kept-fits : r .«kept_bits» ≤ room → r .keep ≤ r .fit
-  unfolding trimmedCost
-  kept-fits l =
-      let e = ap length (sym (fit-all (trimmed xs) room (omega (arith, h .kept-bits))) ∙ both) in
-      omega (arith, e, length-take (r .keep) (fitPrefix xs room), h .keep, h .fit)

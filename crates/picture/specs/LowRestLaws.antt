@@ -30,7 +30,7 @@ use Rattle.picture.specs.RunLaws.{places, rows, row-chunks, rows-chunks,
 use Rattle.picture.specs.Tally.{trimmedOf, trimmedBy}
 use Rattle.picture.specs.TallyLaws.{TallyOf, tally-of, tally-keeps, tally-kept, plain-number}
 use Rattle.picture.specs.Layout.{bandCount, startOf, stripOf, restNumbers}
-use Rattle.picture.specs.LayoutLaws.{no-and, rest-small, firstStrip, bandStrip, bandNumbers, run-small, run-length, run-rest, start-next, band-fits}
+use Rattle.picture.specs.LayoutLaws.{no-and, rest-small, firstStrip, bandStrip, bandNumbers, run-length, run-rest, start-next, band-fits}
 use Rattle.picture.specs.Picture.{Arranged, SliceIn}
 use Rattle.picture.specs.Low.{rebuiltIn, lumaIn, colourIn, lowFitsIn}
 use Rattle.picture.specs.LowRest.{lumaFirst, colourFirst, lumaRest, colourRest, joinedOf, bitsWith, FirstOf, Known, Joins}

@@ -392,13 +392,3 @@ module _ (w : List ℤ) (l : Layout) (c second : Component) (m : List ℕ) (bs :
       band-plain w l c second m bs k q bands has slice values (suc j) (omega arith)
       (ap (λ (t : Bool). t && eqb (suc j) 0) predicted ∙ ne-eqb (suc j) 0 (λ o. omega arith))))
       ∙ sym (low-front g m bs r q k n (bands .many ∙ e))
-
--- the numbers after level 0 is rebuilt from a plane that agrees with r
-pub numbers-rebuilt : (w : List ℤ) (l : Layout) (c second : Component) (m : List ℕ) (bs : List Band) (k q : ℕ) → Bands l c bs → Holds w (c .coefs) bs
-    → k < count (gridIn l) → ((n : ℕ) → n < bandCount l → getD (l .values) n 0 ≡ getD m n 0) → l .predicted ≡ true
-    → (r : Plane) → let s = stripOf l c second false 0 0 k q in let b = bandAt bs 0 in Apart w s → Agree (b .high) (b .wide) (planeFrom w (s .rebuilt) (s .width)) r
-    → runNumbers (rebuiltStrip w s) l c second false k q (bandCount l) ≡ numbersLD (gridIn l) m bs r q k
-numbers-rebuilt w l c second m bs k q bands has slice values predicted r fits old =
-    let s = stripOf l c second false 0 0 k q in
-    numbers-low (rebuiltStrip w s) l c second m bs k q bands (holds-rebuilt w s (c .coefs) bs fits (coefs-ahead l c second k q w fits) has) slice values predicted r
-    (rebuilt-low w l c second m bs k q bands has slice values predicted r fits old)

@@ -23,7 +23,7 @@ use Rattle.unit.specs.TestLaws.{no-truth}
 use Rattle.unit.specs.ScanLaws.{Neighbours, neighbours, predict-same, scan-unique}
 use Rattle.unit.specs.PlaceLaws.{inside→within, within→inside}
 use Rattle.picture.specs.declared.strip.Strip.{Strip}
-use Rattle.picture.specs.Run.{planeFrom, predictionIn, numberIn, placeNumbers, rowNumbers, rowsNumbers, stripNumbers, valueIn, rebuiltRow, rebuiltRows, rebuiltStrip, Small, Within, Inside}
+use Rattle.picture.specs.Run.{planeFrom, predictionIn, numberIn, placeNumbers, rowNumbers, rowsNumbers, stripNumbers, valueIn, rebuiltRow, rebuiltRows, rebuiltStrip, Inside}
 use Rattle.picture.specs.RunLaws.{prediction-yes}
 
 -- ---- regions row by row
@@ -154,16 +154,6 @@ pub record Apart (l : List ℤ) (s : Strip) : Type 0 where
   pub high : s .bottom ≤ s .height
   pub room : s .rebuilt + s .height * s .width ≤ length l
   pub ahead : s .rebuilt + s .height * s .width ≤ s .coefs
-
-pub apart-of : {a n : ℕ} {l : List ℤ} {s : Strip} → Small a n l → Within a n s → Apart l s
-apart-of m w = record {
-  rows = w .rows;
-  columns = w .columns;
-  wide = w .wide;
-  high = w .high;
-  room = omega (arith, w .rebuilt, m .order, m .long);
-  ahead = omega (arith, w .rebuilt, w .behind);
-}
 
 -- a value is made of its coefficient and of the places before it
 value-same : (s : Strip) (l m : List ℤ) (y x : ℕ) → x < s .width → planeFrom l (s .coefs) (s .width) y x ≡ planeFrom m (s .coefs) (s .width) y x

@@ -15,7 +15,6 @@ use Rattle.unit.specs.TrimLaws.{Small, bits-most}
 use Rattle.picture.specs.declared.strip.Strip.{Strip}
 use Rattle.picture.specs.declared.cost.Cost.{Cost}
 use Rattle.picture.specs.declared.tally.Tally.{Tally}
-use Rattle.picture.specs.declared.high_index.Trimmed.{Trimmed}
 use Rattle.picture.specs.Run.{planeFrom, numberIn, secondNumber, placeNumbers}
 use Rattle.picture.specs.RunLaws.{prediction-no, second-one, place-is}
 use Rattle.picture.specs.Cost.{Counted, fitted, kept, add1, added, addAll, noCost}
