@@ -56,6 +56,10 @@ forward-code f c =
     code-sign c m ∙ ap (λ (k : ℕ). codeM k (ltZ c (pos 0))) (sym (abs-signed c m))
 
 -- ---- as the code makes it
+pub forward-sign : (f m : ℕ) (z c : ℤ) → z ≡ c → m ≡ natAbs (forwardBy f z) → signed z m ≡ forwardBy f c
+unfolding forwardBy
+forward-sign f m z c e d = ap (signed z) (d ∙ abs-signed z (cap (4 * natAbs z / f))) ∙ ap (forwardBy f) e
+
 pub signed-minus : (z : ℤ) (m : ℕ) → ltZ z (pos 0) ≡ true → pos 0 -ℤ pos m ≡ signed z m
 signed-minus (pos n) m h = let t = lt-yes (pos n) (pos 0) h in absurd (omega arith)
 signed-minus (negsuc n) m h = +ℤ-idl (negℤ (pos m))

@@ -140,6 +140,14 @@ pub fn forward_size(c: i64, f: u64) -> u64
     if 4 * m < f { 0 } else { 4 * m / f }
 }
 
+// forward_by where nothing is capped; without a division where it is 0. For the layers above.
+pub fn forward_small(c: i64, f: u64) -> i64
+    requires { ⌜ ((4 ≤ f) × (f < 2 ^ 63)) × (natAbs c < 2 ^ 60) ⌝ }
+    ensures { λ r. ⌜ r ≡ forwardBy f c ⌝ }
+{
+    signed(c, forward_size(c, f))
+}
+
 // The place of the leading one of n / f, without the quotient: f, moved up until its leading one is at n's place, is above n or not.
 fn quotient_log2(n: u64, f: u64) -> u32
     requires { ⌜ (0 < f) × (f ≤ n) ⌝ }
