@@ -16,7 +16,7 @@ use Rattle.unit.specs.declared.RateControl.the-variants.{Lossless, FixedQuantIn
 use Rattle.unit.specs.Three.{Three}
 use Rattle.unit.specs.Slices.{partSize}
 use Rattle.unit.specs.SliceLaws.{partSize-most}
-use Rattle.unit.specs.Trim.{trimmed, trimmedCost}
+use Rattle.unit.specs.Trim.{trimmedCost}
 use Rattle.unit.specs.TrimLaws.{cost-most}
 use Rattle.unit.specs.Elect.{elect}
 use Rattle.unit.specs.ElectLaws.{elected}
@@ -28,20 +28,22 @@ use Rattle.picture.specs.declared.layout.Layout.{Layout}
 use Rattle.picture.specs.declared.layout.Picture.{Picture}
 use Rattle.picture.specs.declared.high_index.Needs.{Needs}
 use Rattle.picture.specs.declared.high_index.Trimmed.{Trimmed}
+use Rattle.picture.specs.declared.packed.Packed.{Packed}
 use Rattle.picture.specs.declared.high_index.Choice.{Choice}
 use Rattle.picture.specs.declared.high_index.Terms.{Terms}
-use Rattle.picture.specs.CostLaws.{trimmed-most}
+use Rattle.picture.specs.Packed.{packed}
+use Rattle.picture.specs.UnpackedLaws.{packed-few}
 use Rattle.picture.specs.Layout.{bandCount, gridIn, bandSize, startOf, stripOf, runNumbers}
 use Rattle.picture.specs.LayoutLaws.{start-next, band-fits, bandNumbers, run-none, run-next, run-small}
 use Rattle.picture.specs.StripLaws.{strip-part}
 use Rattle.picture.specs.NumberLaws.{length-region}
 use Rattle.picture.specs.Picture.{slicesIn, runOf, numbersIn, Arranged, SliceIn}
 use Rattle.picture.specs.Tally.{trimmedOf}
-use Rattle.picture.specs.High.{fitsBy, indexBy, indexIn, choiceBy, choiceIn, needsBy, isTarget, FewBits, TermsIn, PlanIn, NeedsOf}
+use Rattle.picture.specs.High.{fitsBy, indexBy, indexIn, packedOf, choiceBy, choiceIn, needsBy, isTarget, FewBits, TermsIn, PlanIn, NeedsOf}
 
 -- ---- what a component needs
 module _ (w : List ℤ) (l : Layout) (c : Component) (k q : ℕ) where
-  band-many : (n : ℕ) → length (bandNumbers w l c c false k q n) ≡ partSize (gridIn l) (bandSize l c n) k
+  pub band-many : (n : ℕ) → length (bandNumbers w l c c false k q n) ≡ partSize (gridIn l) (bandSize l c n) k
   unfolding stripOf
   band-many n = ap length (strip-part w (stripOf l c c false n (startOf l c n) k q) refl) ∙ length-region _ _ _ _ _
 
@@ -59,11 +61,11 @@ module _ (w : List ℤ) (l : Layout) (c : Component) (k q : ℕ) where
 
 -- a component's run is short
 run-few : (w : List ℤ) (p : Picture) (c : Component) (k q : ℕ) → c .width * c .height ≤ 67108864
-    → (length (trimmed (runOf w p c k q)) < 2 ^ 63) × (trimmedCost (runOf w p c k q) ≤ 2 ^ 33)
+    → (length (packed 0 (runOf w p c k q)) ≤ 2 ^ 33) × (trimmedCost (runOf w p c k q) ≤ 2 ^ 33)
 run-few w p c k q few =
     let xs = runOf w p c k q in
     let m = run-most w (p .layout) c k q in
-    (omega (arith, trimmed-most xs, m), omega (arith, cost-most xs (run-small w (p .layout) c c false k q (bandCount (p .layout))), m))
+    (omega (arith, packed-few xs, m), omega (arith, cost-most xs (run-small w (p .layout) c c false k q (bandCount (p .layout))), m))
 
 pub run-bits : (w : List ℤ) (p : Picture) (c : Component) (k q : ℕ) → c .width * c .height ≤ 67108864 → (t : Trimmed) → t ≡ trimmedOf (runOf w p c k q) → t .bits ≤ 2 ^ 33
 run-bits w p c k q few t e = omega (arith, run-few w p c k q few .1, ap (λ (t : Trimmed). t .bits) e)
@@ -75,39 +77,52 @@ choice-few w p k q a h =
     let y = run-few w p (p .y) k q (a .y .area) in
     let c1 = run-few w p (p .c1) k q (a .c1 .area) in
     let c2 = run-few w p (p .c2) k q (a .c2 .area) in
-    record { index = h; counts = (y .0, (c1 .0, c2 .0)); bits = (y .1, (c1 .1, c2 .1)) }
+    record { index = h; words = (y .0, (c1 .0, c2 .0)); bits = (y .1, (c1 .1, c2 .1)) }
 
 -- put together of the three runs
-pub choice-is : (w : List ℤ) (p : Picture) (k q : ℕ) (y c1 c2 : Trimmed) → y ≡ trimmedOf (runOf w p (p .y) k q) → c1 ≡ trimmedOf (runOf w p (p .c1) k q)
-    → c2 ≡ trimmedOf (runOf w p (p .c2) k q) → _≡_ {A = Choice} (record { index = q; y = y; c1 = c1; c2 = c2 }) (choiceBy (numbersIn w p k) q)
+pub choice-is : (w : List ℤ) (p : Picture) (k q : ℕ) (y c1 c2 : Packed) → y ≡ packedOf (runOf w p (p .y) k q) → c1 ≡ packedOf (runOf w p (p .c1) k q)
+    → c2 ≡ packedOf (runOf w p (p .c2) k q) → _≡_ {A = Choice} (record { index = q; y = y; c1 = c1; c2 = c2 }) (choiceBy (numbersIn w p k) q)
 unfolding numbersIn
 choice-is w p k q y c1 c2 a b d =
-    ap (λ (y : Trimmed). record { index = q; y = y; c1 = c1; c2 = c2 }) a
-    ∙ ap₂ (λ (c1 c2 : Trimmed). record { index = q; y = trimmedOf (runOf w p (p .y) k q); c1 = c1; c2 = c2 }) b d
-
-pub runs-few : (w : List ℤ) (p : Picture) (k q : ℕ) (y c1 c2 : Trimmed) → Arranged p → q ≤ 255 → y ≡ trimmedOf (runOf w p (p .y) k q)
-    → c1 ≡ trimmedOf (runOf w p (p .c1) k q) → c2 ≡ trimmedOf (runOf w p (p .c2) k q) → FewBits (record { index = q; y = y; c1 = c1; c2 = c2 })
-runs-few w p k q y c1 c2 a h e d f = subst FewBits (sym (choice-is w p k q y c1 c2 e d f)) (choice-few w p k q a h)
+    ap (λ (y : Packed). record { index = q; y = y; c1 = c1; c2 = c2 }) a
+    ∙ ap₂ (λ (c1 c2 : Packed). record { index = q; y = packedOf (runOf w p (p .y) k q); c1 = c1; c2 = c2 }) b d
 
 -- the choice of a slice has few bits
 pub own-few : (w : List ℤ) (p : Picture) (t : Terms) (k : ℕ) (c : Choice) → Arranged p → indexIn w p t k ≤ 255 → c ≡ choiceIn w p t k → FewBits c
 own-few w p t k c a h e = subst FewBits (sym e) (choice-few w p k (indexIn w p t k) a h)
 
--- where luma stands alone
-pub alone-few : (w : List ℤ) (p : Picture) (k q : ℕ) (y c1 c2 : Trimmed) → Arranged p → q ≤ 255 → y ≡ trimmedOf (runOf w p (p .y) k q)
-    → c1 ≡ record { count = 0; bits = 0 } → c2 ≡ record { count = 0; bits = 0 } → FewBits (record { index = q; y = y; c1 = c1; c2 = c2 })
-alone-few w p k q y c1 c2 a h e d f =
-    let r = run-few w p (p .y) k q (a .y .area) in
-    let g = ap (λ (t : Trimmed). t .count) e in
-    let b = ap (λ (t : Trimmed). t .bits) e in
-    record {
-      index = h;
-      counts = (omega (arith, r .0, g), (omega (arith, ap (λ (t : Trimmed). t .count) d), omega (arith, ap (λ (t : Trimmed). t .count) f)));
-      bits = (omega (arith, r .1, b), (omega (arith, ap (λ (t : Trimmed). t .bits) d), omega (arith, ap (λ (t : Trimmed). t .bits) f)));
-    }
+-- a size by the needs is the size by the numbers
+pub fits-is : (z : Three (List ℤ)) (n : Needs) (p c share size : ℕ) → NeedsOf z n
+    → size ≡ 4 + p + (ceiling (n .y) c * c + ceiling (n .c1) c * c + ceiling (n .c2) c * c) → leb size share ≡ leb (sliceSize p c z) share
+unfolding sliceSize
+fits-is z n p c share size h e =
+    ap (λ (s : ℕ). leb s share)
+    (e ∙ ap (λ (y : ℕ). 4 + p + (ceiling y c * c + ceiling (n .c1) c * c + ceiling (n .c2) c * c)) (h .y)
+    ∙ ap (λ (c1 : ℕ). 4 + p + (ceiling (needOf (z .y)) c * c + ceiling c1 c * c + ceiling (n .c2) c * c)) (h .c1)
+    ∙ ap (λ (c2 : ℕ). 4 + p + (ceiling (needOf (z .y)) c * c + ceiling (needOf (z .c1)) c * c + ceiling c2 c * c)) (h .c2))
+
+-- the bytes that the runs of a slice need, by their bits
+module _ (w : List ℤ) (p : Picture) (k q : ℕ) (a : Arranged p) (y c1 c2 : Trimmed) (ey : y ≡ trimmedOf (runOf w p (p .y) k q))
+    (e1 : c1 ≡ trimmedOf (runOf w p (p .c1) k q)) (e2 : c2 ≡ trimmedOf (runOf w p (p .c2) k q)) where
+  pub bits-few : (y .bits ≤ 2 ^ 33) × ((c1 .bits ≤ 2 ^ 33) × (c2 .bits ≤ 2 ^ 33))
+  bits-few = (run-bits w p (p .y) k q (a .y .area) y ey, (run-bits w p (p .c1) k q (a .c1 .area) c1 e1, run-bits w p (p .c2) k q (a .c2 .area) c2 e2))
+
+  needs-are : NeedsOf (numbersIn w p k q) (needsBy (y .bits) (c1 .bits) (c2 .bits))
+  unfolding numbersIn
+  needs-are = record {
+    y = ap (λ (t : Trimmed). ceiling (t .bits) 8) ey;
+    c1 = ap (λ (t : Trimmed). ceiling (t .bits) 8) e1;
+    c2 = ap (λ (t : Trimmed). ceiling (t .bits) 8) e2;
+    few = (omega (arith, bits-few .0), (omega (arith, bits-few .1 .0), omega (arith, bits-few .1 .1)));
+  }
+
+  -- the slice fits by their size
+  pub fits-by : (n : Needs) (x c share size : ℕ) → n ≡ needsBy (y .bits) (c1 .bits) (c2 .bits)
+      → size ≡ 4 + x + (ceiling (n .y) c * c + ceiling (n .c1) c * c + ceiling (n .c2) c * c) → leb size share ≡ fitsBy x c share (numbersIn w p k) q
+  fits-by n x c share size e d = fits-is (numbersIn w p k q) n x c share size (subst (NeedsOf (numbersIn w p k q)) (sym e) needs-are) d
 
 -- the bytes that a choice needs are those that its numbers need
-pub needs-chosen : (z : ℕ → Three (List ℤ)) (q : ℕ) → FewBits (choiceBy z q) → NeedsOf (z q) (needsBy (choiceBy z q))
+pub needs-chosen : (z : ℕ → Three (List ℤ)) (q : ℕ) → let c = choiceBy z q in FewBits c → NeedsOf (z q) (needsBy (c .y .bits) (c .c1 .bits) (c .c2 .bits))
 needs-chosen z q h = record {
   y = refl;
   c1 = refl;
@@ -115,12 +130,11 @@ needs-chosen z q h = record {
   few = (omega (arith, h .bits .0), (omega (arith, h .bits .1 .0), omega (arith, h .bits .1 .1)));
 }
 
-pub needs-by : (c : Choice) (y c1 c2 : ℕ) → (y ≡ ceiling (c .y .bits) 8) × (y ≤ 2 ^ 30) → (c1 ≡ ceiling (c .c1 .bits) 8) × (c1 ≤ 2 ^ 30)
-    → (c2 ≡ ceiling (c .c2 .bits) 8) × (c2 ≤ 2 ^ 30)
-    → (_≡_ {A = Needs} (record { y = y; c1 = c1; c2 = c2 }) (needsBy c)) × ((y ≤ 2 ^ 30) × ((c1 ≤ 2 ^ 30) × (c2 ≤ 2 ^ 30)))
-needs-by c y c1 c2 a b d = (
-  ap (λ (y : ℕ). record { y = y; c1 = c1; c2 = c2 }) (a .0) ∙ ap₂ (λ (c1 c2 : ℕ). record { y = ceiling (c .y .bits) 8; c1 = c1; c2 = c2 }) (b .0) (d .0),
-  (a .1, (b .1, d .1)),
+pub needs-by : (a b d y c1 c2 : ℕ) → (y ≡ ceiling a 8) × (y ≤ 2 ^ 30) → (c1 ≡ ceiling b 8) × (c1 ≤ 2 ^ 30) → (c2 ≡ ceiling d 8) × (c2 ≤ 2 ^ 30)
+    → (_≡_ {A = Needs} (record { y = y; c1 = c1; c2 = c2 }) (needsBy a b d)) × ((y ≤ 2 ^ 30) × ((c1 ≤ 2 ^ 30) × (c2 ≤ 2 ^ 30)))
+needs-by a b d y c1 c2 hy h1 h2 = (
+  ap (λ (y : ℕ). record { y = y; c1 = c1; c2 = c2 }) (hy .0) ∙ ap₂ (λ (c1 c2 : ℕ). record { y = ceiling a 8; c1 = c1; c2 = c2 }) (h1 .0) (h2 .0),
+  (hy .1, (h1 .1, h2 .1)),
 )
 
 -- ---- sizes
@@ -137,22 +151,6 @@ size-is z p c y c1 c2 h a b d = (
   omega (arith, a .1, b .1, d .1),
 )
 
--- a size by the needs is the size by the numbers
-pub fits-is : (z : Three (List ℤ)) (n : Needs) (p c share size : ℕ) → NeedsOf z n
-    → size ≡ 4 + p + (ceiling (n .y) c * c + ceiling (n .c1) c * c + ceiling (n .c2) c * c) → leb size share ≡ leb (sliceSize p c z) share
-unfolding sliceSize
-fits-is z n p c share size h e =
-    ap (λ (s : ℕ). leb s share)
-    (e ∙ ap (λ (y : ℕ). 4 + p + (ceiling y c * c + ceiling (n .c1) c * c + ceiling (n .c2) c * c)) (h .y)
-    ∙ ap (λ (c1 : ℕ). 4 + p + (ceiling (needOf (z .y)) c * c + ceiling c1 c * c + ceiling (n .c2) c * c)) (h .c1)
-    ∙ ap (λ (c2 : ℕ). 4 + p + (ceiling (needOf (z .y)) c * c + ceiling (needOf (z .c1)) c * c + ceiling c2 c * c)) (h .c2))
-
-pub fits-chosen : (z : ℕ → Three (List ℤ)) (q : ℕ) (c : Choice) (n : Needs) (p s share size : ℕ) → FewBits c → c ≡ choiceBy z q → n ≡ needsBy c
-    → size ≡ 4 + p + (ceiling (n .y) s * s + ceiling (n .c1) s * s + ceiling (n .c2) s * s) → leb size share ≡ fitsBy p s share z q
-fits-chosen z q c n p s share size few e d h =
-    fits-is (z q) (needsBy (choiceBy z q)) p s share size (needs-chosen z q (subst FewBits e few))
-    (h ∙ ap (λ (n : Needs). 4 + p + (ceiling (n .y) s * s + ceiling (n .c1) s * s + ceiling (n .c2) s * s)) (d ∙ ap needsBy e))
-
 -- no bytes take no scalers
 ceiling-none : (c : ℕ) → 1 ≤ c → ceiling 0 c * c ≡ 0
 ceiling-none c h = let e : 0 + (c - 1) < c = omega arith in rw (div-eq-of-lt e, zero-mul)
@@ -167,8 +165,8 @@ fits-not w p k q y x c share size h e f l =
     sym (lt-leb (sliceSize x c z) share (omega (arith, f, l, n, ceiling-none c h)))
 
 pub alone-not : (w : List ℤ) (p : Picture) (k q : ℕ) (y : Trimmed) (n : Needs) (x c share size : ℕ) → 1 ≤ c → y ≡ trimmedOf (runOf w p (p .y) k q)
-    → n ≡ needsBy (record { index = q; y = y; c1 = record { count = 0; bits = 0 }; c2 = record { count = 0; bits = 0 } })
-    → size ≡ 4 + x + (ceiling (n .y) c * c + ceiling (n .c1) c * c + ceiling (n .c2) c * c) → share < size → false ≡ fitsBy x c share (numbersIn w p k) q
+    → n ≡ needsBy (y .bits) 0 0 → size ≡ 4 + x + (ceiling (n .y) c * c + ceiling (n .c1) c * c + ceiling (n .c2) c * c) → share < size
+    → false ≡ fitsBy x c share (numbersIn w p k) q
 alone-not w p k q y n x c share size h e d f l =
     fits-not w p k q (ceiling (y .bits) 8) x c share size h (ap (λ (t : Trimmed). ceiling (t .bits) 8) e)
     (f ∙ ap (λ (n : Needs). 4 + x + (ceiling (n .y) c * c + ceiling (n .c1) c * c + ceiling (n .c2) c * c)) d) l
@@ -207,10 +205,6 @@ module _ (w : List ℤ) (p : Picture) (t : Terms) (k : ℕ) where
   index-elected b d share q e f g h =
       h ∙ ap (λ (s : ℕ). elect 0 255 (fitsBy (t .prefix) (t .scaler) s (numbersIn w p k))) (g ∙ ap (λ (d : ℕ). shareOf (t .bytes) d k) f)
       ∙ sym (index-by (PictureBytes b) e)
-
-  -- the choice by its index
-  pub choice-by : (q : ℕ) (c : Choice) → c ≡ choiceBy (numbersIn w p k) q → q ≡ indexIn w p t k → c ≡ choiceIn w p t k
-  choice-by q c e d = e ∙ ap (choiceBy (numbersIn w p k)) d
 
   pub index-most : TermsIn t → indexIn w p t k ≤ 255
   index-most h = by (t .rate) refl

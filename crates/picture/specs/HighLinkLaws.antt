@@ -40,7 +40,7 @@ use Rattle.picture.specs.declared.high_plan.Settled.{Settled}
 use Rattle.picture.specs.NumberLaws.{Bands, Holds, numbers-high}
 use Rattle.picture.specs.Picture.{slicesIn, runOf, numbersIn}
 use Rattle.picture.specs.High.{indexBy, planBy, indexIn, planIn, plansIn, highRuns, termsOf, slicesBy, PlanIn, HighIn, Settles, Notes}
-use Rattle.picture.specs.NotedLaws.{notes-plan, notes-own, runs-alike}
+use Rattle.picture.specs.NotedLaws.{high-work, notes-plan, notes-own, runs-alike}
 use Rattle.picture.specs.Analysed.{isLow, layoutOf, pictureOf, Called, Analysed}
 use Rattle.picture.specs.Encoded.{tooLong, Codes, Coding, CodesAny}
 use Rattle.picture.specs.AnalysedLaws.{called-arranged, grid-is, slices-are, values-in, bands-y, bands-c1, bands-c2, small-by, holds-y, holds-c1, holds-c2, joined-span, length-parts, not-long, slices-room, codes-refused, codes-written}
@@ -179,6 +179,10 @@ module _ {w : List ℤ} {p : Picture} {s : Settings} {m : List ℕ} (k : Coding 
       (subst (λ (b : List ℕ). Lays o at b o′ end) (ap (λ (t : Terms). highRuns w p t (slicesIn p)) et ∙ runs-are w p s m c) l) (coded-is w p s m c n cut (k .same) f ec))
 
 -- ---- what the calls ask
+plain-by : (s : Settings) (m : List ℕ) → s .kind ≡ HighQuality → pictureOf s m .layout .predicted ≡ false
+unfolding pictureOf layoutOf
+plain-by s m e = ap isLow e
+
 rate-few : (r : RateControl) → RateFits HighQuality r → targetOf r ≤ 2 ^ 30
 rate-few Lossless h = omega arith
 rate-few (FixedQuantIndex q) h = omega arith
@@ -191,6 +195,7 @@ module _ {w : List ℤ} {p : Picture} {s : Settings} {m : List ℕ} (k : Coding 
   pub high-in : HighIn s p w
   high-in = subst (λ (p : Picture). HighIn s p w) (sym (k .picture)) (record {
     arranged = called-arranged (k .called);
+    plain = plain-by s m (k .same);
     small = small-by s m (k .small);
     rate = rate-in;
     prefix = k .called .prefix;
@@ -201,6 +206,7 @@ module _ {w : List ℤ} {p : Picture} {s : Settings} {m : List ℕ} (k : Coding 
     plan-in : PlanIn p (termsOf s m (r .scaler)) w
     plan-in = record {
       arranged = high-in .arranged;
+      plain = high-in .plain;
       small = high-in .small;
       terms = record {
         rate = rate-in;
@@ -243,11 +249,10 @@ module _ {w : List ℤ} {p : Picture} {s : Settings} {m : List ℕ} (k : Coding 
       slices-noted {v} h t n at o et en ea eo =
           let g = slices-ready t n at o et en ea eo in
           let i = subst (λ (t : Terms). Notes w p t (slicesIn p) v) (sym et) h in
-          let a = high-in .arranged in
-          let b = high-in .small in
-          (notes-plan i (g .0), (notes-own a b i, rw (runs-alike p w v a b (h .same) t) (g .1)))
+          let a = high-work high-in in
+          (notes-plan i (g .0), (notes-own a i, rw (runs-alike p w v a (h .same) t) (g .1)))
 
   -- the slices' bytes are the same
   pub noted-laid : {v : List ℤ} {u : Terms} (t : Terms) {o o′ : List ℕ} {at end : ℕ} → Notes w p u (slicesIn p) v
       → Lays o at (highRuns v p t (slicesIn p)) o′ end → Lays o at (highRuns w p t (slicesIn p)) o′ end
-  noted-laid {v} t {o} {o′} {at} {end} h l = subst (λ (b : List ℕ). Lays o at b o′ end) (runs-alike p w v (high-in .arranged) (high-in .small) (h .same) t) l
+  noted-laid {v} t {o} {o′} {at} {end} h l = subst (λ (b : List ℕ). Lays o at b o′ end) (runs-alike p w v (high-work high-in) (h .same) t) l

@@ -30,8 +30,9 @@ use Rattle.picture.specs.declared.high_index.Needs.{Needs}
 use Rattle.picture.specs.declared.high_index.Choice.{Choice}
 use Rattle.picture.specs.declared.high_index.Terms.{Terms}
 use Rattle.picture.specs.declared.slice_coder.SliceCoder.{SliceCoder}
+use Rattle.picture.specs.Packed.{packed}
 use Rattle.picture.specs.Picture.{slicesIn, numbersIn}
-use Rattle.picture.specs.High.{indexIn, planIn, plansIn, choiceBy, choiceIn, needsBy, plannedBy, isTarget, termsOf, slicesBy, FewBits, PlanIn, NeedsOf, PlansOn, PlansTo, HighIn, Settles}
+use Rattle.picture.specs.High.{indexIn, planIn, plansIn, choiceBy, choiceIn, sliceWords, wordsIn, wordsTo, wordsOf, needsBy, plannedBy, isTarget, termsOf, slicesBy, FewBits, PlanIn, NeedsOf, PlansOn, PlansTo, HighIn, Settles}
 use Rattle.picture.specs.HighIndexLaws.{needs-chosen}
 
 -- ---- a slice
@@ -46,27 +47,34 @@ unfolding sliceSize
 size-needs p c z n h = rw (h .y, h .c1, h .c2)
 
 -- planned behind others, by its numbers z, which need n, and its index q
-plans-on : (p c q : ℕ) (z : Three (List ℤ)) (n : Needs) (b : SliceCoder) (size most : ℕ) → 1 ≤ c → NeedsOf z n
+plans-on : (p c q : ℕ) (z : Three (List ℤ)) (n : Needs) (b : SliceCoder) (size most words : ℕ) → 1 ≤ c → NeedsOf z n
     → size ≡ 4 + p + (ceiling (n .y) c * c + ceiling (n .c1) c * c + ceiling (n .c2) c * c) → size ≤ 2 ^ 34
-    → most ≡ max (max (n .y) (max (n .c1) (n .c2))) (b .largest)
+    → most ≡ max (max (n .y) (max (n .c1) (n .c2))) (b .largest) → words ≡ length (sliceWords z)
     → PlansOn (record { index = q; numbers = z; kept = z; bits = highBits p c q z }) b
-    (record { at = b .at + size; «cut_slices» = b .«cut_slices»; largest = most; index = q })
-plans-on p c q z n b size most some h e few m = record {
+    (record { at = b .at + size; «cut_slices» = b .«cut_slices»; largest = most; index = q; words = b .words + words })
+plans-on p c q z n b size most words some h e few m l = record {
   at = ap (λ (k : ℕ). b .at + k) (e ∙ sym (size-needs p c z n h) ∙ sym (bytes-high p c q z some));
   near = omega arith;
   cut = refl;
   largest = rw (← h .y, ← h .c1, ← h .c2) m;
   few = λ l. omega (arith, m, h .few);
+  words = ap (λ (k : ℕ). b .words + k) l;
 }
 
+-- the words of a slice are those of its runs
+pub words-are : (z : ℕ → Three (List ℤ)) (q : ℕ) → wordsOf (choiceBy z q) ≡ length (sliceWords (z q))
+words-are z q =
+    sym (length-append (packed 0 (z q .y)) (packed 0 (z q .c1) ++ packed 0 (z q .c2))
+    ∙ ap (λ (k : ℕ). length (packed 0 (z q .y)) + k) (length-append (packed 0 (z q .c1)) (packed 0 (z q .c2))))
+
 -- as the code puts it together, by the needs n of choice c
-pub planned-is : (t : Terms) (c : Choice) (b : SliceCoder) (n : Needs) (size most : ℕ) → n ≡ needsBy c
+pub planned-is : (t : Terms) (c : Choice) (b : SliceCoder) (n : Needs) (size most : ℕ) → n ≡ needsBy (c .y .bits) (c .c1 .bits) (c .c2 .bits)
     → size ≡ 4 + t .prefix + (ceiling (n .y) (t .scaler) * t .scaler + ceiling (n .c1) (t .scaler) * t .scaler + ceiling (n .c2) (t .scaler) * t .scaler)
     → size ≤ 2 ^ 34 → most ≡ max (max (n .y) (max (n .c1) (n .c2))) (b .largest)
-    → (_≡_ {A = SliceCoder} (record { at = b .at + size; «cut_slices» = b .«cut_slices»; largest = most; index = c .index }) (plannedBy t c b))
+    → (_≡_ {A = SliceCoder} (record { at = b .at + size; «cut_slices» = b .«cut_slices»; largest = most; index = c .index; words = b .words + wordsOf c }) (plannedBy t c b))
     × (b .at + size ≤ b .at + 2 ^ 34)
 planned-is t c b n size most e d l m = (
-  ap₂ (λ (s m : ℕ). record { at = b .at + s; «cut_slices» = b .«cut_slices»; largest = m; index = c .index })
+  ap₂ (λ (s m : ℕ). record { at = b .at + s; «cut_slices» = b .«cut_slices»; largest = m; index = c .index; words = b .words + wordsOf c })
       (d ∙ ap (λ (n : Needs). 4 + t .prefix + (ceiling (n .y) (t .scaler) * t .scaler + ceiling (n .c1) (t .scaler) * t .scaler + ceiling (n .c2) (t .scaler) * t .scaler)) e)
       (m ∙ ap (λ (n : Needs). max (max (n .y) (max (n .c1) (n .c2))) (b .largest)) e),
   omega (arith, l),
@@ -79,13 +87,14 @@ unfolding planIn
 slice-planned w p t k c b r some few e d near =
     let i : ℕ = indexIn w p t k in
     let z : ℕ → Three (List ℤ) = numbersIn w p k in
-    let n : Needs = needsBy (choiceBy z i) in
+    let c = choiceBy z i in
+    let n : Needs = needsBy (c .y .bits) (c .c1 .bits) (c .c2 .bits) in
     let s : ℕ = t .scaler in
     let size : ℕ = 4 + t .prefix + (ceiling (n .y) s * s + ceiling (n .c1) s * s + ceiling (n .c2) s * s) in
     let f : r ≡ plannedBy t (choiceIn w p t k) b = d ∙ ap (λ (c : Choice). plannedBy t c b) e in
     let l : b .at + size ≤ b .at + 2 ^ 34 = subst (λ (r : SliceCoder). r .at ≤ b .at + 2 ^ 34) f near in
     subst (PlansOn (planIn w p t k) b) (sym f)
-    (plans-on (t .prefix) s i (z i) n b size (max (max (n .y) (max (n .c1) (n .c2))) (b .largest)) some (needs-chosen z i (subst FewBits e few)) refl (omega (arith, l)) refl)
+    (plans-on (t .prefix) s i (z i) n b size (max (max (n .y) (max (n .c1) (n .c2))) (b .largest)) (wordsOf c) some (needs-chosen z i (subst FewBits e few)) refl (omega (arith, l)) refl (words-are z i))
 
 -- ---- slices one behind the other
 -- the largest need of a slice
@@ -104,18 +113,20 @@ largest-more (t ∷ ss) s = ap (max (mostOf t)) (largest-more ss s) ∙ max-swap
 
 module _ (w : List ℤ) (p : Picture) (t : Terms) (from : ℕ) where
   -- no slice yet
-  pub plans-none : (r : SliceCoder) → r .at ≡ from → r .«cut_slices» ≡ 0 → r .largest ≡ 0 → PlansTo w p t from 0 r
+  pub plans-none : (r : SliceCoder) → r .at ≡ from → r .«cut_slices» ≡ 0 → r .largest ≡ 0 → r .words ≡ 0 → PlansTo w p t from 0 r
   unfolding largestNeed
-  plans-none r a u l = record {
+  plans-none r a u l v = record {
     at = rw (chunks-none (λ k. toBytes (planIn w p t k .bits))) (omega arith);
     near = omega arith;
     cut = u;
     largest = l;
     few = omega arith;
+    words = rw (chunks-none (wordsIn w p t)) v;
   }
 
   -- slice k behind the first k
   pub plans-more : (k : ℕ) (b r : SliceCoder) → PlansTo w p t from k b → PlansOn (planIn w p t k) b r → PlansTo w p t from (k + 1) r
+  unfolding planIn
   plans-more k b r h o =
       let F : ℕ → List ℕ = λ k. toBytes (planIn w p t k .bits) in
       let e : plansIn w p t (k + 1) ≡ plansIn w p t k ++ (planIn w p t k ∷ []) =
@@ -126,6 +137,7 @@ module _ (w : List ℤ) (p : Picture) (t : Terms) (from : ℕ) where
         cut = o .cut ∙ h .cut;
         largest = o .largest ∙ ap (max (mostOf (planIn w p t k))) (h .largest) ∙ sym (ap largestNeed e ∙ largest-more (plansIn w p t k) (planIn w p t k));
         few = o .few (h .few);
+        words = omega (arith, h .words, o .words, ap length (chunks-more (wordsIn w p t) k), length-append (wordsTo w p t k) (wordsIn w p t k));
       }
 
 -- the same terms and place
@@ -153,6 +165,7 @@ target-few (PictureBytes n) h = omega arith
 pub plan-in : {s : Settings} {p : Picture} {w : List ℤ} (m : List ℕ) (c : ℕ) → HighIn s p w → 1 ≤ c → c ≤ 2 ^ 24 → (t : Terms) → t ≡ termsOf s m c → PlanIn p t w
 plan-in {s} {p} {w} m c h some few t e = subst (λ (u : Terms). PlanIn p u w) (sym e) (record {
   arranged = h .arranged;
+  plain = h .plain;
   small = h .small;
   terms = record {
     rate = h .rate;

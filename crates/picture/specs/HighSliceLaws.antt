@@ -1,12 +1,13 @@
 -- Laws of a written high-quality slice: a component, the prefix, the slice's bytes, and slice after slice. Assumes nothing.
-use mathlib.Core.Path.{_≡_, refl, sym, ap, ap₂, _∙_}
+use mathlib.Core.Path.{_≡_, refl, sym, ap, ap₂, _∙_, subst}
 use mathlib.Core.Bool.{true, false}
 use mathlib.Core.List.{List, _++_}
-use Prim.Native.Nat.{ℕ, zero, suc, _+_, _*_, _-_, _≤_, _<_}
+use Prim.Native.Nat.{ℕ, zero, suc, _+_, _*_, _-_, _^_, _≤_, _<_}
 use native.Mathlib.Decide.{ℕ-discrete}
 use native.Mathlib.Omega.{arith}
 use lib.IntN.{ℤ}
-use lib.ListN.{length, take, length-append, length-replicate, replicate-append-replicate}
+use lib.ListN.{length, take, drop, length-append, length-replicate, replicate-append-replicate}
+use lib.Seq.{drop-drop}
 use Rattle.laws.specs.Chunks.{chunks, chunks-none, chunks-more}
 use Rattle.laws.specs.Laid.{Lays, lays-start, lays-on}
 use Rattle.codewords.specs.Bit.{Bits, lit, ones, zeros}
@@ -18,57 +19,55 @@ use Rattle.codewords.specs.Writer.{Sound, Room, Wrote, Flushes}
 use Rattle.codewords.specs.WriterLaws.{wrote-then, room-after, flush-lays}
 use Rattle.codewords.specs.declared.writer.BitWriter.{BitWriter}
 use Rattle.unit.specs.Three.{Three}
-use Rattle.unit.specs.Trim.{trimmed, trimmedCost}
+use Rattle.unit.specs.Trim.{trimmed, bitsOf, trimmedCost}
 use Rattle.unit.specs.HighQuality.{ceiling, scalersOf, componentBits, highBits}
 use Rattle.unit.specs.HighQualityLaws.{cost-held, length-component, length-high}
-use Rattle.picture.specs.declared.layout.Component.{Component}
 use Rattle.picture.specs.declared.layout.Picture.{Picture}
-use Rattle.picture.specs.declared.high_index.Trimmed.{Trimmed}
 use Rattle.picture.specs.declared.high_index.Choice.{Choice}
 use Rattle.picture.specs.declared.high_index.Terms.{Terms}
-use Rattle.picture.specs.CostLaws.{trimmed-prefix}
 use Rattle.picture.specs.HeadLaws.{room-less, room-first, room-rest}
-use Rattle.picture.specs.Picture.{slicesIn, runOf, numbersIn, SliceIn}
-use Rattle.picture.specs.Tally.{trimmedOf}
-use Rattle.picture.specs.High.{indexIn, planIn, highRuns, threeBits, choiceBy, choiceIn, PlanIn}
+use Rattle.picture.specs.Packed.{packed, unpacked, wordsAt, Below}
+use Rattle.picture.specs.UnpackedLaws.{unpacked-run, trimmed-again, component-trimmed, run-below}
+use Rattle.picture.specs.Picture.{slicesIn, numbersIn, SliceIn}
+use Rattle.picture.specs.PictureLaws.{run-y, run-c1, run-c2}
+use Rattle.picture.specs.High.{indexIn, planIn, highRuns, threeBits, packedOf, choiceIn, sliceWords, wordsIn, wordsTo, wordsOf, runAt, numbersAt, FewBits, PlanIn, Notes, Held, HeldSlice}
+use Rattle.picture.specs.HighIndexLaws.{choice-few, index-most}
+use Rattle.picture.specs.HighPlanLaws.{words-are}
+use Rattle.picture.specs.NotedLaws.{stand-parts, words-stand, words-end}
 
 -- ---- a component
--- its kept numbers, and the ones that fill n scalers of c bytes
-abbrev pub keptOf : List ℤ → Trimmed → Bits
-keptOf xs r = codes (take (r .count) xs)
+-- the ones that fill n scalers of c bytes behind b bits
+abbrev pub fillOf : ℕ → ℕ → ℕ → ℕ
+fillOf c n b = 8 * (n * c) - b
 
-abbrev pub fillOf : ℕ → ℕ → Trimmed → ℕ
-fillOf c n r = 8 * (n * c) - r .bits
-
--- numbers xs are r without trailing zeros, and take n scalers of c bytes
-pub record Counted (c : ℕ) (xs : List ℤ) (r : Trimmed) (n : ℕ) : Type 0 where
+-- numbers xs have no zeros at their end and b bits, and take n scalers of c bytes
+pub record Counted (c : ℕ) (xs : List ℤ) (b n : ℕ) : Type 0 where
   pub some : 1 ≤ c
-  pub run : r ≡ trimmedOf xs
-  pub scalers : n ≡ ceiling (ceiling (r .bits) 8) c
+  pub trim : trimmed xs ≡ xs
+  pub bits : b ≡ bitsOf xs
+  pub scalers : n ≡ ceiling (ceiling b 8) c
 
-module _ {c : ℕ} {xs : List ℤ} {r : Trimmed} {n : ℕ} (h : Counted c xs r n) where
-  count-is : r .count ≡ length (trimmed xs)
-  count-is = ap (λ (r : Trimmed). r .count) (h .run)
-
-  bits-are : r .bits ≡ trimmedCost xs
-  bits-are = ap (λ (r : Trimmed). r .bits) (h .run)
+module _ {c : ℕ} {xs : List ℤ} {b n : ℕ} (h : Counted c xs b n) where
+  bits-are : b ≡ trimmedCost xs
+  unfolding trimmedCost
+  bits-are = h .bits ∙ ap bitsOf (sym (h .trim))
 
   scalers-are : n ≡ scalersOf c xs
   scalers-are = h .scalers ∙ ap (λ (b : ℕ). ceiling (ceiling b 8) c) bits-are
 
   -- the scalers hold the numbers
-  pub kept-held : r .bits ≤ 8 * (n * c)
+  pub kept-held : b ≤ 8 * (n * c)
   kept-held = rw (bits-are, scalers-are) (cost-held c xs (h .some))
 
   -- as the code puts it together
-  component-parts : componentBits c xs ≡ lit 8 n ++ (keptOf xs r ++ ones (fillOf c n r))
+  component-parts : componentBits c xs ≡ lit 8 n ++ (codes xs ++ ones (fillOf c n b))
   unfolding componentBits
   component-parts =
-      sym (ap₂ (λ (n b : ℕ). lit 8 n ++ (keptOf xs r ++ ones (8 * (n * c) - b))) scalers-are bits-are
-      ∙ ap (λ (ys : List ℤ). lit 8 (scalersOf c xs) ++ (codes ys ++ ones (8 * (scalersOf c xs * c) - trimmedCost xs))) (sym (trimmed-prefix xs ∙ ap (λ (k : ℕ). take k xs) (sym count-is))))
+      sym (ap₂ (λ (n b : ℕ). lit 8 n ++ (codes xs ++ ones (8 * (n * c) - b))) scalers-are bits-are
+      ∙ ap (λ (ys : List ℤ). lit 8 (scalersOf c xs) ++ (codes ys ++ ones (8 * (scalersOf c xs * c) - trimmedCost xs))) (sym (h .trim)))
 
   module _ {o : List ℕ} {w : BitWriter} (room : Room o w (length (componentBits c xs))) where
-    parts-room : Room o w (length (lit 8 n ++ (keptOf xs r ++ ones (fillOf c n r))))
+    parts-room : Room o w (length (lit 8 n ++ (codes xs ++ ones (fillOf c n b))))
     parts-room = rw component-parts at room
 
     -- room for the byte, the numbers and the ones
@@ -76,20 +75,20 @@ module _ {c : ℕ} {xs : List ℤ} {r : Trimmed} {n : ℕ} (h : Counted c xs r n
     byte-room = room-less 8 room (omega (arith, length-component c xs (h .some)))
 
     module _ {o₁ : List ℕ} {w₁ : BitWriter} (a : Wrote o w (lit 8 n) o₁ w₁) where
-      behind-room : Room o₁ w₁ (length (keptOf xs r ++ ones (fillOf c n r)))
-      behind-room = room-rest (lit 8 n) (keptOf xs r ++ ones (fillOf c n r)) parts-room a
+      behind-room : Room o₁ w₁ (length (codes xs ++ ones (fillOf c n b)))
+      behind-room = room-rest (lit 8 n) (codes xs ++ ones (fillOf c n b)) parts-room a
 
-      pub kept-room : Room o₁ w₁ (length (keptOf xs r))
-      kept-room = room-first (keptOf xs r) (ones (fillOf c n r)) behind-room
+      pub kept-room : Room o₁ w₁ (bitsOf xs)
+      kept-room = room-first (codes xs) (ones (fillOf c n b)) behind-room
 
-      module _ {o₂ : List ℕ} {w₂ : BitWriter} (b : Wrote o₁ w₁ (keptOf xs r) o₂ w₂) where
-        pub ones-room : Room o₂ w₂ (fillOf c n r)
+      module _ {o₂ : List ℕ} {w₂ : BitWriter} (d : Wrote o₁ w₁ (codes xs) o₂ w₂) where
+        pub ones-room : Room o₂ w₂ (fillOf c n b)
         ones-room =
-            let m : ℕ = fillOf c n r in
-            rw (length-replicate m true) at (room-rest (keptOf xs r) (ones m) behind-room b)
+            let m : ℕ = fillOf c n b in
+            rw (length-replicate m true) at (room-rest (codes xs) (ones m) behind-room d)
 
-        pub component-wrote : {o₃ : List ℕ} {w₃ : BitWriter} → Wrote o₂ w₂ (ones (fillOf c n r)) o₃ w₃ → Wrote o w (componentBits c xs) o₃ w₃
-        component-wrote f = rw component-parts (wrote-then (room .sound) a (wrote-then (a .sound) b f))
+        pub component-wrote : {o₃ : List ℕ} {w₃ : BitWriter} → Wrote o₂ w₂ (ones (fillOf c n b)) o₃ w₃ → Wrote o w (componentBits c xs) o₃ w₃
+        component-wrote f = rw component-parts (wrote-then (room .sound) a (wrote-then (a .sound) d f))
 
 -- ---- the prefix
 -- one byte more
@@ -111,35 +110,23 @@ pub prefix-all : {o o′ : List ℕ} {w w′ : BitWriter} (i n : ℕ) → i ≡ 
 prefix-all i n e a = rw e at a
 
 -- ---- the three components
-three-parts : (w : List ℤ) (p : Picture) (c k q : ℕ)
-    → threeBits c (numbersIn w p k q) ≡ componentBits c (runOf w p (p .y) k q) ++ (componentBits c (runOf w p (p .c1) k q) ++ componentBits c (runOf w p (p .c2) k q))
-unfolding numbersIn
-three-parts w p c k q = refl
+module _ (c : ℕ) (z : Three (List ℤ)) {o : List ℕ} {s : BitWriter} (room : Room o s (length (threeBits c z))) where
+  pub y-room : Room o s (length (componentBits c (z .y)))
+  y-room = room-first (componentBits c (z .y)) (componentBits c (z .c1) ++ componentBits c (z .c2)) room
 
-module _ (w : List ℤ) (p : Picture) (c k q : ℕ) {o : List ℕ} {s : BitWriter} (room : Room o s (length (threeBits c (numbersIn w p k q)))) where
-  abbrev part : Component → Bits
-  part x = componentBits c (runOf w p x k q)
+  module _ {o₁ : List ℕ} {s₁ : BitWriter} (a : Wrote o s (componentBits c (z .y)) o₁ s₁) where
+    colour-room : Room o₁ s₁ (length (componentBits c (z .c1) ++ componentBits c (z .c2)))
+    colour-room = room-rest (componentBits c (z .y)) (componentBits c (z .c1) ++ componentBits c (z .c2)) room a
 
-  three-room : Room o s (length (part (p .y) ++ (part (p .c1) ++ part (p .c2))))
-  three-room = rw (three-parts w p c k q) at room
+    pub c1-room : Room o₁ s₁ (length (componentBits c (z .c1)))
+    c1-room = room-first (componentBits c (z .c1)) (componentBits c (z .c2)) colour-room
 
-  pub y-room : Room o s (length (componentBits c (runOf w p (p .y) k q)))
-  y-room = room-first (part (p .y)) (part (p .c1) ++ part (p .c2)) three-room
+    module _ {o₂ : List ℕ} {s₂ : BitWriter} (b : Wrote o₁ s₁ (componentBits c (z .c1)) o₂ s₂) where
+      pub c2-room : Room o₂ s₂ (length (componentBits c (z .c2)))
+      c2-room = room-rest (componentBits c (z .c1)) (componentBits c (z .c2)) colour-room b
 
-  module _ {o₁ : List ℕ} {s₁ : BitWriter} (a : Wrote o s (componentBits c (runOf w p (p .y) k q)) o₁ s₁) where
-    colour-room : Room o₁ s₁ (length (part (p .c1) ++ part (p .c2)))
-    colour-room = room-rest (part (p .y)) (part (p .c1) ++ part (p .c2)) three-room a
-
-    pub c1-room : Room o₁ s₁ (length (componentBits c (runOf w p (p .c1) k q)))
-    c1-room = room-first (part (p .c1)) (part (p .c2)) colour-room
-
-    module _ {o₂ : List ℕ} {s₂ : BitWriter} (b : Wrote o₁ s₁ (componentBits c (runOf w p (p .c1) k q)) o₂ s₂) where
-      pub c2-room : Room o₂ s₂ (length (componentBits c (runOf w p (p .c2) k q)))
-      c2-room = room-rest (part (p .c1)) (part (p .c2)) colour-room b
-
-      pub three-wrote : {o₃ : List ℕ} {s₃ : BitWriter} → Wrote o₂ s₂ (componentBits c (runOf w p (p .c2) k q)) o₃ s₃
-          → Wrote o s (threeBits c (numbersIn w p k q)) o₃ s₃
-      three-wrote d = rw (three-parts w p c k q) (wrote-then (room .sound) a (wrote-then (a .sound) b d))
+      pub three-wrote : {o₃ : List ℕ} {s₃ : BitWriter} → Wrote o₂ s₂ (componentBits c (z .c2)) o₃ s₃ → Wrote o s (threeBits c z) o₃ s₃
+      three-wrote d = wrote-then (room .sound) a (wrote-then (a .sound) b d)
 
 -- ---- a slice
 -- a writer at the start of a byte
@@ -188,37 +175,111 @@ module _ (p c q : ℕ) (z : Three (List ℤ)) {o : List ℕ} (at : ℕ) (some : 
 pub slice-in : {p : Picture} {t : Terms} {w : List ℤ} {k q : ℕ} → PlanIn p t w → k < slicesIn p → q ≤ 255 → SliceIn p w k q
 slice-in h l m = record { arranged = h .arranged; small = h .small; slice = l; index = m }
 
-module _ (w : List ℤ) (p : Picture) (t : Terms) (k q : ℕ) (e : q ≡ indexIn w p t k) where
-  plan-bits : planIn w p t k .bits ≡ highBits (t .prefix) (t .scaler) q (numbersIn w p k q)
+-- words that stand one behind the other
+parts-stand : (w : List ℤ) (i : ℕ) (xs ys : List ℤ) → wordsAt w i (length (xs ++ ys)) ≡ xs ++ ys
+    → (wordsAt w i (length xs) ≡ xs) × (wordsAt w (i + length xs) (length ys) ≡ ys)
+parts-stand w i xs ys e =
+    let s = stand-parts (drop i w) xs ys e in
+    (s .0, ap (take (length ys)) (sym (drop-drop (length xs) i w)) ∙ s .1)
+
+-- a run whose words stand in w
+module _ (w : List ℤ) (i : ℕ) (xs : List ℤ) (b : Below xs) (e : wordsAt w i (length (packed 0 xs)) ≡ packed 0 xs) where
+  run-stands : runAt w i (packedOf xs) ≡ trimmed xs
+  run-stands = ap unpacked e ∙ unpacked-run xs b
+
+  held-run : i + length (packed 0 xs) ≤ length w → trimmedCost xs ≤ 2 ^ 33 → Held w i (packedOf xs)
+  unfolding trimmedCost
+  held-run h few = record {
+    reach = h;
+    trim = ap trimmed run-stands ∙ trimmed-again xs ∙ sym run-stands;
+    bits = ap bitsOf (sym run-stands);
+    few = few;
+  }
+
+-- a choice
+module _ (w : List ℤ) (i q : ℕ) (z : Three (List ℤ)) (e : wordsAt w i (length (sliceWords z)) ≡ sliceWords z)
+    (b : Below (z .y) × (Below (z .c1) × Below (z .c2))) where
+  abbrev choice : Choice
+  choice = record { index = q; y = packedOf (z .y); c1 = packedOf (z .c1); c2 = packedOf (z .c2) }
+
+  y-stands : wordsAt w i (length (packed 0 (z .y))) ≡ packed 0 (z .y)
+  y-stands = parts-stand w i (packed 0 (z .y)) (packed 0 (z .c1) ++ packed 0 (z .c2)) e .0
+
+  colours-stand : (wordsAt w (i + length (packed 0 (z .y))) (length (packed 0 (z .c1))) ≡ packed 0 (z .c1))
+      × (wordsAt w (i + length (packed 0 (z .y)) + length (packed 0 (z .c1))) (length (packed 0 (z .c2))) ≡ packed 0 (z .c2))
+  colours-stand =
+      parts-stand w (i + length (packed 0 (z .y))) (packed 0 (z .c1)) (packed 0 (z .c2))
+      (parts-stand w i (packed 0 (z .y)) (packed 0 (z .c1) ++ packed 0 (z .c2)) e .1)
+
+  slice-held : i + length (sliceWords z) ≤ length w → FewBits choice → HeldSlice w i choice
+  slice-held h f =
+      let y = packed 0 (z .y) in
+      let c1 = packed 0 (z .c1) in
+      let c2 = packed 0 (z .c2) in
+      let m = length-append y (c1 ++ c2) in
+      let n = length-append c1 c2 in
+      record {
+        index = f .index;
+        y = held-run w i (z .y) (b .0) y-stands (omega (arith, h, m)) (f .bits .0);
+        c1 = held-run w (i + length y) (z .c1) (b .1 .0) (colours-stand .0) (omega (arith, h, m, n)) (f .bits .1 .0);
+        c2 = held-run w (i + length y + length c1) (z .c2) (b .1 .1) (colours-stand .1) (omega (arith, h, m, n)) (f .bits .1 .1);
+      }
+
+  -- its bits are those of the numbers
+  stands-bits : (p c : ℕ) → highBits p c q (numbersAt w i choice) ≡ highBits p c q z
+  unfolding highBits
+  stands-bits p c =
+      let y = ap (componentBits c) (run-stands w i (z .y) (b .0) y-stands) ∙ component-trimmed c (z .y) in
+      let c1 = ap (componentBits c) (run-stands w (i + length (packed 0 (z .y))) (z .c1) (b .1 .0) (colours-stand .0)) ∙ component-trimmed c (z .c1) in
+      let c2 = ap (componentBits c) (run-stands w (i + length (packed 0 (z .y)) + length (packed 0 (z .c1))) (z .c2) (b .1 .1) (colours-stand .1)) ∙ component-trimmed c (z .c2) in
+      ap₂ (λ (a b : Bits). zeros (8 * p) ++ (lit 8 q ++ (a ++ b))) y (ap₂ _++_ c1 c2)
+
+-- slice k's numbers are their own words
+numbers-below : {p : Picture} {t : Terms} {w : List ℤ} {k q : ℕ} → PlanIn p t w → k < slicesIn p → q ≤ 255
+    → let z = numbersIn w p k q in Below (z .y) × (Below (z .c1) × Below (z .c2))
+unfolding numbersIn
+numbers-below {p} {t} {w} {k} {q} h l m =
+    let s : SliceIn p w k q = slice-in h l m in (
+      run-below (p .layout) (p .y) (p .front) (p .end) k q w (run-y s) (h .plain),
+      (run-below (p .layout) (p .c1) (p .front) (p .end) k q w (run-c1 s) (h .plain), run-below (p .layout) (p .c2) (p .front) (p .end) k q w (run-c2 s) (h .plain)),
+    )
+
+-- the choice of slice k, whose words stand behind those of the slices before
+module _ {w : List ℤ} {p : Picture} {t : Terms} (k i : ℕ) (c : Choice) (h : PlanIn p t w) (l : k < slicesIn p) (n : Notes w p t (slicesIn p) w)
+    (ei : i ≡ length (wordsTo w p t k)) (ec : c ≡ choiceIn w p t k) where
+  abbrev index : ℕ
+  index = indexIn w p t k
+
+  stand : wordsAt w i (length (wordsIn w p t k)) ≡ wordsIn w p t k
+  stand = ap (λ (i : ℕ). wordsAt w i (length (wordsIn w p t k))) ei ∙ words-stand w w p t (slicesIn p) k l (n .words)
+
+  most : index ≤ 255
+  most = index-most w p t k (h .terms)
+
+  pub choice-held : HeldSlice w i c
+  choice-held =
+      subst (HeldSlice w i) (sym ec)
+      (slice-held w i index (numbersIn w p k index) stand (numbers-below h l most)
+      (omega (arith, ei, words-end w p t k (h .arranged) l, h .small .order, h .small .long)) (choice-few w p k index (h .arranged) most))
+
+  plan-bits : highBits (t .prefix) (t .scaler) (c .index) (numbersAt w i c) ≡ planIn w p t k .bits
   unfolding planIn
-  plan-bits = ap (λ (q : ℕ). highBits (t .prefix) (t .scaler) q (numbersIn w p k q)) (sym e)
+  plan-bits =
+      ap (λ (c : Choice). highBits (t .prefix) (t .scaler) (c .index) (numbersAt w i c)) ec
+      ∙ stands-bits w i index (numbersIn w p k index) stand (numbers-below h l most) (t .prefix) (t .scaler)
 
   -- its room
   pub plan-room : (at n : ℕ) → at + length (toBytes (planIn w p t k .bits)) ≤ n
-      → at + length (toBytes (highBits (t .prefix) (t .scaler) q (numbersIn w p k q))) ≤ n
-  plan-room at n h = rw plan-bits at h
+      → at + length (toBytes (highBits (t .prefix) (t .scaler) (c .index) (numbersAt w i c))) ≤ n
+  plan-room at n b = rw plan-bits b
 
-  pub plan-laid : {o o′ : List ℕ} {at r : ℕ} → Lays o at (toBytes (highBits (t .prefix) (t .scaler) q (numbersIn w p k q))) o′ r
+  pub plan-laid : {o o′ : List ℕ} {at r : ℕ} → Lays o at (toBytes (highBits (t .prefix) (t .scaler) (c .index) (numbersAt w i c))) o′ r
       → Lays o at (toBytes (planIn w p t k .bits)) o′ r
-  plan-laid h = rw plan-bits h
+  plan-laid b = rw plan-bits at b
 
--- the choice of slice k by its own index
-pub own-index : (w : List ℤ) (p : Picture) (t : Terms) (k : ℕ) (c : Choice) → c ≡ choiceIn w p t k → (c .index ≡ indexIn w p t k) × (c ≡ choiceBy (numbersIn w p k) (c .index))
-own-index w p t k c e = let i = ap (λ (c : Choice). c .index) e in (i, e ∙ ap (choiceBy (numbersIn w p k)) (sym i))
-
--- the runs of a slice's choice
-module _ (w : List ℤ) (p : Picture) (k : ℕ) (c : Choice) (e : c ≡ choiceBy (numbersIn w p k) (c .index)) where
-  pub choice-y : c .y ≡ trimmedOf (runOf w p (p .y) k (c .index))
-  unfolding numbersIn
-  choice-y = ap (λ (c : Choice). c .y) e
-
-  pub choice-c1 : c .c1 ≡ trimmedOf (runOf w p (p .c1) k (c .index))
-  unfolding numbersIn
-  choice-c1 = ap (λ (c : Choice). c .c1) e
-
-  pub choice-c2 : c .c2 ≡ trimmedOf (runOf w p (p .c2) k (c .index))
-  unfolding numbersIn
-  choice-c2 = ap (λ (c : Choice). c .c2) e
+  -- how many words it has
+  pub plan-words : wordsOf c ≡ length (wordsIn w p t k)
+  plan-words = ap wordsOf ec ∙ words-are (numbersIn w p k) index
 
 -- ---- slice after slice
 -- a part and those before it are no longer than all parts

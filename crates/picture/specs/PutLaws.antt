@@ -85,7 +85,7 @@ room-next {o} {o′} {p} {p′} xs ys r a =
 
 -- ---- part after part
 module _ (F : ℕ → List ℤ) where
-  chunks-split : (k m : ℕ) → chunks F (m + k) ≡ chunks F k ++ chunks (λ j. F (j + k)) m
+  pub chunks-split : (k m : ℕ) → chunks F (m + k) ≡ chunks F k ++ chunks (λ j. F (j + k)) m
   unfolding chunks
   chunks-split k zero = let e : 0 + k ≡ k = omega arith in ap (chunks F) e ∙ sym (append-nil (chunks F k))
   chunks-split k (suc m) =

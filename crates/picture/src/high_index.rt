@@ -1,20 +1,23 @@
-// The choice of a high-quality slice: its index, the runs of its components there, what they need, the slice's size and share, the election, and
-// the choice noted in the work slice. All of it is for the picture call.
+// The choice of a high-quality slice: its index by its size, its share and the election, the runs of its components there, packed, and the choice noted
+// in the work slice. All of it is for the picture call.
 use crate::layout::Component;
 use crate::layout::Picture;
+use crate::packed::Packed;
 use unit::RateControl;
 ghost use mathlib.Core.Path.{_≡_};
-ghost use mathlib.Core.Bool.{Bool, true, cond};
+ghost use mathlib.Core.Bool.{Bool, false};
 ghost use Prim.Native.Nat.{ℕ, _+_, _*_, _/_, _^_, _≤_, _<_, max};
 ghost use lib.IntN.{pos};
-ghost use lib.ListN.{set};
+ghost use lib.ListN.{length, set};
 ghost use Rattle.laws.specs.Rows.{at};
+ghost use Rattle.laws.specs.Laid.{laid};
 ghost use Rattle.unit.specs.Elect.{elect};
 ghost use Rattle.unit.specs.HighQuality.{ceiling, shareOf};
+ghost use Rattle.picture.specs.Run.{Small};
 ghost use Rattle.picture.specs.Layout.{RunIn};
 ghost use Rattle.picture.specs.Picture.{slicesIn, runOf, numbersIn, SliceIn};
 ghost use Rattle.picture.specs.Tally.{trimmedOf};
-ghost use Rattle.picture.specs.High.{fitsBy, halfOf, choiceBy, choiceIn, needsBy, noteRun, noteIn, RunAt, FewBits, TermsIn, PlanIn, Notes};
+ghost use Rattle.picture.specs.High.{fitsBy, indexIn, halfOf, choiceBy, choiceIn, sliceWords, wordsIn, wordsTo, sliceCount, needsBy, noteRun, noteIn, RunAt, FewBits, TermsIn, PlanIn, Notes};
 
 // The bytes that the components of a slice need.
 pub struct Needs {
@@ -43,18 +46,12 @@ pub struct Trimmed {
     pub bits: u64,
 }
 
-// A slice's index, and the runs of its components there.
+// A slice's index, and the runs of its components there, whose words stand one behind the other.
 pub struct Choice {
     pub index: u32,
-    pub y: Trimmed,
-    pub c1: Trimmed,
-    pub c2: Trimmed,
-}
-
-// Whether a slice fits at an index, and where it does, the choice of this index.
-pub struct Trial {
-    pub fits: bool,
-    pub choice: Choice,
+    pub y: Packed,
+    pub c1: Packed,
+    pub c2: Packed,
 }
 
 // The run of a component of slice k at index q, without its trailing zeros.
@@ -68,22 +65,6 @@ fn trimmed_run(work: &[i64], p: Picture, c: Component, k: u32, q: u32) -> Trimme
     crate::tally::trimmed_of(t)
 }
 
-// The choice of index q for slice k.
-fn choice_at(work: &[i64], p: Picture, k: u32, q: u32) -> Choice
-    requires { ⌜ SliceIn p (now work) k q ⌝ }
-    ensures { λ r. ⌜ r ≡ choiceBy (numbersIn (now (work .entry)) p k) q ⌝ }
-{
-    let y = p.y;
-    let c1 = p.c1;
-    let c2 = p.c2;
-    Choice {
-        index: q,
-        y: trimmed_run(work, p, y, k, q),
-        c1: trimmed_run(work, p, c1, k, q),
-        c2: trimmed_run(work, p, c2, k, q),
-    }
-}
-
 // The bytes that n bits need.
 pub fn need(n: u64) -> u64
     requires { ⌜ n ≤ 2 ^ 33 ⌝ }
@@ -92,18 +73,15 @@ pub fn need(n: u64) -> u64
     (n + 7) / 8
 }
 
-// The bytes that the components need.
-pub fn needs_of(c: Choice) -> Needs
-    requires { ⌜ FewBits c ⌝ }
-    ensures { λ r. ⌜ (r ≡ needsBy c) × ((r .y ≤ 2 ^ 30) × ((r .c1 ≤ 2 ^ 30) × (r .c2 ≤ 2 ^ 30))) ⌝ }
+// The bytes that the components need, by their bits.
+pub fn needs_of(y: u64, c1: u64, c2: u64) -> Needs
+    requires { ⌜ (y ≤ 2 ^ 33) × ((c1 ≤ 2 ^ 33) × (c2 ≤ 2 ^ 33)) ⌝ }
+    ensures { λ r. ⌜ (r ≡ needsBy y c1 c2) × ((r .y ≤ 2 ^ 30) × ((r .c1 ≤ 2 ^ 30) × (r .c2 ≤ 2 ^ 30))) ⌝ }
 {
-    let y = c.y;
-    let c1 = c.c1;
-    let c2 = c.c2;
     Needs {
-        y: need(y.bits),
-        c1: need(c1.bits),
-        c2: need(c2.bits),
+        y: need(y),
+        c1: need(c1),
+        c2: need(c2),
     }
 }
 
@@ -141,48 +119,27 @@ pub fn slice_size(z: Needs, t: Terms) -> u64
     4 + t.prefix as u64 + (y + c1 + c2)
 }
 
-// Whether slice k fits its share at index q, and the choice of this index, where y is luma's run.
-fn fits_with(work: &[i64], p: Picture, t: Terms, share: u64, k: u32, q: u32, y: Trimmed) -> Trial
+// Whether slice k fits its share at index q, where y is luma's run.
+fn fits_with(work: &[i64], p: Picture, t: Terms, share: u64, k: u32, q: u32, y: Trimmed) -> bool
     requires { ⌜ SliceIn p (now work) k q × (TermsIn t × (y ≡ trimmedOf (runOf (now work) p (p .y) k q))) ⌝ }
-    ensures { λ r. ⌜ (r .fits ≡ fitsBy (t .prefix) (t .scaler) share (numbersIn (now (work .entry)) p k) q)
-        × (r .choice ≡ choiceBy (numbersIn (now (work .entry)) p k) q) ⌝ }
+    ensures { λ r. ⌜ r ≡ fitsBy (t .prefix) (t .scaler) share (numbersIn (now (work .entry)) p k) q ⌝ }
 {
     let first = p.c1;
     let second = p.c2;
     let c1 = trimmed_run(work, p, first, k, q);
     let c2 = trimmed_run(work, p, second, k, q);
-    let choice = Choice {
-        index: q,
-        y,
-        c1,
-        c2,
-    };
-    Trial {
-        fits: slice_size(needs_of(choice), t) <= share,
-        choice,
-    }
+    slice_size(needs_of(y.bits, c1.bits, c2.bits), t) <= share
 }
 
 // Whether slice k fits its share at index q. Where luma alone does not fit, the colours are not looked at.
-fn fits(work: &[i64], p: Picture, t: Terms, share: u64, k: u32, q: u32) -> Trial
+fn fits(work: &[i64], p: Picture, t: Terms, share: u64, k: u32, q: u32) -> bool
     requires { ⌜ SliceIn p (now work) k q × TermsIn t ⌝ }
-    ensures { λ r. ⌜ (r .fits ≡ fitsBy (t .prefix) (t .scaler) share (numbersIn (now (work .entry)) p k) q)
-        × (r .fits ≡ true → r .choice ≡ choiceBy (numbersIn (now (work .entry)) p k) q) ⌝ }
+    ensures { λ r. ⌜ r ≡ fitsBy (t .prefix) (t .scaler) share (numbersIn (now (work .entry)) p k) q ⌝ }
 {
     let luma = p.y;
     let y = trimmed_run(work, p, luma, k, q);
-    let none = Trimmed { count: 0, bits: 0 };
-    let alone = Choice {
-        index: q,
-        y,
-        c1: none,
-        c2: none,
-    };
-    if slice_size(needs_of(alone), t) > share {
-        return Trial {
-            fits: false,
-            choice: alone,
-        };
+    if slice_size(needs_of(y.bits, 0, 0), t) > share {
+        return false;
     }
     fits_with(work, p, t, share, k, q, y)
 }
@@ -228,22 +185,6 @@ fn next_index(lo: u32, hi: u32, g: u32, step: u32) -> u32
     (lo + hi) / 2
 }
 
-// The low end behind a trial of q: as it was where q fits, else q + 1.
-fn raised(lo: u32, q: u32, fits: bool) -> u32
-    requires { ⌜ q ≤ 255 ⌝ }
-    ensures { λ r. ⌜ r ≡ cond fits lo (q + 1) ⌝ }
-{
-    if fits { lo } else { q + 1 }
-}
-
-// The trial's choice where it fits, else the best so far.
-fn better(t: Trial, best: Choice) -> Choice
-    ensures { λ r. ⌜ r ≡ cond (t .fits) (t .choice) best ⌝ }
-{
-    let c = t.choice;
-    if t.fits { c } else { best }
-}
-
 // Twice the step, at most 256.
 pub fn wider(step: u32) -> u32
     requires { ⌜ (1 ≤ step) × (step ≤ 256) ⌝ }
@@ -252,41 +193,19 @@ pub fn wider(step: u32) -> u32
     if step < 128 { 2 * step } else { 256 }
 }
 
-// The search for the least index that fits, from the guess g on; where none below 255 fits, 255 without its runs.
-fn search(work: &[i64], p: Picture, t: Terms, share: u64, k: u32, g: u32) -> Choice
+// The election from 0 to 255, from the guess g on. What fits at an index fits at every larger one, so that the least index that fits is elected, or 255.
+fn elect_qindex(work: &[i64], p: Picture, t: Terms, share: u64, k: u32, g: u32) -> u32
     requires { ⌜ PlanIn p t (now work) × (k < slicesIn p) ⌝ }
-    ensures { λ r. ⌜ (r .index ≡ elect 0 255 (fitsBy (t .prefix) (t .scaler) share (numbersIn (now (work .entry)) p k)))
-        × ((r .index ≤ 255) × (r .index < 255 → r ≡ choiceBy (numbersIn (now (work .entry)) p k) (r .index))) ⌝ }
+    ensures { λ r. ⌜ r ≡ elect 0 255 (fitsBy (t .prefix) (t .scaler) share (numbersIn (now (work .entry)) p k)) ⌝ }
 {
-    let none = Trimmed { count: 0, bits: 0 };
-    let mut best = Choice {
-        index: 255,
-        y: none,
-        c1: none,
-        c2: none,
-    };
-    let mut lo = 0;
+    let mut r = Range { lo: 0, hi: 255 };
     let mut step = 1;
-    while lo < best.index {
-        let q = next_index(lo, best.index, g, step);
-        let trial = fits(work, p, t, share, k, q);
-        lo = raised(lo, q, trial.fits);
-        best = better(trial, best);
+    while r.lo < r.hi {
+        let q = next_index(r.lo, r.hi, g, step);
+        r = narrowed(r, q, fits(work, p, t, share, k, q));
         step = wider(step);
     }
-    best
-}
-
-// The election from 0 to 255. What fits at an index fits at every larger one, so that the least index that fits is elected, or 255.
-fn elect_qindex(work: &[i64], p: Picture, t: Terms, share: u64, k: u32, g: u32) -> Choice
-    requires { ⌜ PlanIn p t (now work) × (k < slicesIn p) ⌝ }
-    ensures { λ r. ⌜ r ≡ choiceBy (numbersIn (now (work .entry)) p k) (elect 0 255 (fitsBy (t .prefix) (t .scaler) share (numbersIn (now (work .entry)) p k))) ⌝ }
-{
-    let c = search(work, p, t, share, k, g);
-    if c.index < 255 {
-        return c;
-    }
-    choice_at(work, p, k, 255)
+    r.hi
 }
 
 // Slice k's share of n bytes among d slices: the earlier ones are larger by at most one.
@@ -302,20 +221,60 @@ fn share_of(n: u64, d: u32, k: u32) -> u64
     }
 }
 
-// The choice of slice k: lossless is index 0. The guess g says where an election begins.
-pub fn choice_of(work: &[i64], p: Picture, t: Terms, k: u32, g: u32) -> Choice
+// The index of slice k: lossless is index 0. The guess g says where an election begins.
+fn index_of(work: &[i64], p: Picture, t: Terms, k: u32, g: u32) -> u32
     requires { ⌜ PlanIn p t (now work) × (k < slicesIn p) ⌝ }
-    ensures { λ r. ⌜ r ≡ choiceIn (now (work .entry)) p t k ⌝ }
+    ensures { λ r. ⌜ (r ≡ indexIn (now (work .entry)) p t k) × (r ≤ 255) ⌝ }
 {
     let rate = t.rate;
     match rate {
-        RateControl::Lossless => choice_at(work, p, k, 0),
-        RateControl::FixedQuantIndex(q) => choice_at(work, p, k, q),
+        RateControl::Lossless => 0,
+        RateControl::FixedQuantIndex(q) => q,
         RateControl::PictureBytes(_) => {
             let share = share_of(t.bytes, crate::low_index::slice_count(p), k);
             elect_qindex(work, p, t, share, k, g)
         }
     }
+}
+
+// Slice k's choice of index q, its runs packed from place from on.
+fn pack_slice(work: &mut [i64], p: Picture, k: u32, q: u32, from: usize) -> Choice
+    requires { ⌜ SliceIn p (now work) k q × ((p .layout .predicted ≡ false) × (from + sliceCount p k ≤ p .front)) ⌝ }
+    ensures { λ r. ⌜ (r ≡ choiceBy (numbersIn (now (work .entry)) p k) q)
+        × ((now (work .exit) ≡ laid (now (work .entry)) from (sliceWords (numbersIn (now (work .entry)) p k q))) × Small (p .front) (p .end) (now (work .exit))) ⌝ }
+{
+    let l = p.layout;
+    let luma = p.y;
+    let first = p.c1;
+    let second = p.c2;
+    let y = crate::packed::pack_run(work, from, p.front, p.end, l, luma, k, q);
+    let c1 = crate::packed::pack_run(work, y.at, p.front, p.end, l, first, k, q);
+    let c2 = crate::packed::pack_run(work, c1.at, p.front, p.end, l, second, k, q);
+    Choice {
+        index: q,
+        y: Packed {
+            words: y.at - from,
+            bits: y.bits,
+        },
+        c1: Packed {
+            words: c1.at - y.at,
+            bits: c1.bits,
+        },
+        c2: Packed {
+            words: c2.at - c1.at,
+            bits: c2.bits,
+        },
+    }
+}
+
+// The choice of slice k, its runs packed from place from on.
+pub fn choice_of(work: &mut [i64], p: Picture, t: Terms, k: u32, g: u32, from: usize) -> Choice
+    requires { ⌜ PlanIn p t (now work) × ((k < slicesIn p) × (from + sliceCount p k ≤ p .front)) ⌝ }
+    ensures { λ r. ⌜ (r ≡ choiceIn (now (work .entry)) p t k)
+        × ((now (work .exit) ≡ laid (now (work .entry)) from (wordsIn (now (work .entry)) p t k)) × Small (p .front) (p .end) (now (work .exit))) ⌝ }
+{
+    let q = index_of(work, p, t, k, g);
+    pack_slice(work, p, k, q, from)
 }
 
 // A number is noted at place i, where the work slice reaches so far.
@@ -329,11 +288,11 @@ fn note(work: &mut [i64], i: usize, v: u64)
 }
 
 // A run is noted from place i on.
-fn note_run(work: &mut [i64], i: usize, r: Trimmed)
-    requires { ⌜ (i < 2 ^ 40) × ((r .count < 2 ^ 63) × (r .bits < 2 ^ 63)) ⌝ }
+fn note_run(work: &mut [i64], i: usize, r: Packed)
+    requires { ⌜ (i < 2 ^ 40) × ((r .words < 2 ^ 63) × (r .bits < 2 ^ 63)) ⌝ }
     ensures { λ _. ⌜ now (work .exit) ≡ noteRun (now (work .entry)) i r ⌝ }
 {
-    note(work, i, r.count as u64);
+    note(work, i, r.words as u64);
     note(work, i + 1, r.bits);
 }
 
@@ -352,21 +311,21 @@ pub fn note_choice(work: &mut [i64], i: usize, c: Choice)
 }
 
 // The run that is noted from place i on.
-fn noted_run(work: &[i64], i: usize) -> Trimmed
+fn noted_run(work: &[i64], i: usize) -> Packed
     requires { ⌜ RunAt (now work) i ⌝ }
-    ensures { λ r. ⌜ (at (now (work .entry)) i ≡ pos (r .count)) × (at (now (work .entry)) (i + 1) ≡ pos (r .bits)) ⌝ }
+    ensures { λ r. ⌜ (at (now (work .entry)) i ≡ pos (r .words)) × (at (now (work .entry)) (i + 1) ≡ pos (r .bits)) ⌝ }
 {
     let j = i + 1;
-    Trimmed {
-        count: work[i] as usize,
+    Packed {
+        words: work[i] as usize,
         bits: work[j] as u64,
     }
 }
 
-// The choice of slice k as it was noted, or chosen anew where the work slice does not reach so far.
-pub fn noted_choice(work: &[i64], p: Picture, t: Terms, k: u32) -> Choice
-    requires { ⌜ PlanIn p t (now work) × ((k < slicesIn p) × Notes (now work) p t (slicesIn p) (now work)) ⌝ }
-    ensures { λ r. ⌜ r ≡ choiceIn (now (work .entry)) p t k ⌝ }
+// The choice of slice k as it was noted, or where the work slice does not reach so far chosen anew; its words stand from place from on.
+pub fn noted_choice(work: &mut [i64], p: Picture, t: Terms, k: u32, from: usize) -> Choice
+    requires { ⌜ PlanIn p t (now work) × ((k < slicesIn p) × (Notes (now work) p t (slicesIn p) (now work) × (from ≡ length (wordsTo (now work) p t k)))) ⌝ }
+    ensures { λ r. ⌜ (r ≡ choiceIn (now (work .entry)) p t k) × (now (work .exit) ≡ now (work .entry)) ⌝ }
 {
     let i = p.end + 7 * k as usize;
     if i + 6 < work.len() {
@@ -377,5 +336,5 @@ pub fn noted_choice(work: &[i64], p: Picture, t: Terms, k: u32) -> Choice
             c2: noted_run(work, i + 5),
         };
     }
-    choice_of(work, p, t, k, 0)
+    choice_of(work, p, t, k, 0, from)
 }

@@ -20,7 +20,7 @@ pub struct Settled {
     pub end: usize,
 }
 
-// All slices, planned from place at on, and their choices noted.
+// All slices, planned from place at on, their words packed and their choices noted.
 fn plan_slices(work: &mut [i64], p: Picture, t: Terms, at: usize) -> SliceCoder
     requires { ⌜ PlanIn p t (now work) × (at < 2 ^ 16) ⌝ }
     ensures { λ r. ⌜ PlansTo (now (work .entry)) p t at (slicesIn p) r × Notes (now (work .entry)) p t (slicesIn p) (now (work .exit)) ⌝ }
@@ -36,9 +36,9 @@ fn plan_slices(work: &mut [i64], p: Picture, t: Terms, at: usize) -> SliceCoder
 }
 
 // All slices, planned from place at on by the choices noted.
-fn plan_noted_slices(work: &[i64], p: Picture, t: Terms, at: usize) -> SliceCoder
+fn plan_noted_slices(work: &mut [i64], p: Picture, t: Terms, at: usize) -> SliceCoder
     requires { ⌜ PlanIn p t (now work) × (Notes (now work) p t (slicesIn p) (now work) × (at < 2 ^ 16)) ⌝ }
-    ensures { λ r. ⌜ PlansTo (now (work .entry)) p t at (slicesIn p) r ⌝ }
+    ensures { λ r. ⌜ PlansTo (now (work .entry)) p t at (slicesIn p) r × (now (work .exit) ≡ now (work .entry)) ⌝ }
 {
     let slices = crate::low_index::slice_count(p);
     let mut c = SliceCoder::new(at);

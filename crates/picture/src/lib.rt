@@ -10,6 +10,7 @@ pub mod layout;
 pub mod low_index;
 pub mod low_slice;
 pub mod matrix;
+pub mod packed;
 pub mod put;
 pub mod rebuild;
 pub mod refusal;

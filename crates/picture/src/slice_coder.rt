@@ -5,66 +5,74 @@ use crate::layout::Picture;
 ghost use mathlib.Core.Path.{_≡_};
 ghost use Prim.Native.Nat.{ℕ, _+_, _*_, _^_, _≤_, _<_};
 ghost use lib.ListN.{length};
-ghost use Rattle.laws.specs.Laid.{Lays};
+ghost use Rattle.laws.specs.Laid.{laid, Lays};
 ghost use Rattle.codewords.specs.Bytes.{toBytes};
 ghost use Rattle.picture.specs.Run.{Small};
 ghost use Rattle.picture.specs.Picture.{slicesIn};
-ghost use Rattle.picture.specs.High.{planIn, choiceIn, noteIn, plannedBy, FewBits, TermsIn, PlanIn, PlansOn, Notes};
+ghost use Rattle.picture.specs.High.{planIn, choiceIn, wordsIn, wordsTo, sliceCount, noteIn, plannedBy, FewBits, TermsIn, PlanIn, PlansOn, Notes};
 ghost use Rattle.picture.specs.Low.{isLast, lowIndexIn, lowBitsIn, lowWorkIn, LowIn};
 
-// Where the next slice goes in the output, how many low-delay slices carry index 127, the largest need of a component, and the index of the slice
-// before, from which the search in high quality and the bracket in low delay begin.
+// Where the next slice goes in the output, how many low-delay slices carry index 127, the largest need of a component, the index of the slice before,
+// from which the search in high quality and the bracket in low delay begin, and where the words of the next slice stand in the work slice.
 pub struct SliceCoder {
     pub at: usize,
     pub cut_slices: u32,
     pub largest: u64,
     pub index: u32,
+    pub words: usize,
 }
 
 impl SliceCoder {
     // No slice yet; the first one goes to at.
     pub fn new(at: usize) -> SliceCoder
-        ensures { λ r. ⌜ (r .at ≡ at) × ((r .«cut_slices» ≡ 0) × (r .largest ≡ 0)) ⌝ }
+        ensures { λ r. ⌜ (r .at ≡ at) × ((r .«cut_slices» ≡ 0) × ((r .largest ≡ 0) × (r .words ≡ 0))) ⌝ }
     {
         SliceCoder {
             at,
             cut_slices: 0,
             largest: 0,
             index: 0,
+            words: 0,
         }
     }
 
     // A high-quality slice of choice c, planned.
     fn plan_choice(self, t: Terms, c: Choice) -> SliceCoder
-        requires { ⌜ TermsIn t × (FewBits c × (self .at < 2 ^ 60)) ⌝ }
+        requires { ⌜ TermsIn t × (FewBits c × ((self .at < 2 ^ 60) × (self .words < 2 ^ 60))) ⌝ }
         ensures { λ r. ⌜ (r ≡ plannedBy t c self) × (r .at ≤ self .at + 2 ^ 34) ⌝ }
     {
-        let n = crate::high_index::needs_of(c);
+        let y = c.y;
+        let c1 = c.c1;
+        let c2 = c.c2;
+        let n = crate::high_index::needs_of(y.bits, c1.bits, c2.bits);
         SliceCoder {
             at: self.at + crate::high_index::slice_size(n, t) as usize,
             cut_slices: self.cut_slices,
             largest: crate::high_index::largest(n, self.largest),
             index: c.index,
+            words: self.words + (y.words + (c1.words + c2.words)),
         }
     }
 
-    // High-quality slice k, planned, and its choice noted.
+    // High-quality slice k, planned, its words packed and its choice noted.
     pub fn plan_hq_slice(self, work: &mut [i64], p: Picture, t: Terms, k: u32) -> SliceCoder
-        requires { ⌜ PlanIn p t (now work) × ((k < slicesIn p) × (self .at < 2 ^ 60)) ⌝ }
+        requires { ⌜ PlanIn p t (now work) × ((k < slicesIn p) × ((self .at < 2 ^ 60) × (self .words + sliceCount p k ≤ p .front))) ⌝ }
         ensures { λ r. ⌜ PlansOn (planIn (now (work .entry)) p t k) self r
-            × (now (work .exit) ≡ noteIn (now (work .entry)) (p .end + 7 * k) (choiceIn (now (work .entry)) p t k)) ⌝ }
+            × ((now (work .exit) ≡ noteIn (laid (now (work .entry)) (self .words) (wordsIn (now (work .entry)) p t k)) (p .end + 7 * k) (choiceIn (now (work .entry)) p t k))
+            × Small (p .front) (p .end) (now (work .exit))) ⌝ }
     {
-        let c = crate::high_index::choice_of(work, p, t, k, self.index);
+        let c = crate::high_index::choice_of(work, p, t, k, self.index, self.words);
         crate::high_index::note_choice(work, p.end + 7 * k as usize, c);
         self.plan_choice(t, c)
     }
 
     // High-quality slice k, planned by the choice noted.
-    pub fn plan_noted_slice(self, work: &[i64], p: Picture, t: Terms, k: u32) -> SliceCoder
-        requires { ⌜ PlanIn p t (now work) × ((k < slicesIn p) × (Notes (now work) p t (slicesIn p) (now work) × (self .at < 2 ^ 60))) ⌝ }
-        ensures { λ r. ⌜ PlansOn (planIn (now (work .entry)) p t k) self r ⌝ }
+    pub fn plan_noted_slice(self, work: &mut [i64], p: Picture, t: Terms, k: u32) -> SliceCoder
+        requires { ⌜ PlanIn p t (now work) × ((k < slicesIn p) × (Notes (now work) p t (slicesIn p) (now work)
+            × ((self .at < 2 ^ 60) × (self .words ≡ length (wordsTo (now work) p t k))))) ⌝ }
+        ensures { λ r. ⌜ PlansOn (planIn (now (work .entry)) p t k) self r × (now (work .exit) ≡ now (work .entry)) ⌝ }
     {
-        let c = crate::high_index::noted_choice(work, p, t, k);
+        let c = crate::high_index::noted_choice(work, p, t, k, self.words);
         self.plan_choice(t, c)
     }
 
@@ -72,22 +80,27 @@ impl SliceCoder {
     pub fn code_hq_slice(
         self,
         out: &mut [u8],
-        work: &[i64],
+        work: &mut [i64],
         p: Picture,
         t: Terms,
         k: u32,
     ) -> SliceCoder
-        requires { ⌜ PlanIn p t (now work) × ((k < slicesIn p) × (Notes (now work) p t (slicesIn p) (now work)
-            × (self .at + length (toBytes (planIn (now work) p t k .bits)) ≤ length (now out)))) ⌝ }
+        requires { ⌜ PlanIn p t (now work) × ((k < slicesIn p) × (Notes (now work) p t (slicesIn p) (now work) × ((self .words ≡ length (wordsTo (now work) p t k))
+            × (self .at + length (toBytes (planIn (now work) p t k .bits)) ≤ length (now out))))) ⌝ }
         ensures { λ r. ⌜ Lays (now (out .entry)) (self .at) (toBytes (planIn (now (work .entry)) p t k .bits)) (now (out .exit)) (r .at)
-            × ((r .«cut_slices» ≡ self .«cut_slices») × (r .largest ≡ self .largest)) ⌝ }
+            × ((r .«cut_slices» ≡ self .«cut_slices») × ((r .largest ≡ self .largest)
+            × ((r .words ≡ self .words + length (wordsIn (now (work .entry)) p t k)) × (now (work .exit) ≡ now (work .entry))))) ⌝ }
     {
-        let c = crate::high_index::noted_choice(work, p, t, k);
+        let c = crate::high_index::noted_choice(work, p, t, k, self.words);
+        let y = c.y;
+        let c1 = c.c1;
+        let c2 = c.c2;
         SliceCoder {
-            at: crate::high_slice::put_hq_slice(out, self.at, work, p, t, k, c),
+            at: crate::high_slice::put_hq_slice(out, self.at, work, self.words, c, t),
             cut_slices: self.cut_slices,
             largest: self.largest,
             index: self.index,
+            words: self.words + (y.words + (c1.words + c2.words)),
         }
     }
 
@@ -118,6 +131,7 @@ impl SliceCoder {
             cut_slices: self.cut_slices + crate::low_index::is_last(q),
             largest: self.largest,
             index: q,
+            words: self.words,
         }
     }
 }

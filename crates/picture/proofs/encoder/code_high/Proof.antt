@@ -1,5 +1,5 @@
 -- `encoder::code_high` meets its contract. Assumes nothing.
-use mathlib.Core.Path.{_≡_, refl, sym, _∙_}
+use mathlib.Core.Path.{_≡_, refl, sym, ap, _∙_}
 use mathlib.Core.Bool.{false}
 use native.Mathlib.Omega.{arith}
 use borrow.Author.Needs.{needs}
@@ -54,7 +54,7 @@ put-hq-slices-requires c κs =
     (t .result) (z .result .end) (h .result) (h .last .0) (t .ensures) refl (h .ensures .0) (h .ensures .1)
 
 cast-t18 : tie.Need-cast-t18
-cast-t18 c = cast-put-header (c .before .before .before .before .before .before .before .before .before)
+cast-t18 c = cast-put-header (c .before .before .before .before .before .before .before .before .before .before)
 
 same-length-2 : tie.Need-same-length-2
 same-length-2 c = search needs
@@ -64,16 +64,16 @@ same-length-3 c = search needs
 
 returns-2 : tie.Need-returns-2
 returns-2 c =
-    let a = c .before .before .before .before .before .before .before .before .before in
+    let a = c .before .before .before .before .before .before .before .before .before .before in
     let st = a .before .before .before .before .before .before .before .before in
     let z = a .before .before .before .before .settle in
-    let h = c .before .before .before .before .before .before .before .before .put-header in
-    let t = c .before .before .before .before .before .terms-of in
-    let w = c .before .before .put-hq-slices in (
+    let h = c .before .before .before .before .before .before .before .before .before .put-header in
+    let t = c .before .before .before .before .before .before .terms-of in
+    let w = c .before .before .before .put-hq-slices in (
       high-written (st .pre) (z .ensures .0) (st .args .out .now) (fits a)
           (t .result) (z .result .end) (h .result) (w .result .at) (w .result .«cut_slices») (h .last .0) (w .last .0)
-          (t .ensures) refl (h .ensures .0) (h .ensures .1) (noted-laid (st .pre) (t .result) (z .ensures .1) (w .ensures .0)) (w .ensures .1),
-      z .ensures .1 .size,
+          (t .ensures) refl (h .ensures .0) (h .ensures .1) (noted-laid (st .pre) (t .result) (z .ensures .1) (w .ensures .0)) (w .ensures .1 .0),
+      ap length (w .ensures .1 .1) ∙ z .ensures .1 .size,
     )
 
 pub code-high-spec : {M : Type 1} → statement M

@@ -1,7 +1,6 @@
 -- `high_index::fits` meets its contract. Assumes nothing.
-use mathlib.Core.Path.{refl, sym}
-use Rattle.unit.specs.TestLaws.{no-truth}
-use Rattle.picture.specs.HighIndexLaws.{alone-few, alone-not}
+use native.Mathlib.Omega.{arith}
+use Rattle.picture.specs.HighIndexLaws.{run-bits, alone-not}
 use borrow.Author.Needs.{needs}
 use Rattle.picture.proofs.high_index.fits.Statement.{statement}
 use Rattle.picture.proofs.high_index.fits.Tie as tie
@@ -19,7 +18,7 @@ needs-of-requires : tie.Need-needs-of-requires
 needs-of-requires c κs =
     let st = c .before .before in
     let a = st .args in
-    alone-few (a .work .now) (a .p) (a .k) (a .q) _ _ _ (st .pre .0 .arranged) (st .pre .0 .index) (c .trimmed-run .ensures) refl refl
+    (run-bits (a .work .now) (a .p) (a .p .y) (a .k) (a .q) (st .pre .0 .arranged .y .area) _ (c .trimmed-run .ensures), (omega arith, omega arith))
 
 slice-size-requires : tie.Need-slice-size-requires
 slice-size-requires c κs = search needs
@@ -28,11 +27,9 @@ returns : tie.Need-returns
 returns c =
     let st = c .before .before .before .before .before in
     let a = st .args in
-    let z = c .before .slice-size in (
-      alone-not (a .work .now) (a .p) (a .k) (a .q) (c .before .before .before .trimmed-run .result) (c .before .before .needs-of .result) (a .t .prefix) (a .t .scaler) (a .share) (z .result)
-          (st .pre .1 .scaler .0) (c .before .before .before .trimmed-run .ensures) (c .before .before .needs-of .ensures .0) (z .ensures .0) (c .if1 .taken),
-      λ h. no-truth (sym h),
-    )
+    let z = c .before .slice-size in
+    alone-not (a .work .now) (a .p) (a .k) (a .q) (c .before .before .before .trimmed-run .result) (c .before .before .needs-of .result) (a .t .prefix) (a .t .scaler) (a .share) (z .result)
+    (st .pre .1 .scaler .0) (c .before .before .before .trimmed-run .ensures) (c .before .before .needs-of .ensures .0) (z .ensures .0) (c .if1 .taken)
 
 fits-with-requires : tie.Need-fits-with-requires
 fits-with-requires c κs = search needs

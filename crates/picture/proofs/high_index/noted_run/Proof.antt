@@ -21,7 +21,7 @@ cast-t7 : tie.Need-cast-t7
 cast-t7 c =
     let st = c .before in
     let h = st .pre in
-    rw (read-plain (st .args .work .now) (st .args .i) (h .count-is) (h .count)) (tt, omega (arith, h .count))
+    rw (read-plain (st .args .work .now) (st .args .i) (h .words-are) (h .words)) (tt, omega (arith, h .words))
 
 mul-t8 : tie.Need-mul-t8
 mul-t8 c = search needs
@@ -33,7 +33,7 @@ cast-t11 : tie.Need-cast-t11
 cast-t11 c =
     let st = c .before .before in
     let h = st .pre in
-    rw (read-plain (st .args .work .now) (st .args .i + 1) (h .bits-is) (h .bits)) (tt, omega (arith, h .bits))
+    rw (read-plain (st .args .work .now) (st .args .i + 1) (h .bits-are) (h .bits)) (tt, omega (arith, h .bits))
 
 returns : tie.Need-returns
 returns c = search needs

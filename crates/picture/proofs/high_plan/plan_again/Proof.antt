@@ -1,8 +1,10 @@
 -- `high_plan::plan_again` meets its contract. Assumes nothing.
-use mathlib.Core.Path.{refl, sym, ap, _∙_}
+use mathlib.Core.Path.{refl, sym, ap, _∙_, subst}
+use mathlib.Core.List.{List}
+use lib.IntN.{ℤ}
 use Rattle.picture.specs.declared.high_index.Terms.{Terms}
 use Rattle.picture.specs.Picture.{slicesIn}
-use Rattle.picture.specs.High.{termsOf}
+use Rattle.picture.specs.High.{termsOf, Notes}
 use Rattle.picture.specs.HighPlanLaws.{plan-in, plans-same, slicesFrom}
 use borrow.Author.Needs.{needs}
 use Rattle.picture.proofs.high_plan.plan_again.Statement.{statement}
@@ -46,14 +48,16 @@ same-length-2 c = search needs
 
 returns-2 : tie.Need-returns-2
 returns-2 c =
-    let st = c .before .before .before .before .before .before .before in
+    let st = c .before .before .before .before .before .before .before .before in
     let a = st .args in
-    let t = c .before .before .before .terms-of in
-    let o = c .before .before .overhead in
-    let r = c .plan-noted-slices in (
-      plans-same (a .work .now) (a .p) (t .result) (termsOf (a .s) (a .matrix .now) (a .c)) (o .result) (slicesFrom (a .s) (a .matrix .now) (a .c)) (slicesIn (a .p))
-          (r .result) (t .ensures) (o .ensures .0) (r .ensures),
-      st .pre .1 .1 .1 .notes (sym (c .before .before .before .before .before .is-target .ensures) ∙ c .before .before .before .before .if1 .left) (termsOf (a .s) (a .matrix .now) (a .c)) refl,
+    let t = c .before .before .before .before .terms-of in
+    let o = c .before .before .before .overhead in
+    let r = c .before .plan-noted-slices in
+    let u = termsOf (a .s) (a .matrix .now) (a .c) in (
+      plans-same (a .work .now) (a .p) (t .result) u (o .result) (slicesFrom (a .s) (a .matrix .now) (a .c)) (slicesIn (a .p))
+          (r .result) (t .ensures) (o .ensures .0) (r .ensures .0),
+      subst (λ (v : List ℤ). Notes (a .work .now) (a .p) u (slicesIn (a .p)) v) (sym (r .ensures .1))
+          (st .pre .1 .1 .1 .notes (sym (c .before .before .before .before .before .before .is-target .ensures) ∙ c .before .before .before .before .before .if1 .left) u refl),
     )
 
 pub plan-again-spec : {M : Type 1} → statement M

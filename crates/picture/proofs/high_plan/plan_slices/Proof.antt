@@ -1,10 +1,10 @@
--- `high_plan::plan_slices` meets its contract. The invariant: the slices before the k-th are planned, and their choices noted. Assumes nothing.
+-- `high_plan::plan_slices` meets its contract. The invariant: the slices before the k-th are planned, their words packed and their choices noted. Assumes nothing.
 use mathlib.Core.Path.{_≡_, subst}
 use Prim.Native.Nat.{ℕ, _-_, _≤_, _<_}
 use Rattle.picture.specs.Picture.{slicesIn}
 use Rattle.picture.specs.High.{PlansTo, Notes}
 use Rattle.picture.specs.HighPlanLaws.{plans-none, plans-more}
-use Rattle.picture.specs.NotedLaws.{notes-none, notes-plan, notes-more, plans-noted}
+use Rattle.picture.specs.NotedLaws.{words-room, notes-none, notes-plan, notes-more, plans-noted}
 use native.Mathlib.Omega.{arith}
 use Rattle.picture.proofs.high_plan.plan_slices.Statement.{statement}
 use Rattle.picture.proofs.high_plan.plan_slices.Tie as tie
@@ -30,7 +30,7 @@ loop-holds : tie.Need-loop-holds Inv-loop μ-loop
 loop-holds c =
     let a = c .before .before .args in
     let n = c .new in
-    (omega arith, (plans-none (a .work .now) (a .p) (a .t) (a .at) (n .result) (n .ensures .0) (n .ensures .1 .0) (n .ensures .1 .1), notes-none))
+    (omega arith, (plans-none (a .work .now) (a .p) (a .t) (a .at) (n .result) (n .ensures .0) (n .ensures .1 .0) (n .ensures .1 .1 .0) (n .ensures .1 .1 .1), notes-none (c .before .before .pre .0 .small)))
 
 plan-hq-slice-requires : tie.Need-plan-hq-slice-requires Inv-loop μ-loop
 plan-hq-slice-requires c κs =
@@ -38,7 +38,11 @@ plan-hq-slice-requires c κs =
     let l = c .before .before .loop in
     let n = c .before .before .before .before .slice-count in
     let h = notes-plan (l .inv .1 .1) (st .pre .0) in
-    (h, (omega (arith, c .before .loop-test .taken, n .ensures .0), omega (arith, l .inv .1 .0 .near, c .before .loop-test .taken, n .ensures .1, st .pre .1)))
+    let a = st .args in
+    let k : l .k < slicesIn (a .p) = omega (arith, c .before .loop-test .taken, n .ensures .0) in (
+      h,
+      (k, (omega (arith, l .inv .1 .0 .near, c .before .loop-test .taken, n .ensures .1, st .pre .1), omega (arith, l .inv .1 .0 .words, words-room (a .work .now) (a .p) (a .t) (l .k) (st .pre .0 .arranged) k))),
+    )
 
 add-k : tie.Need-add-k Inv-loop μ-loop
 add-k c = omega arith
@@ -55,7 +59,7 @@ loop-again c =
     let k : l .k < slicesIn (a .p) = omega (arith, c .before .before .before .loop-test .taken, n .ensures .0) in
     let s = c .before .plan-hq-slice in
     let o = plans-noted (l .k) (l .c) (s .result) (st .pre .0) k (l .inv .1 .1) (s .ensures .0) in
-    (omega (arith, k), (plans-more (a .work .now) (a .p) (a .t) (a .at) (l .k) (l .c) (s .result) (l .inv .1 .0) o, notes-more (l .k) (st .pre .0) k (l .inv .1 .1) (s .ensures .1)))
+    (omega (arith, k), (plans-more (a .work .now) (a .p) (a .t) (a .at) (l .k) (l .c) (s .result) (l .inv .1 .0) o, notes-more (l .k) (l .c .words) (st .pre .0) k (l .inv .1 .1) (l .inv .1 .0 .words) (s .ensures .1 .0) (s .ensures .1 .1)))
 
 same-length : tie.Need-same-length Inv-loop μ-loop
 same-length c = c .before .loop .inv .1 .1 .size

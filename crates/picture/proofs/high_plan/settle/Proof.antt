@@ -5,7 +5,7 @@ use Prim.Native.Nat.{_-_, _^_}
 use Rattle.picture.specs.Picture.{slicesIn}
 use Rattle.picture.specs.High.{termsOf, Notes}
 use Rattle.picture.specs.HighPlanLaws.{Settling, settling-first, settling-turn, settling-ends}
-use Rattle.picture.specs.NotedLaws.{notes-high, notes-own, notes-stand, notes-after, plans-after, plans-before, settles-after}
+use Rattle.picture.specs.NotedLaws.{high-work, notes-high, notes-own, notes-stand, notes-after, plans-after, plans-before, settles-after}
 use native.Mathlib.Omega.{arith}
 use Rattle.picture.proofs.high_plan.settle.Statement.{statement}
 use Rattle.picture.proofs.high_plan.settle.Tie as tie
@@ -31,8 +31,8 @@ loop-holds c =
     let a = st .args in
     let r = c .before .plan-picture in
     let h = st .pre .0 in (
-      settling-first _ (a .p) (a .s) (a .matrix .now) (r .result) (h .scaler .1) (plans-before (h .arranged) (h .small) (r .ensures .1) (r .ensures .0)),
-      notes-own (h .arranged) (h .small) (r .ensures .1),
+      settling-first _ (a .p) (a .s) (a .matrix .now) (r .result) (h .scaler .1) (plans-before (high-work h) (r .ensures .1) (r .ensures .0)),
+      notes-own (high-work h) (r .ensures .1),
     )
 
 cast-if1 : tie.Need-cast-if1 Inv-loop μ-loop
@@ -57,7 +57,7 @@ plan-again-requires c κs =
         st .pre .1,
         (
           (omega (arith, c .before .before .if1 .taken), omega (arith, v .inv .0 .plan .few)),
-          record { notes = notes-stand (st .args .s) refl (notes-own (h .arranged) (h .small) (v .inv .1)) },
+          record { notes = notes-stand (st .args .s) refl (notes-own (high-work h) (v .inv .1)) },
         ),
       ),
     )
@@ -76,8 +76,8 @@ loop-again c =
     let h = notes-high (w .ensures .1) (st .pre .0) in
     let r = c .before .plan-again in (
       settling-turn _ (a .p) (a .s) (a .matrix .now) (v .c) (v .r) (r .result) (v .inv .0) (c .before .before .before .before .if1 .taken)
-          (plans-after (h .arranged) (h .small) (v .inv .1) (r .ensures .0)),
-      notes-after (h .arranged) (h .small) (v .inv .1) (r .ensures .1),
+          (plans-after (high-work h) (v .inv .1) (r .ensures .0)),
+      notes-after (high-work h) (v .inv .1) (r .ensures .1),
     )
 
 same-length : tie.Need-same-length Inv-loop μ-loop
@@ -90,9 +90,9 @@ returns c =
     let a = st .args in
     let h = st .pre .0 in
     let w = c .before .before .before .before .plan-picture in (
-      settles-after (h .arranged) (h .small) (w .ensures .1)
+      settles-after (high-work h) (w .ensures .1)
           (settling-ends _ (a .p) (a .s) (a .matrix .now) (v .c) (v .r) (h .scaler .0) (v .inv .0) (omega (arith, c .if1 .left))),
-      notes-after (h .arranged) (h .small) (w .ensures .1) (v .inv .1),
+      notes-after (high-work h) (w .ensures .1) (v .inv .1),
     )
 
 pub settle-spec : {M : Type 1} → statement M

@@ -4,34 +4,36 @@ use Prim.Native.Nat.{ℕ}
 use native.Mathlib.Omega.{arith}
 use borrow.Author.Needs.{needs}
 use Rattle.unit.specs.HighQuality.{ceiling}
-use Rattle.picture.specs.Picture.{runOf}
-use Rattle.picture.specs.HighIndexLaws.{run-bits}
+use Rattle.picture.specs.High.{runAt}
 use Rattle.picture.specs.HighSliceLaws.{Counted, kept-held, byte-room, kept-room, ones-room, component-wrote}
 use Rattle.picture.proofs.high_slice.put_component.Statement.{statement}
 use Rattle.picture.proofs.high_slice.put_component.Tie as tie
 
 -- the run, and its scalers
-counted : (c : tie.After-scalers) → let a = c .before .before .before .before .args in Counted (a .scaler) (runOf (a .work .now) (a .p) (a .c) (a .k) (a .q)) (a .t) (c .scalers .result)
+counted : (c : tie.After-scalers) → let a = c .before .before .before .args in Counted (a .scaler) (runAt (a .work .now) (a .from) (a .t)) (a .t .bits) (c .scalers .result)
 counted c =
-    let st = c .before .before .before .before in
-    record { some = st .pre .1 .1 .1 .0 .0; run = st .pre .1 .1 .0; scalers = c .scalers .ensures .0 ∙ ap (λ (n : ℕ). ceiling n (st .args .scaler)) (c .before .need .ensures .0) }
+    let st = c .before .before .before in
+    record {
+      some = st .pre .1 .0 .0;
+      trim = st .pre .0 .trim;
+      bits = st .pre .0 .bits;
+      scalers = c .scalers .ensures .0 ∙ ap (λ (n : ℕ). ceiling n (st .args .scaler)) (c .before .need .ensures .0);
+    }
 
 need-requires : tie.Need-need-requires
-need-requires c κs =
-    let st = c .before .before in
-    let a = st .args in
-    run-bits (a .work .now) (a .p) (a .c) (a .k) (a .q) (st .pre .1 .0) (a .t) (st .pre .1 .1 .0)
+need-requires c κs = c .before .pre .0 .few
 
 scalers-requires : tie.Need-scalers-requires
-scalers-requires c κs = (c .need .ensures .1, c .before .before .before .pre .1 .1 .1 .0)
+scalers-requires c κs = (c .need .ensures .1, c .before .before .pre .1 .0)
 
 put-nbits-requires : tie.Need-put-nbits-requires
-put-nbits-requires c κs = (byte-room (counted (c .before)) (c .before .before .before .before .before .pre .1 .1 .1 .1), omega arith)
+put-nbits-requires c κs = (byte-room (counted (c .before)) (c .before .before .before .before .pre .1 .1), omega arith)
 
-put-run-requires : tie.Need-put-run-requires
-put-run-requires c κs =
-    let st = c .before .before .before .before .before .before .before .before .before in
-    (st .pre .0, kept-room (counted (c .before .before .before .before .before)) (st .pre .1 .1 .1 .1) (c .before .before .before .put-nbits .ensures))
+put-words-requires : tie.Need-put-words-requires
+put-words-requires c κs =
+    let s = c .before .before .before .before .before in
+    let st = s .before .before .before in
+    (st .pre .0 .reach, kept-room (counted s) (st .pre .1 .1) (c .before .before .before .put-nbits .ensures))
 
 mul-put-ones : tie.Need-mul-put-ones
 mul-put-ones c = search needs
@@ -40,21 +42,24 @@ mul-put-ones-2 : tie.Need-mul-put-ones-2
 mul-put-ones-2 c = search needs
 
 sub-put-ones : tie.Need-sub-put-ones
-sub-put-ones c = omega (arith, kept-held (counted (c .before .before .before .before .before .before .before .before .before .before .before)))
+sub-put-ones c = omega (arith, kept-held (counted (c .before .before .before .before .before .before .before .before .before .before)))
 
 put-ones-requires : tie.Need-put-ones-requires
 put-ones-requires c κs =
-    let s = c .before .before .before .before .before .before .before .before .before .before .before in
-    ones-room (counted s) (s .before .before .before .before .pre .1 .1 .1 .1) (c .before .before .before .before .before .before .before .before .before .put-nbits .ensures) (c .before .before .before .before .before .put-run .ensures .wrote)
+    let w = c .before .before .before .before in
+    let b = w .before .before .before .before in
+    let s = b .before .before in
+    ones-room (counted s) (s .before .before .before .pre .1 .1) (b .put-nbits .ensures) (w .put-words .ensures)
 
 same-length : tie.Need-same-length
 same-length c = search needs
 
 returns : tie.Need-returns
 returns c =
-    let s = c .before .before .before .before .before .before .before .before .before .before .before .before .before .before in
-    component-wrote (counted s) (s .before .before .before .before .pre .1 .1 .1 .1) (c .before .before .before .before .before .before .before .before .before .before .before .before .put-nbits .ensures) (c .before .before .before .before .before .before .before .before .put-run .ensures .wrote)
-    (c .before .before .put-ones .ensures)
+    let w = c .before .before .before .before .before .before .before in
+    let b = w .before .before .before .before in
+    let s = b .before .before in
+    component-wrote (counted s) (s .before .before .before .pre .1 .1) (b .put-nbits .ensures) (w .put-words .ensures) (c .before .before .put-ones .ensures)
 
 pub put-component-spec : {M : Type 1} → statement M
 put-component-spec =
@@ -63,7 +68,7 @@ put-component-spec =
     need-requires
     scalers-requires
     put-nbits-requires
-    put-run-requires
+    put-words-requires
     mul-put-ones
     mul-put-ones-2
     sub-put-ones

@@ -1,10 +1,18 @@
 -- `SliceCoder::code_hq_slice` meets its contract. Assumes nothing.
-use mathlib.Core.Path.{refl}
-use borrow.Author.Needs.{needs}
+use mathlib.Core.Path.{refl, sym, ap, subst}
+use mathlib.Core.List.{List}
+use Prim.Native.Nat.{ℕ, _+_, _≤_}
 use native.Mathlib.Omega.{arith}
+use lib.IntN.{ℤ}
 use lib.ListN.{length}
-use Rattle.picture.specs.HighIndexLaws.{index-most}
-use Rattle.picture.specs.HighSliceLaws.{slice-in, own-index, plan-room, plan-laid}
+use Rattle.laws.specs.Laid.{Lays}
+use Rattle.codewords.specs.Bytes.{toBytes}
+use Rattle.unit.specs.HighQuality.{highBits}
+use Rattle.picture.specs.High.{numbersAt, FewBits, TermsIn, HeldSlice}
+use Rattle.picture.specs.HighIndexLaws.{index-most, own-few}
+use Rattle.picture.specs.HighSliceLaws.{choice-held, plan-room, plan-laid, plan-words}
+use Rattle.picture.specs.NotedLaws.{words-room}
+use borrow.Author.Needs.{needs}
 use Rattle.picture.proofs.slice_coder.SliceCoder.code_hq_slice.Statement.{statement}
 use Rattle.picture.proofs.slice_coder.SliceCoder.code_hq_slice.Tie as tie
 use Rattle.picture.proofs.slice_coder.SliceCoder.code_hq_slice.Reads as reads
@@ -12,36 +20,69 @@ use Rattle.picture.proofs.slice_coder.SliceCoder.code_hq_slice.Lts as l
 use Rattle.picture.proofs.high_index.noted_choice.Reads as noted-choice-reads
 use Rattle.picture.proofs.high_slice.put_hq_slice.Reads as put-hq-slice-reads
 
+-- the choice has few bits
+few : (c : tie.After-noted-choice) → FewBits (c .noted-choice .result)
+few c =
+    let st = c .before .before .before in
+    let a = st .args in
+    own-few (a .work .now) (a .p) (a .t) (a .k) _ (st .pre .0 .arranged) (index-most (a .work .now) (a .p) (a .t) (a .k) (st .pre .0 .terms)) (c .noted-choice .ensures .0)
+
 noted-choice-requires : tie.Need-noted-choice-requires
 noted-choice-requires c κs = search needs
 
 put-hq-slice-requires : tie.Need-put-hq-slice-requires
 put-hq-slice-requires c κs =
-    let st = c .before .before .before in
+    let st = c .before .before .before .before .before .before .before .before .before in
     let a = st .args in
-    let q = c .before .noted-choice in
-    let o = own-index (a .work .now) (a .p) (a .t) (a .k) (q .result) (q .ensures) in
-    let m = index-most (a .work .now) (a .p) (a .t) (a .k) (st .pre .0 .terms) in (
-      slice-in (st .pre .0) (st .pre .1 .0) (omega (arith, o .0, m)),
-      (
-        o .1,
-        (
-          st .pre .0 .terms,
-          plan-room (a .work .now) (a .p) (a .t) (a .k) (q .result .index) (o .0) (a .self .at) (length (a .out .now)) (st .pre .1 .1 .1),
-        ),
-      ),
+    let p = st .pre in
+    let q = c .before .before .before .before .before .before .noted-choice in
+    let i = a .self .words in
+    subst (λ (v : List ℤ). HeldSlice v i (q .result) × (TermsIn (a .t) × (a .self .at + length (toBytes (highBits (a .t .prefix) (a .t .scaler) (q .result .index) (numbersAt v i (q .result)))) ≤ length (a .out .now))))
+    (sym (q .ensures .1)) (
+      choice-held (a .k) i (q .result) (p .0) (p .1 .0) (p .1 .1 .0) (p .1 .1 .1 .0) (q .ensures .0),
+      (p .0 .terms, plan-room (a .k) i (q .result) (p .0) (p .1 .0) (p .1 .1 .0) (p .1 .1 .1 .0) (q .ensures .0) (a .self .at) (length (a .out .now)) (p .1 .1 .1 .1)),
     )
+
+add-t18 : tie.Need-add-t18
+add-t18 c = omega (arith, few (c .before .before .before .before .before .before .before .before .before .before .before) .words)
+
+add-t19 : tie.Need-add-t19
+add-t19 c = omega (arith, few (c .before .before .before .before .before .before .before .before .before .before .before .before) .words)
+
+add-t20 : tie.Need-add-t20
+add-t20 c =
+    let st = c .before .before .before .before .before .before .before .before .before .before .before .before .before .before .before .before in
+    let a = st .args in
+    omega (arith, few (c .before .before .before .before .before .before .before .before .before .before .before .before .before) .words, st .pre .1 .1 .1 .0, words-room (a .work .now) (a .p) (a .t) (a .k) (st .pre .0 .arranged) (st .pre .1 .0), st .pre .0 .small .few, st .pre .0 .small .order)
 
 same-length : tie.Need-same-length
 same-length c = search needs
 
+same-length-2 : tie.Need-same-length-2
+same-length-2 c = search needs
+
 returns : tie.Need-returns
 returns c =
-    let a = c .before .before .before .before .before .before .args in
-    let q = c .before .before .before .before .noted-choice in
-    let o = own-index (a .work .now) (a .p) (a .t) (a .k) (q .result) (q .ensures) in
-    (plan-laid (a .work .now) (a .p) (a .t) (a .k) (q .result .index) (o .0) (c .before .before .put-hq-slice .ensures), (refl, refl))
+    let st = c .before .before .before .before .before .before .before .before .before .before .before .before .before .before .before .before in
+    let a = st .args in
+    let p = st .pre in
+    let q = c .before .before .before .before .before .before .before .before .before .before .before .before .before .noted-choice in
+    let i = a .self .words in
+    let o = c .before .before .before .before .before .before .put-hq-slice in (
+      plan-laid (a .k) i (q .result) (p .0) (p .1 .0) (p .1 .1 .0) (p .1 .1 .1 .0) (q .ensures .0)
+          (subst (λ (v : List ℤ). Lays (a .out .now) (a .self .at) (toBytes (highBits (a .t .prefix) (a .t .scaler) (q .result .index) (numbersAt v i (q .result)))) (o .last .0) (o .result)) (q .ensures .1) (o .ensures)),
+      (refl, (refl, (ap (λ (n : ℕ). i + n) (plan-words (a .k) i (q .result) (p .0) (p .1 .0) (p .1 .1 .0) (p .1 .1 .1 .0) (q .ensures .0)), q .ensures .1))),
+    )
 
 pub code-hq-slice-spec : {M : Type 1} → statement M
 code-hq-slice-spec =
-    tie.close (tie.spec noted-choice-requires put-hq-slice-requires same-length returns)
+    tie.close
+    (tie.spec
+    noted-choice-requires
+    put-hq-slice-requires
+    add-t18
+    add-t19
+    add-t20
+    same-length
+    same-length-2
+    returns)

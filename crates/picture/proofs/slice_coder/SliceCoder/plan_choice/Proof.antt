@@ -1,4 +1,5 @@
 -- `SliceCoder::plan_choice` meets its contract. Assumes nothing.
+use native.Mathlib.Omega.{arith}
 use Rattle.picture.specs.HighPlanLaws.{planned-is}
 use borrow.Author.Needs.{needs}
 use Rattle.picture.proofs.slice_coder.SliceCoder.plan_choice.Statement.{statement}
@@ -15,19 +16,38 @@ needs-of-requires c κs = search needs
 slice-size-requires : tie.Need-slice-size-requires
 slice-size-requires c κs = search needs
 
-add-t7 : tie.Need-add-t7
-add-t7 c = search needs
+add-t10 : tie.Need-add-t10
+add-t10 c = search needs
 
 largest-requires : tie.Need-largest-requires
 largest-requires c κs = search needs
 
+add-t12 : tie.Need-add-t12
+add-t12 c = search needs
+
+add-t13 : tie.Need-add-t13
+add-t13 c = search needs
+
+add-t14 : tie.Need-add-t14
+add-t14 c = search needs
+
 returns : tie.Need-returns
 returns c =
-    let a = c .before .before .before .before .args in
-    let n = c .before .before .before .needs-of in
-    let z = c .before .before .slice-size in
-    planned-is (a .t) (a .c) (a .self) (n .result) (z .result) (c .largest .result) (n .ensures .0) (z .ensures .0) (z .ensures .1) (c .largest .ensures)
+    let a = c .before .before .before .before .before .before .before .before .before .before .before .args in
+    let n = c .before .before .before .before .before .before .before .needs-of in
+    let z = c .before .before .before .before .before .before .slice-size in
+    let l = c .before .before .before .before .largest in
+    planned-is (a .t) (a .c) (a .self) (n .result) (z .result) (l .result) (n .ensures .0) (z .ensures .0) (z .ensures .1) (l .ensures)
 
 pub plan-choice-spec : {M : Type 1} → statement M
 plan-choice-spec =
-    tie.close (tie.spec needs-of-requires slice-size-requires add-t7 largest-requires returns)
+    tie.close
+    (tie.spec
+    needs-of-requires
+    slice-size-requires
+    add-t10
+    largest-requires
+    add-t12
+    add-t13
+    add-t14
+    returns)

@@ -1,0 +1,20 @@
+-- How many numbers slices have. Assumes nothing.
+use Prim.Native.Nat.{ℕ, zero, suc, _+_}
+use Rattle.unit.specs.Slices.{partSize}
+use Rattle.picture.specs.declared.layout.Component.{Component}
+use Rattle.picture.specs.declared.layout.Layout.{Layout}
+use Rattle.picture.specs.Layout.{bandCount, gridIn, bandSize}
+
+-- slice k's, of the first n subbands of a component
+unfoldable pub bandNumbersOf : Layout → Component → ℕ → ℕ → ℕ
+bandNumbersOf l c k zero = 0
+bandNumbersOf l c k (suc n) = bandNumbersOf l c k n + partSize (gridIn l) (bandSize l c n) k
+
+-- of a component
+abbrev pub countOf : Layout → Component → ℕ → ℕ
+countOf l c k = bandNumbersOf l c k (bandCount l)
+
+-- those of the first k slices
+unfoldable pub countTo : Layout → Component → ℕ → ℕ
+countTo l c zero = 0
+countTo l c (suc k) = countTo l c k + countOf l c k
