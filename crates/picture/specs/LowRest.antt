@@ -8,12 +8,17 @@ use lib.IntN.{ℤ}
 use Rattle.picture.specs.declared.layout.Picture.{Picture}
 use Rattle.picture.specs.declared.tally.Tally.{Tally}
 use Rattle.picture.specs.declared.high_index.Trimmed.{Trimmed}
+use Rattle.picture.specs.declared.low_index.Windows.{Windows}
 use Rattle.picture.specs.declared.low_index.First.{First}
 use Rattle.picture.specs.declared.low_index.Rest.{Rest}
 use Rattle.picture.specs.Run.{stripNumbers}
 use Rattle.picture.specs.Tally.{tallyAll, noTally, trimmedOf, trimmedBy}
-use Rattle.picture.specs.Layout.{bandCount, stripOf, restNumbers}
+use Rattle.picture.specs.Layout.{bandCount, windowOf, stripOf, restNumbers}
 use Rattle.picture.specs.Low.{strip0}
+
+-- what slice k has of level 0; the two colours are alike
+abbrev pub windowsOf : Picture → ℕ → Windows
+windowsOf p k = record { luma = windowOf (p .layout) (p .y) 0 k; colour = windowOf (p .layout) (p .c1) 0 k }
 
 -- those of level 0, of luma and of the two colours
 abbrev pub lumaFirst : List ℤ → Picture → ℕ → ℕ → List ℤ

@@ -22,6 +22,7 @@ use Rattle.picture.specs.declared.tally.Tally.{Tally}
 use Rattle.picture.specs.declared.layout.Component.{Component}
 use Rattle.picture.specs.declared.layout.Layout.{Layout}
 use Rattle.picture.specs.declared.layout.Picture.{Picture}
+use Rattle.picture.specs.declared.layout.Window.{Window}
 use Rattle.picture.specs.declared.high_index.Trimmed.{Trimmed}
 use Rattle.picture.specs.declared.low_index.First.{First}
 use Rattle.picture.specs.declared.low_index.Rest.{Rest}
@@ -29,7 +30,7 @@ use Rattle.picture.specs.Run.{numberIn, placeNumbers, rowNumbers, stripN
 use Rattle.picture.specs.RunLaws.{places, rows, row-chunks, rows-chunks, rows-small}
 use Rattle.picture.specs.Tally.{trimmedOf, trimmedBy}
 use Rattle.picture.specs.TallyLaws.{TallyOf, tally-of, tally-keeps, tally-kept, plain-number}
-use Rattle.picture.specs.Layout.{bandCount, startOf, stripOf, restNumbers}
+use Rattle.picture.specs.Layout.{bandCount, bandSize, startOf, windowOf, stripOf, restNumbers}
 use Rattle.picture.specs.LayoutLaws.{no-and, rest-small, firstStrip, bandStrip, bandNumbers, run-length, run-rest, start-next, band-fits}
 use Rattle.picture.specs.Picture.{Arranged, SliceIn}
 use Rattle.picture.specs.Low.{rebuiltIn, lumaIn, colourIn, lowFitsIn}
@@ -149,6 +150,13 @@ module _ (a : ℕ) (w v : List ℤ) (same : (i : ℕ) → a ≤ i → at v i ≡
     rest-behind (suc n) = ap₂ _++_ (rest-behind n) (band-behind n)
 
 -- ---- slices of the same picture
+-- what one has of level 0 is the same for both colours
+pub window-c2 : (p : Picture) (k : ℕ) → Arranged p → windowOf (p .layout) (p .c1) 0 k ≡ windowOf (p .layout) (p .c2) 0 k
+unfolding windowOf bandSize
+window-c2 p k a =
+    let by : ℕ → ℕ → Window = λ x y. windowOf (p .layout) (record { width = x; height = y; coefs = p .c1 .coefs; rebuilt = p .c1 .rebuilt }) 0 k in
+    ap₂ by (sym (a .wide)) (sym (a .high))
+
 -- another index, where the planes are rebuilt
 pub slice-at : {p : Picture} {w : List ℤ} {k q : ℕ} (v : List ℤ) (i : ℕ) → SliceIn p w k q → Small (p .front) (p .end) v → i ≤ 255 → SliceIn p v k i
 slice-at v i s m h = record { arranged = s .arranged; small = m; slice = s .slice; index = h }

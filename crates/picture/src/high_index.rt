@@ -60,8 +60,9 @@ fn trimmed_run(work: &[i64], p: Picture, c: Component, k: u32, q: u32) -> Trimme
     ensures { λ r. ⌜ r ≡ trimmedOf (runOf (now (work .entry)) p c k q) ⌝ }
 {
     let l = p.layout;
-    let first = crate::run::first_tally(work, p.front, p.end, l, c, c, false, k, q);
-    let t = crate::run::rest_tally(work, p.front, p.end, l, c, c, false, k, q, first);
+    let v = crate::layout::window_at(l, c, 0, k);
+    let first = crate::run::first_tally(work, p.front, p.end, l, c, c, false, k, q, v);
+    let t = crate::run::rest_tally(work, p.front, p.end, l, c, c, false, k, q, v, first);
     crate::tally::trimmed_of(t)
 }
 

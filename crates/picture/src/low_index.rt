@@ -4,6 +4,7 @@ use crate::high_index::Range;
 use crate::high_index::Trimmed;
 use crate::layout::Component;
 use crate::layout::Picture;
+use crate::layout::Window;
 use crate::tally::Tally;
 ghost use mathlib.Core.Path.{_≡_};
 ghost use mathlib.Core.Bool.{_&&_};
@@ -13,11 +14,17 @@ ghost use Rattle.unit.specs.Elect.{elect};
 ghost use Rattle.unit.specs.LowDelay.{sliceBytes, lengthBits, roomOf};
 ghost use Rattle.picture.specs.Run.{Small};
 ghost use Rattle.picture.specs.Cost.{noCost, addAll};
-ghost use Rattle.picture.specs.Layout.{bandCount, restNumbers, RunIn};
+ghost use Rattle.picture.specs.Layout.{bandCount, windowOf, restNumbers, RunIn};
 ghost use Rattle.picture.specs.Picture.{slicesIn, SliceIn, Arranged};
 ghost use Rattle.picture.specs.Tally.{trimmedOf};
 ghost use Rattle.picture.specs.Low.{rebuiltIn, lumaIn, colourIn, lowFitsIn, isLast, Tried};
-ghost use Rattle.picture.specs.LowRest.{joinedOf, bitsWith, FirstOf, Known, Joins};
+ghost use Rattle.picture.specs.LowRest.{windowsOf, joinedOf, bitsWith, FirstOf, Known, Joins};
+
+// What a slice has of level 0: of luma, and of each colour.
+pub struct Windows {
+    pub luma: Window,
+    pub colour: Window,
+}
 
 // The tallies of a slice's level-0 numbers, of luma and of the two colours.
 pub struct First {
@@ -97,18 +104,34 @@ pub fn is_last(q: u32) -> u32
     if q == 127 { 1 } else { 0 }
 }
 
+// What slice k has of level 0. The trials hand it down, so that it is worked out once.
+pub fn windows_of(p: Picture, k: u32) -> Windows
+    requires { ⌜ Arranged p × (k < slicesIn p) ⌝ }
+    ensures { λ r. ⌜ r ≡ windowsOf p k ⌝ }
+{
+    let l = p.layout;
+    let y = p.y;
+    let c1 = p.c1;
+    Windows {
+        luma: crate::layout::window_at(l, y, 0, k),
+        colour: crate::layout::window_at(l, c1, 0, k),
+    }
+}
+
 // Slice k's part of the three rebuilt planes, made at index q.
-pub fn rebuild_planes(work: &mut [i64], p: Picture, k: u32, q: u32)
-    requires { ⌜ SliceIn p (now work) k q ⌝ }
+pub fn rebuild_planes(work: &mut [i64], p: Picture, k: u32, q: u32, v: Windows)
+    requires { ⌜ SliceIn p (now work) k q × (v ≡ windowsOf p k) ⌝ }
     ensures { λ _. ⌜ (now (work .exit) ≡ rebuiltIn (now (work .entry)) p k q) × Small (p .front) (p .end) (now (work .exit)) ⌝ }
 {
     let l = p.layout;
     let y = p.y;
     let c1 = p.c1;
     let c2 = p.c2;
-    crate::run::rebuild_run(work, p.front, p.end, l, y, k, q);
-    crate::run::rebuild_run(work, p.front, p.end, l, c1, k, q);
-    crate::run::rebuild_run(work, p.front, p.end, l, c2, k, q);
+    let luma = v.luma;
+    let colour = v.colour;
+    crate::run::rebuild_run(work, p.front, p.end, l, y, k, q, luma);
+    crate::run::rebuild_run(work, p.front, p.end, l, c1, k, q, colour);
+    crate::run::rebuild_run(work, p.front, p.end, l, c2, k, q, colour);
 }
 
 // What luma costs, with room for a run.
@@ -135,17 +158,19 @@ pub fn colour_cost(work: &[i64], p: Picture, k: u32, q: u32, room: u64) -> Cost
 }
 
 // The tallies of slice k's level-0 numbers at index q, where the planes are rebuilt.
-pub fn first_tallies(work: &[i64], p: Picture, k: u32, q: u32) -> First
-    requires { ⌜ SliceIn p (now work) k q ⌝ }
+pub fn first_tallies(work: &[i64], p: Picture, k: u32, q: u32, v: Windows) -> First
+    requires { ⌜ SliceIn p (now work) k q × (v ≡ windowsOf p k) ⌝ }
     ensures { λ r. ⌜ FirstOf (now (work .entry)) p k q r ⌝ }
 {
     let l = p.layout;
     let y = p.y;
     let c1 = p.c1;
     let c2 = p.c2;
+    let luma = v.luma;
+    let colour = v.colour;
     First {
-        luma: crate::run::first_tally(work, p.front, p.end, l, y, y, false, k, q),
-        colour: crate::run::first_tally(work, p.front, p.end, l, c1, c2, true, k, q),
+        luma: crate::run::first_tally(work, p.front, p.end, l, y, y, false, k, q, luma),
+        colour: crate::run::first_tally(work, p.front, p.end, l, c1, c2, true, k, q, colour),
     }
 }
 
@@ -158,8 +183,9 @@ fn rest_run(
     pair: bool,
     k: u32,
     q: u32,
+    v: Window,
 ) -> Trimmed
-    requires { ⌜ RunIn (p .layout) c second (p .front) (p .end) k q (now work) × (c .width * c .height ≤ 67108864) ⌝ }
+    requires { ⌜ RunIn (p .layout) c second (p .front) (p .end) k q (now work) × ((c .width * c .height ≤ 67108864) × (v ≡ windowOf (p .layout) c 0 k)) ⌝ }
     ensures { λ r. ⌜ r ≡ trimmedOf (restNumbers (now (work .entry)) (p .layout) c second pair k q (bandCount (p .layout) - 1)) ⌝ }
 {
     let none = Tally {
@@ -168,22 +194,24 @@ fn rest_run(
         keep: 0,
     };
     let l = p.layout;
-    let t = crate::run::rest_tally(work, p.front, p.end, l, c, second, pair, k, q, none);
+    let t = crate::run::rest_tally(work, p.front, p.end, l, c, second, pair, k, q, v, none);
     crate::tally::trimmed_of(t)
 }
 
 // Slice k's runs of the subbands behind the first at index q. No prediction is in them, so that they do not depend on the rebuilt planes.
-fn rest_of(work: &[i64], p: Picture, k: u32, q: u32) -> Rest
-    requires { ⌜ SliceIn p (now work) k q ⌝ }
+fn rest_of(work: &[i64], p: Picture, k: u32, q: u32, v: Windows) -> Rest
+    requires { ⌜ SliceIn p (now work) k q × (v ≡ windowsOf p k) ⌝ }
     ensures { λ r. ⌜ Known (now (work .entry)) p k r × (r .index ≡ q) ⌝ }
 {
     let y = p.y;
     let c1 = p.c1;
     let c2 = p.c2;
+    let luma = v.luma;
+    let colour = v.colour;
     Rest {
         index: q,
-        luma: rest_run(work, p, y, y, false, k, q),
-        colour: rest_run(work, p, c1, c2, true, k, q),
+        luma: rest_run(work, p, y, y, false, k, q, luma),
+        colour: rest_run(work, p, c1, c2, true, k, q, colour),
     }
 }
 
@@ -241,13 +269,22 @@ fn never_fits(f: First, r: Rest, q: u32, room: u64) -> bool
 
 // Whether slice k takes at most room bits at index q, with the runs of two indices at hand; the runs at q take the place of those on its side where they
 // had to be worked out. The rebuilt planes are left as this index makes them.
-fn fits(work: &mut [i64], p: Picture, room: u64, k: u32, q: u32, low: Rest, high: Rest) -> Trial
-    requires { ⌜ SliceIn p (now work) k q × (Known (now work) p k low × Known (now work) p k high) ⌝ }
+fn fits(
+    work: &mut [i64],
+    p: Picture,
+    room: u64,
+    k: u32,
+    q: u32,
+    v: Windows,
+    low: Rest,
+    high: Rest,
+) -> Trial
+    requires { ⌜ SliceIn p (now work) k q × ((Known (now work) p k low × Known (now work) p k high) × (v ≡ windowsOf p k)) ⌝ }
     ensures { λ r. ⌜ (r .fits ≡ lowFitsIn (now (work .entry)) p room k q) × ((now (work .exit) ≡ rebuiltIn (now (work .entry)) p k q)
         × (Small (p .front) (p .end) (now (work .exit)) × (Known (now (work .exit)) p k (r .low) × Known (now (work .exit)) p k (r .high)))) ⌝ }
 {
-    rebuild_planes(work, p, k, q);
-    let f = first_tallies(work, p, k, q);
+    rebuild_planes(work, p, k, q, v);
+    let f = first_tallies(work, p, k, q, v);
     if surely_fits(f, low, q, room) | surely_fits(f, high, q, room) {
         return Trial {
             fits: true,
@@ -262,7 +299,7 @@ fn fits(work: &mut [i64], p: Picture, room: u64, k: u32, q: u32, low: Rest, high
             high,
         };
     }
-    let r = rest_of(work, p, k, q);
+    let r = rest_of(work, p, k, q, v);
     if bits_with(f, r) <= room {
         Trial {
             fits: true,
@@ -279,13 +316,13 @@ fn fits(work: &mut [i64], p: Picture, room: u64, k: u32, q: u32, low: Rest, high
 }
 
 // Whether slice k takes at most room bits at index q, and its runs there. The rebuilt planes are left as this index makes them.
-fn probe_at(work: &mut [i64], p: Picture, room: u64, k: u32, q: u32) -> Probe
-    requires { ⌜ SliceIn p (now work) k q ⌝ }
+fn probe_at(work: &mut [i64], p: Picture, room: u64, k: u32, q: u32, v: Windows) -> Probe
+    requires { ⌜ SliceIn p (now work) k q × (v ≡ windowsOf p k) ⌝ }
     ensures { λ r. ⌜ (now (work .exit) ≡ rebuiltIn (now (work .entry)) p k q) × (Small (p .front) (p .end) (now (work .exit)) × Known (now (work .exit)) p k (r .rest)) ⌝ }
 {
-    rebuild_planes(work, p, k, q);
-    let f = first_tallies(work, p, k, q);
-    let rest = rest_of(work, p, k, q);
+    rebuild_planes(work, p, k, q, v);
+    let f = first_tallies(work, p, k, q, v);
+    let rest = rest_of(work, p, k, q, v);
     Probe {
         fits: bits_with(f, rest) <= room,
         rest,
@@ -328,11 +365,11 @@ fn widened(step: u32, left: u32) -> u32
 
 // Runs at two indices near the guess g, in widening steps from there down where it fits and up where it does not, until that changes. The election's
 // index does not depend on them.
-fn bracket_at(work: &mut [i64], p: Picture, room: u64, k: u32, g: u32) -> Bracket
-    requires { ⌜ SliceIn p (now work) k 0 × (g ≤ 127) ⌝ }
+fn bracket_at(work: &mut [i64], p: Picture, room: u64, k: u32, g: u32, v: Windows) -> Bracket
+    requires { ⌜ SliceIn p (now work) k 0 × ((g ≤ 127) × (v ≡ windowsOf p k)) ⌝ }
     ensures { λ r. ⌜ Tried p k (now (work .entry)) (now (work .exit)) × (Known (now (work .exit)) p k (r .low) × Known (now (work .exit)) p k (r .high)) ⌝ }
 {
-    let start = probe_at(work, p, room, k, g);
+    let start = probe_at(work, p, room, k, g, v);
     let down = start.fits;
     let mut low = start.rest;
     let mut high = start.rest;
@@ -341,7 +378,7 @@ fn bracket_at(work: &mut [i64], p: Picture, room: u64, k: u32, g: u32) -> Bracke
     let mut left: u32 = 8;
     while left > 0 {
         let next = moved(q, step, down);
-        let t = probe_at(work, p, room, k, next);
+        let t = probe_at(work, p, room, k, next, v);
         let rest = t.rest;
         if t.fits {
             high = rest;
@@ -356,18 +393,18 @@ fn bracket_at(work: &mut [i64], p: Picture, room: u64, k: u32, g: u32) -> Bracke
 }
 
 // The election from 0 to 127: its index, and runs at an index. The bracket begins at the guess g. The last index that was tried need not be the elected one.
-pub fn elect_qindex(work: &mut [i64], p: Picture, room: u64, k: u32, g: u32) -> Elected
-    requires { ⌜ SliceIn p (now work) k 0 × (g ≤ 127) ⌝ }
+pub fn elect_qindex(work: &mut [i64], p: Picture, room: u64, k: u32, g: u32, v: Windows) -> Elected
+    requires { ⌜ SliceIn p (now work) k 0 × ((g ≤ 127) × (v ≡ windowsOf p k)) ⌝ }
     ensures { λ r. ⌜ (r .index ≡ elect 0 127 (lowFitsIn (now (work .entry)) p room k)) × ((r .index ≤ 127)
         × (Tried p k (now (work .entry)) (now (work .exit)) × Known (now (work .exit)) p k (r .rest))) ⌝ }
 {
-    let b = bracket_at(work, p, room, k, g);
+    let b = bracket_at(work, p, room, k, g, v);
     let mut low = b.low;
     let mut high = b.high;
     let mut r = Range { lo: 0, hi: 127 };
     while r.lo < r.hi {
         let mid = crate::high_index::middle(r);
-        let t = fits(work, p, room, k, mid, low, high);
+        let t = fits(work, p, room, k, mid, v, low, high);
         low = t.low;
         high = t.high;
         r = crate::high_index::narrowed(r, mid, t.fits);
@@ -379,14 +416,14 @@ pub fn elect_qindex(work: &mut [i64], p: Picture, room: u64, k: u32, g: u32) -> 
 }
 
 // The runs at index q: those at hand, where they are of this index.
-pub fn rest_at(work: &[i64], p: Picture, k: u32, q: u32, r: Rest) -> Rest
-    requires { ⌜ SliceIn p (now work) k q × Known (now work) p k r ⌝ }
+pub fn rest_at(work: &[i64], p: Picture, k: u32, q: u32, v: Windows, r: Rest) -> Rest
+    requires { ⌜ SliceIn p (now work) k q × (Known (now work) p k r × (v ≡ windowsOf p k)) ⌝ }
     ensures { λ z. ⌜ Known (now (work .entry)) p k z × (z .index ≡ q) ⌝ }
 {
     if r.index == q {
         return r;
     }
-    rest_of(work, p, k, q)
+    rest_of(work, p, k, q, v)
 }
 
 // A guess that is an index of low delay.

@@ -2,6 +2,7 @@
 use crate::cost::Cost;
 use crate::layout::Picture;
 use crate::low_index::Rest;
+use crate::low_index::Windows;
 use crate::put::Put;
 use crate::slice_coder::SliceCoder;
 use codewords::writer::BitWriter;
@@ -14,7 +15,7 @@ ghost use Rattle.codewords.specs.Writer.{Room, Wrote};
 ghost use Rattle.unit.specs.LowDelay.{roomOf, lowBits, keptRuns};
 ghost use Rattle.picture.specs.Run.{Small};
 ghost use Rattle.picture.specs.Picture.{slicesIn, SliceIn};
-ghost use Rattle.picture.specs.LowRest.{Known};
+ghost use Rattle.picture.specs.LowRest.{windowsOf, Known};
 ghost use Rattle.picture.specs.Low.{lumaIn, colourIn, runBits, lowBitsBy, lowRuns, workAt, cutsIn, KeptOf, LowIn, Shorter, CutIn};
 
 // How many numbers are written of luma and of the colours, and their bits.
@@ -65,11 +66,11 @@ fn cut(work: &[i64], p: Picture, room: u64, k: u32, q: u32, y: Cost) -> Kept
 }
 
 // The runs that are written in room bits: all but trailing zeros where that fits, else a cut. The runs behind level 0 are r.
-fn kept_runs(work: &[i64], p: Picture, room: u64, k: u32, q: u32, r: Rest) -> Kept
-    requires { ⌜ SliceIn p (now work) k q × (Known (now work) p k r × (r .index ≡ q)) ⌝ }
+fn kept_runs(work: &[i64], p: Picture, room: u64, k: u32, q: u32, v: Windows, r: Rest) -> Kept
+    requires { ⌜ SliceIn p (now work) k q × ((Known (now work) p k r × (r .index ≡ q)) × (v ≡ windowsOf p k)) ⌝ }
     ensures { λ z. ⌜ KeptOf room (lumaIn (now (work .entry)) p k q) (colourIn (now (work .entry)) p k q) z ⌝ }
 {
-    let f = crate::low_index::first_tallies(work, p, k, q);
+    let f = crate::low_index::first_tallies(work, p, k, q, v);
     let luma = f.luma;
     let luma_rest = r.luma;
     let colour = f.colour;
@@ -156,9 +157,10 @@ pub fn put_ld_slice(
     n: u64,
     k: u32,
     q: u32,
+    v: Windows,
     rest: Rest,
 ) -> usize
-    requires { ⌜ SliceIn p (now work) k q × (((1 ≤ n) × (n ≤ 2 ^ 30)) × ((at + n ≤ length (now out)) × Known (now work) p k rest)) ⌝ }
+    requires { ⌜ SliceIn p (now work) k q × (((1 ≤ n) × (n ≤ 2 ^ 30)) × ((at + n ≤ length (now out)) × (Known (now work) p k rest × (v ≡ windowsOf p k)))) ⌝ }
     ensures { λ r. ⌜ Lays (now (out .entry)) at (toBytes (lowBitsBy (now (work .entry)) p n k q)) (now (out .exit)) r ⌝ }
 {
     let room = crate::low_index::room_of(n);
@@ -168,7 +170,8 @@ pub fn put_ld_slice(
         room,
         k,
         q,
-        crate::low_index::rest_at(work, p, k, q, rest),
+        v,
+        crate::low_index::rest_at(work, p, k, q, v, rest),
     );
     let w = BitWriter {
         at,

@@ -122,12 +122,13 @@ impl SliceCoder {
         let bytes = crate::low_index::slice_bytes(n, crate::low_index::slice_count(p), k);
         let room = crate::low_index::room_of(bytes);
         let g = crate::low_index::guess(self.index);
-        let e = crate::low_index::elect_qindex(work, p, room, k, g);
+        let v = crate::low_index::windows_of(p, k);
+        let e = crate::low_index::elect_qindex(work, p, room, k, g, v);
         let q = e.index;
         let rest = e.rest;
-        crate::low_index::rebuild_planes(work, p, k, q);
+        crate::low_index::rebuild_planes(work, p, k, q, v);
         SliceCoder {
-            at: crate::low_slice::put_ld_slice(out, self.at, work, p, bytes, k, q, rest),
+            at: crate::low_slice::put_ld_slice(out, self.at, work, p, bytes, k, q, v, rest),
             cut_slices: self.cut_slices + crate::low_index::is_last(q),
             largest: self.largest,
             index: q,

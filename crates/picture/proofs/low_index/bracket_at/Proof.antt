@@ -11,21 +11,21 @@ use Rattle.picture.proofs.low_index.bracket_at.Statement.{statement}
 use Rattle.picture.proofs.low_index.bracket_at.Tie as tie
 
 abbrev Inv-loop : tie.InvT-loop
-Inv-loop work₀ p room k g down low₀ high₀ q₀ step₀ left₀ work low high q step left =
+Inv-loop work₀ p room k g v down low₀ high₀ q₀ step₀ left₀ work low high q step left =
     Tried p k work₀ work × ((Known work p k low × Known work p k high) × ((q ≤ 127) × ((1 ≤ step) × (step ≤ 256))))
 
 abbrev μ-loop : tie.MeasureT-loop
-μ-loop work₀ p room k g down low₀ high₀ q₀ step₀ left₀ work low high q step left = left
+μ-loop work₀ p room k g v down low₀ high₀ q₀ step₀ left₀ work low high q step left = left
 
 probe-at-requires : tie.Need-probe-at-requires Inv-loop μ-loop
-probe-at-requires c κs = let h = c .before .pre in slice-at (c .before .args .work .now) (c .before .args .g) (h .0) (h .0 .small) (omega (arith, h .1))
+probe-at-requires c κs = let h = c .before .pre in (slice-at (c .before .args .work .now) (c .before .args .g) (h .0) (h .0 .small) (omega (arith, h .1 .0)), h .1 .1)
 
 loop-holds : tie.Need-loop-holds Inv-loop μ-loop
 loop-holds c =
     let st = c .before .before .before .before .before in
     let t = c .before .before .before .probe-at in
     let d = t .ensures .1 in
-    (tried-none (st .args .p) (st .args .k) (t .last .0) (d .0), ((d .1, d .1), (st .pre .1, (omega arith, omega arith))))
+    (tried-none (st .args .p) (st .args .k) (t .last .0) (d .0), ((d .1, d .1), (st .pre .1 .0, (omega arith, omega arith))))
 
 moved-requires : tie.Need-moved-requires Inv-loop μ-loop
 moved-requires c κs = let v = c .before .loop .inv .1 .1 in (v .0, v .1 .1)
@@ -34,7 +34,8 @@ probe-at-requires-2 : tie.Need-probe-at-requires-2 Inv-loop μ-loop
 probe-at-requires-2 c κs =
     let v = c .before .before .before .loop in
     let m = c .before .moved in
-    slice-at (v .work) (m .result) (c .before .before .before .before .before .before .before .before .before .pre .0) (v .inv .0 .small) (omega (arith, m .ensures))
+    let h = c .before .before .before .before .before .before .before .before .before .pre in
+    (slice-at (v .work) (m .result) (h .0) (v .inv .0 .small) (omega (arith, m .ensures)), h .1 .1)
 
 turns-left-requires : tie.Need-turns-left-requires Inv-loop μ-loop
 turns-left-requires c κs = c .before .before .before .before .before .before .before .loop-test .taken

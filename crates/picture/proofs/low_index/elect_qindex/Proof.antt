@@ -14,11 +14,11 @@ use Rattle.picture.proofs.low_index.elect_qindex.Statement.{statement}
 use Rattle.picture.proofs.low_index.elect_qindex.Tie as tie
 
 abbrev Inv-loop : tie.InvT-loop
-Inv-loop work₀ p room k g low₀ high₀ r₀ work low high r =
+Inv-loop work₀ p room k g v low₀ high₀ r₀ work low high r =
     Halving (lowFitsIn work₀ p room k) 127 r × (Tried p k work₀ work × (Known work p k low × Known work p k high))
 
 abbrev μ-loop : tie.MeasureT-loop
-μ-loop work₀ p room k g low₀ high₀ r₀ work low high r = r .hi - r .lo
+μ-loop work₀ p room k g v low₀ high₀ r₀ work low high r = r .hi - r .lo
 
 bracket-at-requires : tie.Need-bracket-at-requires Inv-loop μ-loop
 bracket-at-requires c κs = c .before .pre
@@ -38,7 +38,8 @@ fits-requires : tie.Need-fits-requires Inv-loop μ-loop
 fits-requires c κs =
     let v = c .before .before .before .before .loop in
     let m = c .before .middle in
-    (slice-at (v .work) (m .result) (c .before .before .before .before .before .before .before .before .before .before .pre .0) (v .inv .1 .0 .small) (omega (arith, halving-middle (v .inv .0) (m .result) (m .ensures))), v .inv .1 .1)
+    let h = c .before .before .before .before .before .before .before .before .before .before .pre in
+    (slice-at (v .work) (m .result) (h .0) (v .inv .1 .0 .small) (omega (arith, halving-middle (v .inv .0) (m .result) (m .ensures))), (v .inv .1 .1, h .1 .1))
 
 narrowed-requires : tie.Need-narrowed-requires Inv-loop μ-loop
 narrowed-requires c κs =

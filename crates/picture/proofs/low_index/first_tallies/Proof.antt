@@ -1,17 +1,16 @@
 -- `low_index::first_tallies` meets its contract. Assumes nothing.
-use Rattle.picture.specs.PictureLaws.{run-pair}
+use mathlib.Core.Path.{ap}
+use Rattle.picture.specs.declared.low_index.Windows.{Windows}
+use Rattle.picture.specs.PictureLaws.{run-y, run-pair}
 use borrow.Author.Needs.{needs}
 use Rattle.picture.proofs.low_index.first_tallies.Statement.{statement}
 use Rattle.picture.proofs.low_index.first_tallies.Tie as tie
-use Rattle.picture.proofs.low_index.first_tallies.Reads as reads
-use Rattle.picture.proofs.low_index.first_tallies.Lts as lts
-use Rattle.picture.proofs.run.first_tally.Reads as first-tally-reads
 
 first-tally-requires : tie.Need-first-tally-requires
-first-tally-requires c κs = search needs
+first-tally-requires c κs = let h = c .before .before .before .before .before .before .pre in (run-y (h .0), (h .0 .arranged .y .area, ap (λ (v : Windows). v .luma) (h .1)))
 
 first-tally-requires-2 : tie.Need-first-tally-requires-2
-first-tally-requires-2 c κs = let h = c .before .before .before .before .before .pre in (run-pair h, h .arranged .c1 .area)
+first-tally-requires-2 c κs = let h = c .before .before .before .before .before .before .before .pre in (run-pair (h .0), (h .0 .arranged .c1 .area, ap (λ (v : Windows). v .colour) (h .1)))
 
 returns : tie.Need-returns
 returns c = search needs

@@ -21,7 +21,7 @@ both : (c : tie.After-first-tallies) → let a = c .before .before .before .befo
 both c =
     let st = c .before .before .before .before .before in
     let r = c .before .before .before .rebuild-planes in
-    (known-rebuilt (r .last .0) (st .args .q) (st .pre .0) (r .ensures .0) (st .pre .1 .0), known-rebuilt (r .last .0) (st .args .q) (st .pre .0) (r .ensures .0) (st .pre .1 .1))
+    (known-rebuilt (r .last .0) (st .args .q) (st .pre .0) (r .ensures .0) (st .pre .1 .0 .0), known-rebuilt (r .last .0) (st .args .q) (st .pre .0) (r .ensures .0) (st .pre .1 .0 .1))
 
 arranged : (c : tie.After-first-tallies) → Arranged (c .before .before .before .before .before .args .p)
 arranged c = c .before .before .before .before .before .pre .0 .arranged

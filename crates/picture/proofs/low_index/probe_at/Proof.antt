@@ -20,7 +20,7 @@ rest-of-requires : tie.Need-rest-of-requires
 rest-of-requires c κs = search needs
 
 bits-with-requires : tie.Need-bits-with-requires
-bits-with-requires c κs = joins-both (c .before .before .first-tallies .ensures) (c .rest-of .ensures .0) (c .before .before .before .before .before .before .before .pre .arranged)
+bits-with-requires c κs = joins-both (c .before .before .first-tallies .ensures) (c .rest-of .ensures .0) (c .before .before .before .before .before .before .before .pre .0 .arranged)
 
 same-length : tie.Need-same-length
 same-length c = search needs

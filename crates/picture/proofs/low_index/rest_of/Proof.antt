@@ -1,17 +1,16 @@
 -- `low_index::rest_of` meets its contract. Assumes nothing.
-use Rattle.picture.specs.PictureLaws.{run-pair}
+use mathlib.Core.Path.{ap}
+use Rattle.picture.specs.declared.low_index.Windows.{Windows}
+use Rattle.picture.specs.PictureLaws.{run-y, run-pair}
 use borrow.Author.Needs.{needs}
 use Rattle.picture.proofs.low_index.rest_of.Statement.{statement}
 use Rattle.picture.proofs.low_index.rest_of.Tie as tie
-use Rattle.picture.proofs.low_index.rest_of.Reads as reads
-use Rattle.picture.proofs.low_index.rest_of.Lts as lts
-use Rattle.picture.proofs.low_index.rest_run.Reads as rest-run-reads
 
 rest-run-requires : tie.Need-rest-run-requires
-rest-run-requires c κs = search needs
+rest-run-requires c κs = let h = c .before .before .before .before .before .pre in (run-y (h .0), (h .0 .arranged .y .area, ap (λ (v : Windows). v .luma) (h .1)))
 
 rest-run-requires-2 : tie.Need-rest-run-requires-2
-rest-run-requires-2 c κs = let h = c .before .before .before .before .pre in (run-pair h, h .arranged .c1 .area)
+rest-run-requires-2 c κs = let h = c .before .before .before .before .before .before .pre in (run-pair (h .0), (h .0 .arranged .c1 .area, ap (λ (v : Windows). v .colour) (h .1)))
 
 returns : tie.Need-returns
 returns c = search needs

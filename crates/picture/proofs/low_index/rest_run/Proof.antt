@@ -3,13 +3,9 @@ use mathlib.Core.Path.{_∙_}
 use Prim.Native.Nat.{_-_}
 use Rattle.picture.specs.Layout.{restNumbers, bandCount}
 use Rattle.picture.specs.TallyLaws.{TallyOf, tally-of, tally-keeps, tally-trimmed}
-use borrow.Author.Needs.{needs}
+use native.Mathlib.Omega.{arith}
 use Rattle.picture.proofs.low_index.rest_run.Statement.{statement}
 use Rattle.picture.proofs.low_index.rest_run.Tie as tie
-use Rattle.picture.proofs.low_index.rest_run.Reads as reads
-use Rattle.picture.proofs.low_index.rest_run.Lts as lts
-use Rattle.picture.proofs.run.rest_tally.Reads as rest-tally-reads
-use Rattle.picture.proofs.tally.trimmed_of.Reads as trimmed-of-reads
 
 -- the tally of the run
 whole : (c : tie.After-rest-tally) → let a = c .before .before .args in
@@ -17,7 +13,9 @@ whole : (c : tie.After-rest-tally) → let a = c .before .before .args in
 whole c = tally-of _ (c .rest-tally .result) (c .rest-tally .ensures)
 
 rest-tally-requires : tie.Need-rest-tally-requires
-rest-tally-requires c κs = search needs
+rest-tally-requires c κs =
+    let h = c .before .pre in
+    (h .0, (record { bits = omega arith; count = omega (arith, h .1 .0) }, h .1 .1))
 
 trimmed-of-requires : tie.Need-trimmed-of-requires
 trimmed-of-requires c κs = tally-keeps (whole c)

@@ -18,10 +18,10 @@ first-tallies-requires : tie.Need-first-tallies-requires
 first-tallies-requires c κs = search needs
 
 joined-requires : tie.Need-joined-requires
-joined-requires c κs = let h = c .before .before .before .before .before .pre in joins-both (c .before .before .before .before .first-tallies .ensures) (h .1 .0) (h .0 .arranged) .0
+joined-requires c κs = let h = c .before .before .before .before .before .pre in joins-both (c .before .before .before .before .first-tallies .ensures) (h .1 .0 .0) (h .0 .arranged) .0
 
 joined-requires-2 : tie.Need-joined-requires-2
-joined-requires-2 c κs = let h = c .before .before .before .before .before .before .pre in joins-both (c .before .before .before .before .before .first-tallies .ensures) (h .1 .0) (h .0 .arranged) .1
+joined-requires-2 c κs = let h = c .before .before .before .before .before .before .pre in joins-both (c .before .before .before .before .before .first-tallies .ensures) (h .1 .0 .0) (h .0 .arranged) .1
 
 add-if1 : tie.Need-add-if1
 add-if1 c =
@@ -29,7 +29,7 @@ add-if1 c =
     let f = c .before .before .before .before .before .before .before .before .first-tallies in
     let y = c .before .before .before .joined in
     let d = c .before .before .joined2 in
-    let j = joins-both (f .ensures) (st .pre .1 .0) (st .pre .0 .arranged) in
+    let j = joins-both (f .ensures) (st .pre .1 .0 .0) (st .pre .0 .arranged) in
     omega (arith, joined-few (f .result .luma) (st .args .r .luma) (y .result) (j .0) (y .ensures), joined-few (f .result .colour) (st .args .r .colour) (d .result) (j .1) (d .ensures))
 
 returns : tie.Need-returns
@@ -41,8 +41,8 @@ returns c =
     let f = c .before .before .before .before .before .before .before .before .before .first-tallies .ensures in
     let y = c .before .before .before .before .joined in
     let d = c .before .before .before .joined2 in
-    let e = y .ensures ∙ luma-whole f (st .pre .1 .0) (st .pre .1 .1) in
-    let g = d .ensures ∙ colour-whole f (st .pre .1 .0) (st .pre .1 .1) in
+    let e = y .ensures ∙ luma-whole f (st .pre .1 .0 .0) (st .pre .1 .0 .1) in
+    let g = d .ensures ∙ colour-whole f (st .pre .1 .0 .0) (st .pre .1 .0 .1) in
     kept-whole (a .room) ys cs (y .result) (d .result) e g (c .if1 .taken)
 
 luma-cost-requires : tie.Need-luma-cost-requires
@@ -57,8 +57,8 @@ cut-requires c κs =
     let f = c .before .before .before .before .before .before .before .before .before .before .first-tallies .ensures in
     let y = c .before .before .before .before .before .joined in
     let d = c .before .before .before .before .joined2 in
-    let e = y .ensures ∙ luma-whole f (st .pre .1 .0) (st .pre .1 .1) in
-    let g = d .ensures ∙ colour-whole f (st .pre .1 .0) (st .pre .1 .1) in
+    let e = y .ensures ∙ luma-whole f (st .pre .1 .0 .0) (st .pre .1 .0 .1) in
+    let g = d .ensures ∙ colour-whole f (st .pre .1 .0 .0) (st .pre .1 .0 .1) in
     (st .pre .0, record { luma = c .luma-cost .ensures; over = not-whole (a .room) ys cs (y .result) (d .result) e g (c .before .if1 .left) })
 
 returns-2 : tie.Need-returns-2

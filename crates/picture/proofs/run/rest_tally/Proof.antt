@@ -25,44 +25,40 @@ mul-bands c = let st = c .before .before in omega (arith, st .pre .0 .layout .de
 add-bands-2 : tie.Need-add-bands-2 Inv-loop μ-loop
 add-bands-2 c = let st = c .before .before in omega (arith, st .pre .0 .layout .depths)
 
-window-at-requires : tie.Need-window-at-requires Inv-loop μ-loop
-window-at-requires c κs = let st = c .before .before in run-window (st .pre .0) 0 (omega arith)
-
 mul-start : tie.Need-mul-start Inv-loop μ-loop
 mul-start c =
-    let st = c .before .before .before .before in
-    omega (arith, window-few (st .pre .0) (c .before .window-at .result) (c .before .window-at .ensures))
+    let st = c .before .before .before in
+    omega (arith, window-few (st .pre .0) (st .args .first) (st .pre .1 .1))
 
 loop-holds : tie.Need-loop-holds Inv-loop μ-loop
 loop-holds c =
-    let st = c .before .before .before .before in
+    let st = c .before .before .before in
     let a = st .args in
-    let v = c .before .window-at in
-    ((omega arith, omega arith), (window-area (a .l) (a .c) (a .k) (v .result) (v .ensures), (window-turn (a .l) (a .c) 0 (a .k) _ (v .ensures), tally-none (a .work .now) (a .l) (a .c) (a .second) (a .pair) (a .k) (a .q) (a .t))))
+    ((omega arith, omega arith), (window-area (a .l) (a .c) (a .k) (a .first) (st .pre .1 .1), (window-turn (a .l) (a .c) 0 (a .k) _ (st .pre .1 .1), tally-none (a .work .now) (a .l) (a .c) (a .second) (a .pair) (a .k) (a .q) (a .t))))
 
 next-window-requires : tie.Need-next-window-requires Inv-loop μ-loop
 next-window-requires c κs =
-    let st = c .before .before .before .before .before .before in
+    let st = c .before .before .before .before .before in
     let v = c .before .loop in
     (run-window (st .pre .0) (v .n) (c .loop-test .taken), v .inv .1 .1 .0)
 
 strip-in-requires : tie.Need-strip-in-requires Inv-loop μ-loop
 strip-in-requires c κs =
-    let st = c .before .before .before .before .before .before .before in
+    let st = c .before .before .before .before .before .before in
     let v = c .before .before .loop in
     (strip-in (st .pre .0) (v .n) (v .start) (c .before .loop-test .taken) (v .inv .1 .0), c .next-window .ensures)
 
 tally-strip-requires : tie.Need-tally-strip-requires Inv-loop μ-loop
 tally-strip-requires c κs =
-    let st = c .before .before .before .before .before .before .before .before in
+    let st = c .before .before .before .before .before .before .before in
     let a = st .args in
     let v = c .before .before .before .loop in
     let s = c .strip-in in
-    tally-ready (a .work .now) (a .l) (a .c) (a .second) (a .pair) (a .k) (a .q) (st .pre .0) (s .result) (v .n) (c .before .before .loop-test .taken) (a .t) (v .r) (v .inv .0 .0) (strip-from (a .l) (a .c) (a .second) (a .pair) (a .k) (a .q) (s .result) (v .n) (v .start) (s .ensures) (v .inv .1 .0)) (v .inv .1 .1 .1) (st .pre .1)
+    tally-ready (a .work .now) (a .l) (a .c) (a .second) (a .pair) (a .k) (a .q) (st .pre .0) (s .result) (v .n) (c .before .before .loop-test .taken) (a .t) (v .r) (v .inv .0 .0) (strip-from (a .l) (a .c) (a .second) (a .pair) (a .k) (a .q) (s .result) (v .n) (v .start) (s .ensures) (v .inv .1 .0)) (v .inv .1 .1 .1) (st .pre .1 .0)
 
 mul-start-2 : tie.Need-mul-start-2 Inv-loop μ-loop
 mul-start-2 c =
-    let st = c .before .before .before .before .before .before .before .before .before .before in
+    let st = c .before .before .before .before .before .before .before .before .before in
     let a = st .args in
     let v = c .before .before .before .before .before .loop in
     let s = c .before .before .strip-in in
@@ -70,21 +66,21 @@ mul-start-2 c =
 
 add-start : tie.Need-add-start Inv-loop μ-loop
 add-start c =
-    let st = c .before .before .before .before .before .before .before .before .before .before in
+    let st = c .before .before .before .before .before .before .before .before .before in
     let a = st .args in
     let v = c .before .before .before .before .before .loop in
     let s = c .before .before .strip-in in
     omega (arith, start-small (a .work .now) (a .l) (a .c) (a .second) (a .pair) (a .k) (a .q) (st .pre .0) (s .result) (v .n) (c .before .before .before .before .loop-test .taken) (v .start) (s .ensures) (v .inv .1 .0))
 
 add-n : tie.Need-add-n Inv-loop μ-loop
-add-n c = omega (arith, c .before .before .before .before .before .before .before .before .before .before .pre .0 .layout .depths, c .before .before .before .before .loop-test .taken)
+add-n c = omega (arith, c .before .before .before .before .before .before .before .before .before .pre .0 .layout .depths, c .before .before .before .before .loop-test .taken)
 
 loop-less : tie.Need-loop-less Inv-loop μ-loop
 loop-less c = omega (arith, c .before .before .before .before .loop-test .taken)
 
 loop-again : tie.Need-loop-again Inv-loop μ-loop
 loop-again c =
-    let st = c .before .before .before .before .before .before .before .before .before .before in
+    let st = c .before .before .before .before .before .before .before .before .before in
     let a = st .args in
     let v = c .before .before .before .before .before .loop in
     let s = c .before .before .strip-in in
@@ -93,7 +89,7 @@ loop-again c =
 
 returns : tie.Need-returns Inv-loop μ-loop
 returns c =
-    let a = c .before .before .before .before .before .before .args in
+    let a = c .before .before .before .before .before .args in
     let v = c .before .loop in
     let e : v .n - 1 ≡ bandCount (a .l) - 1 = omega (arith, v .inv .0, c .loop-test .left) in
     v .inv .1 .1 .1 ∙ ap (λ n. tallyAll (a .t) (restNumbers (a .work .now) (a .l) (a .c) (a .second) (a .pair) (a .k) (a .q) n)) e
@@ -107,7 +103,6 @@ rest-tally-spec =
     add-bands
     mul-bands
     add-bands-2
-    window-at-requires
     mul-start
     loop-holds
     next-window-requires

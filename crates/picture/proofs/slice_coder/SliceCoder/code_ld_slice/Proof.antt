@@ -19,6 +19,7 @@ use Rattle.picture.proofs.low_index.rebuild_planes.Reads as rebuild-pla
 use Rattle.picture.proofs.low_index.room_of.Reads as room-of-reads
 use Rattle.picture.proofs.low_index.slice_bytes.Reads as slice-bytes-reads
 use Rattle.picture.proofs.low_index.slice_count.Reads as slice-count-reads
+use Rattle.picture.proofs.low_index.windows_of.Reads as windows-of-reads
 use Rattle.picture.proofs.low_slice.put_ld_slice.Reads as put-ld-slice-reads
 
 slice-count-requires : tie.Need-slice-count-requires
@@ -33,21 +34,24 @@ room-of-requires c κs = search needs
 guess-requires : tie.Need-guess-requires
 guess-requires c κs = search needs
 
+windows-of-requires : tie.Need-windows-of-requires
+windows-of-requires c κs = search needs
+
 elect-qindex-requires : tie.Need-elect-qindex-requires
 elect-qindex-requires c κs = search needs
 
 rebuild-planes-requires : tie.Need-rebuild-planes-requires
 rebuild-planes-requires c κs =
-    let st = c .before .before .before .before .before .before .before .before .before .before in
+    let st = c .before .before .before .before .before .before .before .before .before .before .before in
     let q = c .before .before .before .elect-qindex in
-    record { arranged = st .pre .0 .arranged; small = q .ensures .1 .1 .0 .small; slice = st .pre .1 .0; index = omega (arith, q .ensures .1 .0) }
+    (record { arranged = st .pre .0 .arranged; small = q .ensures .1 .1 .0 .small; slice = st .pre .1 .0; index = omega (arith, q .ensures .1 .0) }, c .before .before .before .before .before .windows-of .ensures)
 
 put-ld-slice-requires : tie.Need-put-ld-slice-requires
 put-ld-slice-requires c κs =
-    let st = c .before .before .before .before .before .before .before .before .before .before .before .before .before .before in
+    let st = c .before .before .before .before .before .before .before .before .before .before .before .before .before .before .before in
     let a = st .args in
-    let d = c .before .before .before .before .before .before .before .before .before .before .before .before .slice-count in
-    let b = c .before .before .before .before .before .before .before .before .before .before .before .slice-bytes in
+    let d = c .before .before .before .before .before .before .before .before .before .before .before .before .before .slice-count in
+    let b = c .before .before .before .before .before .before .before .before .before .before .before .before .slice-bytes in
     let q = c .before .before .before .before .before .before .before .elect-qindex in
     let v = c .before .before .before .rebuild-planes in
     let h : SliceIn (a .p) (q .last .0) (a .k) (q .result .index) = record { arranged = st .pre .0 .arranged; small = q .ensures .1 .1 .0 .small; slice = st .pre .1 .0; index = omega (arith, q .ensures .1 .0) } in (
@@ -56,7 +60,7 @@ put-ld-slice-requires c κs =
         (b .ensures .1 .0, omega (arith, b .ensures .1 .1, st .pre .0 .few)),
         (
           slice-fits (a .p) (a .n) (a .work .now) (a .k) (d .result) (b .result) (d .ensures .0) (b .ensures .0) (a .self .at) (length (a .out .now)) (b .ensures .1 .0) (st .pre .1 .1 .1),
-          known-rebuilt (v .last .0) (q .result .index) h (v .ensures .0) (q .ensures .1 .1 .1),
+          (known-rebuilt (v .last .0) (q .result .index) h (v .ensures .0) (q .ensures .1 .1 .1), c .before .before .before .before .before .before .before .before .before .windows-of .ensures),
         ),
       ),
     )
@@ -64,9 +68,9 @@ put-ld-slice-requires c κs =
 is-last-requires : tie.Need-is-last-requires
 is-last-requires c κs = search needs
 
-add-t24 : tie.Need-add-t24
-add-t24 c =
-    let st = c .before .before .before .before .before .before .before .before .before .before .before .before .before .before .before .before .before .before .before in
+add-t25 : tie.Need-add-t25
+add-t25 c =
+    let st = c .before .before .before .before .before .before .before .before .before .before .before .before .before .before .before .before .before .before .before .before in
     omega (arith, st .pre .1 .0, st .pre .1 .1 .0, st .pre .0 .arranged .slices, c .before .is-last .ensures, last-small (c .before .before .before .before .before .before .before .before .before .before .before .before .elect-qindex .result .index))
 
 same-length : tie.Need-same-length
@@ -77,11 +81,11 @@ same-length-2 c = search needs
 
 returns : tie.Need-returns
 returns c =
-    let st = c .before .before .before .before .before .before .before .before .before .before .before .before .before .before .before .before .before .before .before in
+    let st = c .before .before .before .before .before .before .before .before .before .before .before .before .before .before .before .before .before .before .before .before in
     let a = st .args in
-    let d = c .before .before .before .before .before .before .before .before .before .before .before .before .before .before .before .before .before .slice-count in
-    let b = c .before .before .before .before .before .before .before .before .before .before .before .before .before .before .before .before .slice-bytes in
-    let r = c .before .before .before .before .before .before .before .before .before .before .before .before .before .before .before .room-of in
+    let d = c .before .before .before .before .before .before .before .before .before .before .before .before .before .before .before .before .before .before .slice-count in
+    let b = c .before .before .before .before .before .before .before .before .before .before .before .before .before .before .before .before .before .slice-bytes in
+    let r = c .before .before .before .before .before .before .before .before .before .before .before .before .before .before .before .before .room-of in
     let q = c .before .before .before .before .before .before .before .before .before .before .before .before .elect-qindex in
     let v = c .before .before .before .before .before .before .before .before .rebuild-planes in
     let e = elects (a .p) (a .n) (a .work .now) (a .k) (d .result) (b .result) (d .ensures .0) (b .ensures .0) (r .result) (q .result .index) (r .ensures .0) (q .ensures .0) (q .ensures .1 .1 .0) (v .ensures .0) in
@@ -96,11 +100,12 @@ code-ld-slice-spec =
     slice-bytes-requires
     room-of-requires
     guess-requires
+    windows-of-requires
     elect-qindex-requires
     rebuild-planes-requires
     put-ld-slice-requires
     is-last-requires
-    add-t24
+    add-t25
     same-length
     same-length-2
     returns)
