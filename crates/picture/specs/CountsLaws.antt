@@ -4,7 +4,6 @@ use mathlib.Core.Bool.{false}
 use mathlib.Core.List.{List}
 use Prim.Native.Nat.{ℕ, zero, suc, _+_, _*_, _-_, _/_, _%_, _≤_, _<_}
 use native.Mathlib.Nat.{add-mul, mul-sub, mul-comm, suc-mul, mul-le-mul-left, mul-le-mul-right, add-sub-of-le, div-add-mod', mod-lt}
-use native.Mathlib.Numerals.{add-one}
 use native.Mathlib.Omega.{arith}
 use native.Mathlib.Decide.{decLe}
 use lib.Arith.{digits-div, digits-mod}
@@ -31,11 +30,6 @@ module _ (w : List ℤ) (l : Layout) (c : Component) (k q : ℕ) where
 
   pub run-count : length (runNumbers w l c c false k q (bandCount l)) ≡ countOf l c k
   run-count = bands-count (bandCount l)
-
--- ---- one more slice
-pub count-next : (l : Layout) (c : Component) (k : ℕ) → countTo l c (k + 1) ≡ countTo l c k + countOf l c k
-unfolding countTo
-count-next l c k = ap (countTo l c) (add-one k)
 
 -- ---- of one subband
 module _ {l : Layout} (h : LayoutIn l) (z : Size) where

@@ -39,7 +39,7 @@ use Rattle.picture.specs.declared.high_index.Terms.{Terms}
 use Rattle.picture.specs.declared.high_plan.Settled.{Settled}
 use Rattle.picture.specs.NumberLaws.{Bands, Holds, numbers-high}
 use Rattle.picture.specs.Picture.{slicesIn, runOf, numbersIn}
-use Rattle.picture.specs.High.{indexBy, planBy, indexIn, planIn, plansIn, highRuns, termsOf, slicesBy, PlanIn, HighIn, Settles, Notes}
+use Rattle.picture.specs.High.{indexBy, planBy, indexIn, planIn, highRuns, termsOf, slicesBy, PlanIn, HighIn, Settles, Notes}
 use Rattle.picture.specs.NotedLaws.{high-work, notes-plan, notes-own, runs-alike}
 use Rattle.picture.specs.Analysed.{isLow, layoutOf, pictureOf, Called, Analysed}
 use Rattle.picture.specs.Encoded.{tooLong, Codes, Coding, CodesAny}

@@ -31,7 +31,7 @@ use Rattle.picture.specs.UnpackedLaws.{unpacked-run, trimmed-again, comp
 use Rattle.picture.specs.Picture.{slicesIn, numbersIn, SliceIn}
 use Rattle.picture.specs.PictureLaws.{run-y, run-c1, run-c2}
 use Rattle.picture.specs.High.{indexIn, planIn, highRuns, threeBits, packedOf, choiceIn, sliceWords, wordsIn, wordsTo, wordsOf, runAt, numbersAt, FewBits, PlanIn, Notes, Held, HeldSlice}
-use Rattle.picture.specs.HighIndexLaws.{choice-few, index-most}
+use Rattle.picture.specs.HighIndexLaws.{choice-few, plan-slice, index-most}
 use Rattle.picture.specs.HighPlanLaws.{words-are}
 use Rattle.picture.specs.NotedLaws.{stand-parts, words-stand, words-end}
 
@@ -172,9 +172,6 @@ module _ (p c q : ℕ) (z : Three (List ℤ)) {o : List ℕ} (at : ℕ) (some : 
             rw (high-parts p c q z) (flush-lays s (wrote-then s a (wrote-then (a .sound) b d)) f refl)
 
 -- ---- a slice as planned
-pub slice-in : {p : Picture} {t : Terms} {w : List ℤ} {k q : ℕ} → PlanIn p t w → k < slicesIn p → q ≤ 255 → SliceIn p w k q
-slice-in h l m = record { arranged = h .arranged; small = h .small; slice = l; index = m }
-
 -- words that stand one behind the other
 parts-stand : (w : List ℤ) (i : ℕ) (xs ys : List ℤ) → wordsAt w i (length (xs ++ ys)) ≡ xs ++ ys
     → (wordsAt w i (length xs) ≡ xs) × (wordsAt w (i + length xs) (length ys) ≡ ys)
@@ -239,7 +236,7 @@ numbers-below : {p : Picture} {t : Terms} {w : List ℤ} {k q : ℕ} → PlanIn 
     → let z = numbersIn w p k q in Below (z .y) × (Below (z .c1) × Below (z .c2))
 unfolding numbersIn
 numbers-below {p} {t} {w} {k} {q} h l m =
-    let s : SliceIn p w k q = slice-in h l m in (
+    let s : SliceIn p w k q = plan-slice h k q l m in (
       run-below (p .layout) (p .y) (p .front) (p .end) k q w (run-y s) (h .plain),
       (run-below (p .layout) (p .c1) (p .front) (p .end) k q w (run-c1 s) (h .plain), run-below (p .layout) (p .c2) (p .front) (p .end) k q w (run-c2 s) (h .plain)),
     )

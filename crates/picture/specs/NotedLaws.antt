@@ -1,9 +1,9 @@
 -- Laws of words packed and choices noted in the work slice: numbers see nothing but the coefficients, and slice after slice is planned. Assumes nothing.
 use mathlib.Core.Path.{_≡_, refl, sym, ap, ap₂, _∙_, subst, fun-ext}
 use mathlib.Core.Bool.{false}
-use mathlib.Core.List.{List, [], _∷_, _++_, append-assoc}
+use mathlib.Core.List.{List, _++_, append-assoc}
 use Prim.Native.Nat.{ℕ, zero, suc, _+_, _*_, _-_, _^_, _≤_, _<_}
-use native.Mathlib.Decide.{ℕ-discrete, decLt}
+use native.Mathlib.Decide.{ℕ-discrete}
 use native.Mathlib.Omega.{arith}
 use lib.IntN.{ℤ, pos, natAbs}
 use lib.ListN.{length, take, drop, set, length-set, length-append, take-append-drop}
@@ -12,7 +12,7 @@ use mir.Syntax.{w64}
 use mir.Val.{toZ, ofZ}
 use mir.Facts.{toZ-ofZ}
 use Rattle.laws.specs.Machine.{fit}
-use Rattle.laws.specs.Rows.{at, span, span-ext}
+use Rattle.laws.specs.Rows.{at, span-ext}
 use Rattle.laws.specs.Chunks.{chunks, chunks-ext, chunks-more}
 use Rattle.laws.specs.Laid.{laid, laid-is, length-laid}
 use Rattle.codewords.specs.Bytes.{toBytes}

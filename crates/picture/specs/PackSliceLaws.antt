@@ -1,14 +1,13 @@
 -- Laws of a slice whose three runs are packed one behind the other: room for each, the choice, and the words. Assumes nothing.
-use mathlib.Core.Path.{_≡_, refl, sym, ap, ap₂, _∙_}
+use mathlib.Core.Path.{_≡_, ap, ap₂, _∙_}
 use mathlib.Core.Bool.{false}
 use mathlib.Core.List.{List, _++_}
-use Prim.Native.Nat.{ℕ, _+_, _-_, _≤_, _<_}
+use Prim.Native.Nat.{ℕ, _+_, _-_, _≤_}
 use native.Mathlib.Omega.{arith}
 use lib.IntN.{ℤ}
 use lib.ListN.{length}
 use Rattle.laws.specs.Rows.{at}
 use Rattle.laws.specs.Laid.{laid, laid-then}
-use Rattle.unit.specs.Trim.{trimmedCost}
 use Rattle.picture.specs.declared.layout.Component.{Component}
 use Rattle.picture.specs.declared.layout.Picture.{Picture}
 use Rattle.picture.specs.declared.high_index.Choice.{Choice}

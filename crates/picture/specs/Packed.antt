@@ -1,7 +1,7 @@
 -- A run of numbers in short form, in words: a number that is not 0 is its own word, 2^52 + n stands for n zeros before one, and zeros at the run's
 -- end have no word. Assumes nothing.
 use mathlib.Core.Path.{_≡_}
-use mathlib.Core.Bool.{Bool, true, false, cond}
+use mathlib.Core.Bool.{true, false, cond}
 use mathlib.Core.List.{List, [], _∷_, _++_}
 use Prim.Native.Nat.{ℕ, zero, suc, _+_, _*_, _-_, _^_, _≤_, _<_}
 use lib.Dec.{leb}

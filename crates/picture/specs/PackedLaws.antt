@@ -41,6 +41,7 @@ use Rattle.picture.specs.LayoutLaws.{bandStrip, bandNumbers, run-chunks,
 use Rattle.picture.specs.Counts.{countOf}
 use Rattle.picture.specs.HighIndexLaws.{band-many}
 use Rattle.picture.specs.CountsLaws.{run-count}
+use Rattle.picture.specs.UnpackedLaws.{packed-most}
 use Rattle.picture.specs.Packed.{mark, zerosWord, packed, packedBits, waiting, due, Single, Packable, Packs}
 
 -- ---- runs one after the other
@@ -84,25 +85,10 @@ pub word-is : (n : ℕ) → n ≤ 2 ^ 30 → toZ w64 mark +ℤ toZ w64 n ≡ pos
 word-is n h = ap₂ _+ℤ_ (toZ-pos w64 {n = mark} (omega arith)) (toZ-pos w64 {n = n} (omega (arith, h)))
 
 -- ---- how much they take
-pub zeros-due : (n : ℕ) → length (zerosWord n) ≡ due n
-unfolding zerosWord
-zeros-due zero = refl
-zeros-due (suc n) = refl
-
 pub some-due : (n : ℕ) → (n ≡ 0 → ⊥) → length (zerosWord n) ≡ 1
 unfolding zerosWord
 some-due zero h = absurd (h refl)
 some-due (suc n) h = refl
-
--- no more words than numbers, with those that are due
-pub packed-most : (n : ℕ) (xs : List ℤ) → length (packed n xs) + due (waiting n xs) ≤ due n + length xs
-unfolding packed waiting
-packed-most n [] = omega arith
-packed-most n (pos zero ∷ xs) = omega (arith, packed-most (suc n) xs)
-packed-most n (pos (suc m) ∷ xs) =
-    omega (arith, packed-most 0 xs, length-append (zerosWord n) (pos (suc m) ∷ packed 0 xs), zeros-due n)
-packed-most n (negsuc m ∷ xs) =
-    omega (arith, packed-most 0 xs, length-append (zerosWord n) (negsuc m ∷ packed 0 xs), zeros-due n)
 
 pub waiting-most : (n : ℕ) (xs : List ℤ) → waiting n xs ≤ n + length xs
 unfolding waiting

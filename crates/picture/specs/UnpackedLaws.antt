@@ -24,7 +24,7 @@ use Rattle.picture.specs.RunLaws.{places, rows, row-chunks, rows-chunks,
 use Rattle.picture.specs.TallyLaws.{bits-more, bits-none, place-plain}
 use Rattle.picture.specs.Layout.{bandCount, stripOf, runNumbers, RunIn}
 use Rattle.picture.specs.LayoutLaws.{bandStrip, bandNumbers, run-chunks, strip-within}
-use Rattle.picture.specs.Packed.{mark, zerosWord, packed, packedBits, wordNumbers, unpacked, due, Below, Single}
+use Rattle.picture.specs.Packed.{mark, zerosWord, packed, packedBits, waiting, wordNumbers, unpacked, due, Below, Single}
 
 -- ---- the numbers of words
 pub unpacked-append : (xs ys : List ℤ) → unpacked (xs ++ ys) ≡ unpacked xs ++ unpacked ys
@@ -129,17 +129,20 @@ unfolding trimmedCost
 packed-cost xs = behind-bits 0 xs
 
 -- ---- words
-zeros-words : (n : ℕ) → length (zerosWord n) ≡ due n
+pub zeros-due : (n : ℕ) → length (zerosWord n) ≡ due n
 unfolding zerosWord
-zeros-words zero = refl
-zeros-words (suc n) = refl
+zeros-due zero = refl
+zeros-due (suc n) = refl
 
-pub packed-most : (n : ℕ) (xs : List ℤ) → length (packed n xs) ≤ due n + length xs
-unfolding packed
+-- no more words than numbers, with those that are due
+pub packed-most : (n : ℕ) (xs : List ℤ) → length (packed n xs) + due (waiting n xs) ≤ due n + length xs
+unfolding packed waiting
 packed-most n [] = omega arith
 packed-most n (pos zero ∷ xs) = omega (arith, packed-most (suc n) xs)
-packed-most n (pos (suc m) ∷ xs) = omega (arith, length-append (zerosWord n) (pos (suc m) ∷ packed 0 xs), zeros-words n, packed-most 0 xs)
-packed-most n (negsuc m ∷ xs) = omega (arith, length-append (zerosWord n) (negsuc m ∷ packed 0 xs), zeros-words n, packed-most 0 xs)
+packed-most n (pos (suc m) ∷ xs) =
+    omega (arith, packed-most 0 xs, length-append (zerosWord n) (pos (suc m) ∷ packed 0 xs), zeros-due n)
+packed-most n (negsuc m ∷ xs) =
+    omega (arith, packed-most 0 xs, length-append (zerosWord n) (negsuc m ∷ packed 0 xs), zeros-due n)
 
 pub packed-few : (xs : List ℤ) → length (packed 0 xs) ≤ length xs
 packed-few xs = omega (arith, packed-most 0 xs)

@@ -39,7 +39,8 @@ pub struct Window {
     pub right: usize,
 }
 
-// A picture in the work slice: its layout and its components. Rebuilt level-0 planes stand before front, coefficients from there to end.
+// A picture in the work slice: its layout and its components. Before front stand rebuilt level-0 planes in low delay and packed runs in high quality,
+// coefficients from there to end.
 pub struct Picture {
     pub layout: Layout,
     pub y: Component,

@@ -10,7 +10,8 @@ use Rattle.laws.specs.Laid.{laid-one}
 use Rattle.codewords.specs.Code.{codeS}
 use Rattle.picture.specs.Packed.{zerosWord}
 use borrow.Author.Needs.{needs}
-use Rattle.picture.specs.PackedLaws.{zeros-due, packs-one}
+use Rattle.picture.specs.UnpackedLaws.{zeros-due}
+use Rattle.picture.specs.PackedLaws.{packs-one}
 use Rattle.picture.proofs.packed.pack_number.Statement.{statement}
 use Rattle.picture.proofs.packed.pack_number.Tie as tie
 
