@@ -13,8 +13,3 @@ bandNumbersOf l c k (suc n) = bandNumbersOf l c k n + partSize (gridIn l) (bandS
 -- of a component
 abbrev pub countOf : Layout → Component → ℕ → ℕ
 countOf l c k = bandNumbersOf l c k (bandCount l)
-
--- those of the first k slices
-unfoldable pub countTo : Layout → Component → ℕ → ℕ
-countTo l c zero = 0
-countTo l c (suc k) = countTo l c k + countOf l c k

@@ -15,7 +15,7 @@ use Rattle.unit.specs.SliceLaws.{bound-rises, bound-most}
 use Rattle.picture.specs.declared.layout.Component.{Component}
 use Rattle.picture.specs.declared.layout.Layout.{Layout}
 use Rattle.picture.specs.Layout.{bandCount, gridIn, bandSize, startOf, runNumbers, LayoutIn}
-use Rattle.picture.specs.Counts.{bandNumbersOf, countOf, countTo}
+use Rattle.picture.specs.Counts.{bandNumbersOf, countOf}
 use Rattle.picture.specs.LayoutLaws.{start-next, band-fits, row-of, bandNumbers, run-none, run-next}
 use Rattle.picture.specs.HighIndexLaws.{band-many}
 
@@ -84,6 +84,11 @@ module _ {l : Layout} (h : LayoutIn l) (z : Size) where
       omega (arith, column-next i (k % l .across), row-most i (suc (k % l .across)) (mod-lt k (h .across .0)), m, mul-comm (z .width) (z .height))
 
 -- ---- of a component
+-- the numbers of its first k slices
+unfoldable pub countTo : Layout → Component → ℕ → ℕ
+countTo l c zero = 0
+countTo l c (suc k) = countTo l c k + countOf l c k
+
 module _ {l : Layout} (h : LayoutIn l) (c : Component) where
   -- what stands before slice k in the first n subbands
   unfoldable ahead : ℕ → ℕ → ℕ

@@ -142,7 +142,7 @@ runAt w i r = unpacked (wordsAt w i (r .words))
 abbrev pub numbersAt : List ℤ → ℕ → Choice → Three (List ℤ)
 numbersAt w i c = record { y = runAt w i (c .y); c1 = runAt w (i + c .y .words) (c .c1); c2 = runAt w (i + c .y .words + c .c1 .words) (c .c2) }
 
--- the half of a range that the search goes on in
+-- the part of a range that the search goes on in
 abbrev pub halfOf : Range → ℕ → Bool → Range
 halfOf r mid true = record { lo = r .lo; hi = mid }
 halfOf r mid false = record { lo = mid + 1; hi = r .hi }
@@ -153,12 +153,6 @@ pub record TermsIn (t : Terms) : Type 0 where
   pub prefix : t .prefix ≤ 255
   pub scaler : (1 ≤ t .scaler) × (t .scaler ≤ 2 ^ 24)
   pub bytes : t .bytes ≤ 2 ^ 30
-
--- a picture whose level 0 is not predicted
-pub record WorkIn (p : Picture) (w : List ℤ) : Type 0 where
-  pub arranged : Arranged p
-  pub plain : p .layout .predicted ≡ false
-  pub small : Small (p .front) (p .end) w
 
 -- slices can be planned
 pub record PlanIn (p : Picture) (t : Terms) (w : List ℤ) : Type 0 where
@@ -234,12 +228,11 @@ pub record Held (w : List ℤ) (i : ℕ) (r : Packed) : Type 0 where
 
 -- a choice
 pub record HeldSlice (w : List ℤ) (i : ℕ) (c : Choice) : Type 0 where
-  pub index : c .index ≤ 255
   pub y : Held w i (c .y)
   pub c1 : Held w (i + c .y .words) (c .c1)
   pub c2 : Held w (i + c .y .words + c .c1 .words) (c .c2)
 
--- without a byte target the choices noted in w are those of all terms of this rate
+-- without a byte target the words and choices in w are those of all terms of this rate
 pub record Standing (s : Settings) (p : Picture) (w : List ℤ) : Type 0 where
   pub notes : isTarget (s .rate) ≡ false → (t : Terms) → t .rate ≡ s .rate → Notes w p t (slicesIn p) w
 

@@ -68,13 +68,14 @@ words-are z q =
     ∙ ap (λ (k : ℕ). length (packed 0 (z q .y)) + k) (length-append (packed 0 (z q .c1)) (packed 0 (z q .c2))))
 
 -- as the code puts it together, by the needs n of choice c
-pub planned-is : (t : Terms) (c : Choice) (b : SliceCoder) (n : Needs) (size most : ℕ) → n ≡ needsBy (c .y .bits) (c .c1 .bits) (c .c2 .bits)
+pub planned-is : (t : Terms) (c : Choice) (b : SliceCoder) (n : Needs) (size most words : ℕ) → n ≡ needsBy (c .y .bits) (c .c1 .bits) (c .c2 .bits)
     → size ≡ 4 + t .prefix + (ceiling (n .y) (t .scaler) * t .scaler + ceiling (n .c1) (t .scaler) * t .scaler + ceiling (n .c2) (t .scaler) * t .scaler)
-    → size ≤ 2 ^ 34 → most ≡ max (max (n .y) (max (n .c1) (n .c2))) (b .largest)
-    → (_≡_ {A = SliceCoder} (record { at = b .at + size; «cut_slices» = b .«cut_slices»; largest = most; index = c .index; words = b .words + wordsOf c }) (plannedBy t c b))
+    → size ≤ 2 ^ 34 → most ≡ max (max (n .y) (max (n .c1) (n .c2))) (b .largest) → words ≡ wordsOf c
+    → (_≡_ {A = SliceCoder} (record { at = b .at + size; «cut_slices» = b .«cut_slices»; largest = most; index = c .index; words = b .words + words }) (plannedBy t c b))
     × (b .at + size ≤ b .at + 2 ^ 34)
-planned-is t c b n size most e d l m = (
-  ap₂ (λ (s m : ℕ). record { at = b .at + s; «cut_slices» = b .«cut_slices»; largest = m; index = c .index; words = b .words + wordsOf c })
+planned-is t c b n size most words e d l m k = (
+  ap (λ (k : ℕ). record { at = b .at + size; «cut_slices» = b .«cut_slices»; largest = most; index = c .index; words = b .words + k }) k
+      ∙ ap₂ (λ (s m : ℕ). record { at = b .at + s; «cut_slices» = b .«cut_slices»; largest = m; index = c .index; words = b .words + wordsOf c })
       (d ∙ ap (λ (n : Needs). 4 + t .prefix + (ceiling (n .y) (t .scaler) * t .scaler + ceiling (n .c1) (t .scaler) * t .scaler + ceiling (n .c2) (t .scaler) * t .scaler)) e)
       (m ∙ ap (λ (n : Needs). max (max (n .y) (max (n .c1) (n .c2))) (b .largest)) e),
   omega (arith, l),

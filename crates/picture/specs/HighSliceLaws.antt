@@ -26,8 +26,8 @@ use Rattle.picture.specs.declared.layout.Picture.{Picture}
 use Rattle.picture.specs.declared.high_index.Choice.{Choice}
 use Rattle.picture.specs.declared.high_index.Terms.{Terms}
 use Rattle.picture.specs.HeadLaws.{room-less, room-first, room-rest}
-use Rattle.picture.specs.Packed.{packed, unpacked, wordsAt, Below}
-use Rattle.picture.specs.UnpackedLaws.{unpacked-run, trimmed-again, component-trimmed, run-below}
+use Rattle.picture.specs.Packed.{packed, unpacked, wordsAt}
+use Rattle.picture.specs.UnpackedLaws.{Below, unpacked-run, trimmed-again, component-trimmed, run-below}
 use Rattle.picture.specs.Picture.{slicesIn, numbersIn, SliceIn}
 use Rattle.picture.specs.PictureLaws.{run-y, run-c1, run-c2}
 use Rattle.picture.specs.High.{indexIn, planIn, highRuns, threeBits, packedOf, choiceIn, sliceWords, wordsIn, wordsTo, wordsOf, runAt, numbersAt, FewBits, PlanIn, Notes, Held, HeldSlice}
@@ -216,7 +216,6 @@ module _ (w : List ℤ) (i q : ℕ) (z : Three (List ℤ)) (e : wordsAt w i (len
       let m = length-append y (c1 ++ c2) in
       let n = length-append c1 c2 in
       record {
-        index = f .index;
         y = held-run w i (z .y) (b .0) y-stands (omega (arith, h, m)) (f .bits .0);
         c1 = held-run w (i + length y) (z .c1) (b .1 .0) (colours-stand .0) (omega (arith, h, m, n)) (f .bits .1 .0);
         c2 = held-run w (i + length y + length c1) (z .c2) (b .1 .1) (colours-stand .1) (omega (arith, h, m, n)) (f .bits .1 .1);

@@ -10,14 +10,11 @@ use lib.Dec.{leb, ltb, eqb, eqb·suc-zero}
 use lib.IntN.{ℤ}
 use lib.ListN.{length, length-append}
 use Rattle.laws.specs.Rows.{at}
-use Rattle.laws.specs.Chunks.{chunks-ext}
 use Rattle.codewords.specs.Code.{codes}
 use Rattle.codewords.specs.CodeLaws.{codes-append}
-use Rattle.quantiser.specs.Quant.{forwardBy}
 use Rattle.unit.specs.Trim.{trimCons, trimmed, bitsOf, trimmedCost}
 use Rattle.unit.specs.TrimLaws.{length-trimmed, bits-most, cost-most}
 use Rattle.unit.specs.TrimLaws as trim
-use Rattle.picture.specs.declared.strip.Strip.{Strip}
 use Rattle.picture.specs.declared.tally.Tally.{Tally}
 use Rattle.picture.specs.declared.layout.Component.{Component}
 use Rattle.picture.specs.declared.layout.Layout.{Layout}
@@ -26,13 +23,15 @@ use Rattle.picture.specs.declared.layout.Window.{Window}
 use Rattle.picture.specs.declared.high_index.Trimmed.{Trimmed}
 use Rattle.picture.specs.declared.low_index.First.{First}
 use Rattle.picture.specs.declared.low_index.Rest.{Rest}
-use Rattle.picture.specs.Run.{numberIn, placeNumbers, rowNumbers, stripNumbers, Small}
-use Rattle.picture.specs.RunLaws.{places, rows, row-chunks, rows-chunks, rows-small}
+use Rattle.picture.specs.Run.{stripNumbers, Small}
+use Rattle.picture.specs.RunLaws.{rows-small}
 use Rattle.picture.specs.Tally.{trimmedOf, trimmedBy}
-use Rattle.picture.specs.TallyLaws.{TallyOf, tally-of, tally-keeps, tally-kept, plain-number}
-use Rattle.picture.specs.Layout.{bandCount, bandSize, startOf, windowOf, stripOf, restNumbers}
-use Rattle.picture.specs.LayoutLaws.{no-and, rest-small, firstStrip, bandStrip, bandNumbers, run-length, run-rest, start-next, band-fits}
+use Rattle.picture.specs.TallyLaws.{TallyOf, tally-of, tally-keeps, tally-kept}
+use Rattle.picture.specs.Layout.{bandCount, bandSize, startOf, windowOf, stripOf, restNumbers, RunIn}
+use Rattle.picture.specs.LayoutLaws.{no-and, rest-small, firstStrip, bandStrip, bandNumbers, run-length, run-rest, start-next, band-fits, strip-within}
+use Rattle.picture.specs.PackedLaws.{between, strip-alike}
 use Rattle.picture.specs.Picture.{Arranged, SliceIn}
+use Rattle.picture.specs.PictureLaws.{run-y, run-pair}
 use Rattle.picture.specs.Low.{rebuiltIn, lumaIn, colourIn, lowFitsIn}
 use Rattle.picture.specs.LowRest.{lumaFirst, colourFirst, lumaRest, colourRest, joinedOf, bitsWith, FirstOf, Known, Joins}
 use Rattle.picture.specs.RisesLaws.{cost-behind, rest-cost-falls}
@@ -114,40 +113,19 @@ joins-by xs ys t r h e a b l m = rw e (record {
   few-behind = (omega (arith, length-trimmed ys), omega (arith, cost-most ys b));
 })
 
--- ---- numbers that are not predicted see nothing of the rebuilt planes
-module _ (a : ℕ) (w v : List ℤ) (same : (i : ℕ) → a ≤ i → at v i ≡ at w i) where
-  module _ (s : Strip) (plain : s .predicted ≡ false) (first : a ≤ s .coefs) (other : a ≤ s .coefs2) where
-    number-behind : (coefs base y x : ℕ) → a ≤ coefs → numberIn v s coefs base y x ≡ numberIn w s coefs base y x
-    number-behind coefs base y x h =
-        sym (plain-number v s coefs base y x plain)
-        ∙ ap (forwardBy (s .factor)) (same (coefs + (y * s .width + x)) (omega arith)) ∙ plain-number w s coefs base y x plain
+-- ---- numbers that are not predicted do not depend on the rebuilt planes
+module _ (a n : ℕ) (w v : List ℤ) (same : (i : ℕ) → a ≤ i → i < n → at v i ≡ at w i) {l : Layout} {c second : Component} {k q : ℕ} {u : List ℤ}
+    (h : RunIn l c second a n k q u) (pair : Bool) where
+  band-behind : (m : ℕ) → suc m < bandCount l → bandNumbers v l c second pair k q (suc m) ≡ bandNumbers w l c second pair k q (suc m)
+  unfolding stripOf
+  band-behind m o =
+      strip-alike a n w v same (bandStrip l c second pair k q (suc m))
+      (between (strip-within h pair (suc m) o) (ap (λ (b : Bool). l .predicted && b) (eqb·suc-zero m) ∙ no-and (l .predicted)))
 
-    place-behind : (y x : ℕ) → placeNumbers v s y x ≡ placeNumbers w s y x
-    unfolding placeNumbers
-    place-behind y x =
-        ap₂ (λ (u z : ℤ). u ∷ cond (s .pair) (z ∷ []) []) (number-behind (s .coefs) (s .rebuilt) y x first)
-        (number-behind (s .coefs2) (s .rebuilt2) y x other)
-
-    row-behind : (y x n : ℕ) → rowNumbers v s y x n ≡ rowNumbers w s y x n
-    row-behind y x n =
-        row-chunks v s y x n ∙ chunks-ext (places v s y x) (places w s y x) n (λ j l. place-behind y (x + j)) ∙ sym (row-chunks w s y x n)
-
-    strip-behind : stripNumbers v s ≡ stripNumbers w s
-    strip-behind =
-        let n : ℕ = s .bottom - s .top in
-        rows-chunks v s (s .top) n
-        ∙ chunks-ext (rows v s (s .top)) (rows w s (s .top)) n (λ j l. row-behind (s .top + j) (s .left) (s .right - s .left))
-        ∙ sym (rows-chunks w s (s .top) n)
-
-  module _ (l : Layout) (c second : Component) (pair : Bool) (k q : ℕ) (first : a ≤ c .coefs) (other : a ≤ second .coefs) where
-    band-behind : (n : ℕ) → bandNumbers v l c second pair k q (suc n) ≡ bandNumbers w l c second pair k q (suc n)
-    unfolding stripOf
-    band-behind n = strip-behind (bandStrip l c second pair k q (suc n)) (ap (λ (b : Bool). l .predicted && b) (eqb·suc-zero n) ∙ no-and (l .predicted)) (omega arith) (omega arith)
-
-    rest-behind : (n : ℕ) → restNumbers v l c second pair k q n ≡ restNumbers w l c second pair k q n
-    unfolding restNumbers
-    rest-behind zero = refl
-    rest-behind (suc n) = ap₂ _++_ (rest-behind n) (band-behind n)
+  rest-behind : (m : ℕ) → m < bandCount l → restNumbers v l c second pair k q m ≡ restNumbers w l c second pair k q m
+  unfolding restNumbers
+  rest-behind zero o = refl
+  rest-behind (suc m) o = ap₂ _++_ (rest-behind m (omega arith)) (band-behind m o)
 
 -- ---- slices of the same picture
 -- what one has of level 0 is the same for both colours
@@ -167,13 +145,14 @@ known-is e h = rw e h
 -- what is known stays known where an index is rebuilt
 pub known-rebuilt : {w : List ℤ} {p : Picture} {k i : ℕ} {r : Rest} (v : List ℤ) (q : ℕ) → SliceIn p w k i → v ≡ rebuiltIn w p k q → Known w p k r → Known v p k r
 known-rebuilt {w} {p} {k} {i} {r} v q s e h =
-    let a = s .arranged in
     let o : SliceIn p w k 0 = slice-at w 0 s (s .small) (omega arith) in
-    let by = rest-behind (p .front) w v (λ i f. ap (λ (u : List ℤ). at u i) e ∙ rebuilt-behind o q i f) (p .layout) in
+    let t : SliceIn p w k (r .index) = slice-at w (r .index) s (s .small) (h .index) in
+    let same : (i : ℕ) → p .front ≤ i → i < p .end → at v i ≡ at w i = λ i f d. ap (λ (u : List ℤ). at u i) e ∙ rebuilt-behind o q i f in
+    let n : ℕ = bandCount (p .layout) - 1 in
     record {
       index = h .index;
-      luma = h .luma ∙ ap trimmedOf (sym (by (p .y) (p .y) false k (r .index) (a .y .coefs .0) (a .y .coefs .0) (bandCount (p .layout) - 1)));
-      colour = h .colour ∙ ap trimmedOf (sym (by (p .c1) (p .c2) true k (r .index) (a .c1 .coefs .0) (a .c2 .coefs .0) (bandCount (p .layout) - 1)));
+      luma = h .luma ∙ ap trimmedOf (sym (rest-behind (p .front) (p .end) w v same (run-y t) false n (omega arith)));
+      colour = h .colour ∙ ap trimmedOf (sym (rest-behind (p .front) (p .end) w v same (run-pair t) true n (omega arith)));
     }
 
 -- ---- what a slice takes, by the tallies of level 0 at index q and the runs r of another index

@@ -1,4 +1,4 @@
--- Laws of words packed and choices noted in the work slice: numbers see nothing but the coefficients, and slice after slice is planned. Assumes nothing.
+-- Laws of words packed and choices noted in the work slice: numbers depend on the coefficients alone, and slice after slice is planned. Assumes nothing.
 use mathlib.Core.Path.{_≡_, refl, sym, ap, ap₂, _∙_, subst, fun-ext}
 use mathlib.Core.Bool.{false}
 use mathlib.Core.List.{List, _++_, append-assoc}
@@ -32,17 +32,23 @@ use Rattle.picture.specs.declared.slice_coder.SliceCoder.{SliceCoder}
 use Rattle.picture.specs.Run.{Small}
 use Rattle.picture.specs.PutLaws.{chunks-split}
 use Rattle.picture.specs.Layout.{RunIn}
-use Rattle.picture.specs.Counts.{countOf, countTo}
-use Rattle.picture.specs.CountsLaws.{run-count, count-within}
+use Rattle.picture.specs.Counts.{countOf}
+use Rattle.picture.specs.CountsLaws.{countTo, run-count, count-within}
 use Rattle.picture.specs.Packed.{packed, wordsAt}
 use Rattle.picture.specs.UnpackedLaws.{packed-few}
 use Rattle.picture.specs.PackedLaws.{laid-behind, run-alike}
 use Rattle.picture.specs.Picture.{slicesIn, runOf, numbersIn, Arranged, SliceIn}
 use Rattle.picture.specs.PictureLaws.{run-y, run-c1, run-c2}
-use Rattle.picture.specs.High.{indexBy, indexIn, planBy, planIn, plansIn, highRuns, choiceBy, choiceIn, sliceWords, wordsIn, wordsTo, sliceCount, noteRun, noteIn, isTarget, FewBits, RunAt, ChoiceAt, WorkIn, PlanIn, PlansOn, PlansTo, HighIn, Settles, Notes, termsOf, slicesBy}
+use Rattle.picture.specs.High.{indexBy, indexIn, planBy, planIn, plansIn, highRuns, choiceBy, choiceIn, sliceWords, wordsIn, wordsTo, sliceCount, noteRun, noteIn, isTarget, FewBits, RunAt, ChoiceAt, PlanIn, PlansOn, PlansTo, HighIn, Settles, Notes, termsOf, slicesBy}
 use Rattle.picture.specs.HighIndexLaws.{index-stands}
 
 -- ---- a picture's numbers, indices, plans and words
+-- a picture of high quality can be read
+pub record WorkIn (p : Picture) (w : List ℤ) : Type 0 where
+  pub arranged : Arranged p
+  pub plain : p .layout .predicted ≡ false
+  pub small : Small (p .front) (p .end) w
+
 pub plan-work : {p : Picture} {t : Terms} {w : List ℤ} → PlanIn p t w → WorkIn p w
 plan-work h = record { arranged = h .arranged; plain = h .plain; small = h .small }
 

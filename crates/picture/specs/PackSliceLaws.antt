@@ -17,7 +17,7 @@ use Rattle.picture.specs.Run.{Small}
 use Rattle.picture.specs.Layout.{RunIn}
 use Rattle.picture.specs.Counts.{countOf}
 use Rattle.picture.specs.Packed.{packed, packedBits, Packs}
-use Rattle.picture.specs.PackedLaws.{laid-behind, run-alike}
+use Rattle.picture.specs.PackedLaws.{laid-behind, run-alike, packingAt}
 use Rattle.picture.specs.UnpackedLaws.{packed-cost}
 use Rattle.picture.specs.Picture.{runOf, numbersIn, SliceIn}
 use Rattle.picture.specs.PictureLaws.{run-y, run-c1, run-c2}
@@ -25,12 +25,8 @@ use Rattle.picture.specs.High.{packedOf, choiceBy, sliceWords, sliceCoun
 use Rattle.picture.specs.HighIndexLaws.{choice-is}
 use Rattle.picture.specs.NotedLaws.{run-words}
 
--- a run begins at place i
-abbrev pub startOf : ℕ → Packing
-startOf i = record { at = i; zeros = 0; bits = 0 }
-
 -- a run packed from place i on
-module _ {w v : List ℤ} {i : ℕ} {r : Packing} {xs : List ℤ} (h : Packs w (startOf i) xs v r) where
+module _ {w v : List ℤ} {i : ℕ} {r : Packing} {xs : List ℤ} (h : Packs w (packingAt i) xs v r) where
   run-packed : _≡_ {A = Packed} (record { words = r .at - i; bits = r .bits }) (packedOf xs)
   run-packed = ap₂ (λ (m n : ℕ). record { words = m; bits = n }) (omega (arith, h .at)) (h .bits ∙ zero-bits ∙ packed-cost xs)
     where
@@ -55,7 +51,7 @@ module _ (p : Picture) (k q from : ℕ) {w : List ℤ} (s : SliceIn p w k q) (pl
   pub y-ready : RunIn (p .layout) (p .y) (p .y) (p .front) (p .end) k q w × ((p .layout .predicted ≡ false) × (from + countOf (p .layout) (p .y) k ≤ p .front))
   y-ready = (run-y s, (plain, omega (arith, room)))
 
-  module _ {v₁ : List ℤ} {r₁ : Packing} (a : Packs w (startOf from) (runOf w p (p .y) k q) v₁ r₁) where
+  module _ {v₁ : List ℤ} {r₁ : Packing} (a : Packs w (packingAt from) (runOf w p (p .y) k q) v₁ r₁) where
     same₁ : (i : ℕ) → p .front ≤ i → at v₁ i ≡ at w i
     same₁ i b =
         ap (λ (v : List ℤ). at v i) (a .work)
@@ -66,7 +62,7 @@ module _ (p : Picture) (k q from : ℕ) {w : List ℤ} (s : SliceIn p w k q) (pl
         → RunIn (p .layout) (p .c1) (p .c1) (p .front) (p .end) k q v₁ × ((p .layout .predicted ≡ false) × (r₁ .at + countOf (p .layout) (p .c1) k ≤ p .front))
     c1-ready t = (run-c1 (slice-of t), (plain, omega (arith, room, a .at, run-words w p (p .y) k q)))
 
-    module _ {v₂ : List ℤ} {r₂ : Packing} (b : Packs v₁ (startOf (r₁ .at)) (runOf v₁ p (p .c1) k q) v₂ r₂) where
+    module _ {v₂ : List ℤ} {r₂ : Packing} (b : Packs v₁ (packingAt (r₁ .at)) (runOf v₁ p (p .c1) k q) v₂ r₂) where
       same₂ : (i : ℕ) → p .front ≤ i → at v₂ i ≡ at w i
       same₂ i h =
           ap (λ (v : List ℤ). at v i) (b .work)
@@ -78,7 +74,7 @@ module _ (p : Picture) (k q from : ℕ) {w : List ℤ} (s : SliceIn p w k q) (pl
           → RunIn (p .layout) (p .c2) (p .c2) (p .front) (p .end) k q v₂ × ((p .layout .predicted ≡ false) × (r₂ .at + countOf (p .layout) (p .c2) k ≤ p .front))
       c2-ready t = (run-c2 (slice-of t), (plain, omega (arith, room, a .at, b .at, run-words w p (p .y) k q, run-words v₁ p (p .c1) k q)))
 
-      module _ {v₃ : List ℤ} {r₃ : Packing} (d : Packs v₂ (startOf (r₂ .at)) (runOf v₂ p (p .c2) k q) v₃ r₃) where
+      module _ {v₃ : List ℤ} {r₃ : Packing} (d : Packs v₂ (packingAt (r₂ .at)) (runOf v₂ p (p .c2) k q) v₃ r₃) where
         first : runOf v₁ p (p .c1) k q ≡ runOf w p (p .c1) k q
         first = run-same v₁ same₁ (p .c1) (run-c1 s)
 

@@ -3,9 +3,9 @@
 use mathlib.Core.Path.{_≡_}
 use mathlib.Core.Bool.{true, false, cond}
 use mathlib.Core.List.{List, [], _∷_, _++_}
-use Prim.Native.Nat.{ℕ, zero, suc, _+_, _*_, _-_, _^_, _≤_, _<_}
+use Prim.Native.Nat.{ℕ, zero, suc, _+_, _*_, _-_, _^_, _≤_}
 use lib.Dec.{leb}
-use lib.IntN.{ℤ, pos, negsuc, natAbs}
+use lib.IntN.{ℤ, pos, negsuc}
 use lib.ListN.{length, take, drop, replicate}
 use Rattle.laws.specs.Laid.{laid}
 use Rattle.codewords.specs.Code.{codeS}
@@ -51,11 +51,6 @@ abbrev pub wordsAt : List ℤ → ℕ → ℕ → List ℤ
 wordsAt w i n = take n (drop i w)
 
 -- ---- conditions and outcomes
--- numbers that are their own words
-unfoldable pub Below : List ℤ → Type 0
-Below [] = Unit {0}
-Below (x ∷ xs) = (natAbs x < mark) × Below xs
-
 -- a strip of one component that is not predicted
 pub record Single (a n : ℕ) (l : List ℤ) (s : Strip) : Type 0 where
   pub plain : Plain a n l s

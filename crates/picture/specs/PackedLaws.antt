@@ -3,7 +3,7 @@
 use mathlib.Core.Path.{_≡_, refl, sym, ap, ap₂, _∙_}
 use mathlib.Core.Bool.{Bool, true, false, cond, _&&_}
 use mathlib.Core.List.{List, [], _∷_, _++_, append-assoc}
-use Prim.Native.Nat.{ℕ, zero, suc, _+_, _*_, _-_, _/_, _^_, _≤_, _<_}
+use Prim.Native.Nat.{ℕ, zero, suc, _+_, _*_, _-_, _^_, _≤_, _<_}
 use native.Mathlib.Nat.{suc-mul, mul-le-mul-right}
 use native.Mathlib.Omega.{arith}
 use lib.Arith.{digits-lt}
@@ -19,10 +19,7 @@ use Rattle.laws.specs.Chunks.{chunks, chunks-ext}
 use Rattle.laws.specs.Laid.{laid, laid-nil, laid-then, length-laid, Lays, lays-start}
 use Rattle.codewords.specs.Code.{codeS}
 use Rattle.codewords.specs.CodeLaws.{length-codeS-zero}
-use Rattle.quantiser.specs.Quant.{cap, forwardBy}
-use Rattle.quantiser.specs.CapLaws.{cap-le}
-use Rattle.quantiser.specs.SignLaws.{abs-signed}
-use Rattle.quantiser.specs.StepLaws.{over-more}
+use Rattle.quantiser.specs.Quant.{forwardBy}
 use Rattle.unit.specs.Slices.{partSize}
 use Rattle.unit.specs.TestLaws.{no-truth}
 use Rattle.unit.specs.Trim.{bitsOf}
@@ -34,14 +31,14 @@ use Rattle.picture.specs.declared.layout.Layout.{Layout}
 use Rattle.picture.specs.declared.packed.Packing.{Packing}
 use Rattle.picture.specs.Run.{planeFrom, numberIn, placeNumbers, rowNumbers, stripNumbers, reach, Small, Within, Inside}
 use Rattle.picture.specs.Cost.{isZero}
-use Rattle.picture.specs.RunLaws.{places, rowAt, rows, row-chunks, rows-chunks, second-none, chunks-length, chunks-small, place-small, row-small, small-set, numbered}
+use Rattle.picture.specs.RunLaws.{places, rowAt, rows, row-chunks, rows-chunks, second-none, chunks-length, chunks-small, place-small, row-small, small-set}
 use Rattle.picture.specs.TallyLaws.{plain-number, place-plain, bits-more, bits-none}
 use Rattle.picture.specs.Layout.{bandCount, gridIn, bandSize, stripOf, runNumbers, RunIn}
 use Rattle.picture.specs.LayoutLaws.{bandStrip, bandNumbers, run-chunks, run-none, run-next, run-turn, run-small, strip-within}
 use Rattle.picture.specs.Counts.{countOf}
 use Rattle.picture.specs.HighIndexLaws.{band-many}
 use Rattle.picture.specs.CountsLaws.{run-count}
-use Rattle.picture.specs.UnpackedLaws.{packed-most}
+use Rattle.picture.specs.UnpackedLaws.{Below, packed-most, place-below, band-single}
 use Rattle.picture.specs.Packed.{mark, zerosWord, packed, packedBits, waiting, due, Single, Packable, Packs}
 
 -- ---- runs one after the other
@@ -224,13 +221,6 @@ packs-small {a} {n} {k} {w} {v} {t} z e b h l m p =
     rw (p .work ∙ ap (laid w (t .at)) d)
     (laid-small (t .at) (zerosWord (t .zeros) ++ (z ∷ [])) m (word-near (t .zeros) z (omega (arith, h .zeros)) b) (omega (arith, q, p .at, ap length d)))
 
--- a number is no larger than its coefficient
-pub forward-most : (f : ℕ) (c : ℤ) → 4 ≤ f → natAbs (forwardBy f c) ≤ natAbs c
-unfolding forwardBy
-forward-most f c h =
-    let m : ℕ = 4 * natAbs c / f in
-    omega (arith, abs-signed c (cap m), cap-le m, over-more (natAbs c) f h)
-
 -- ---- numbers of lists that agree from a to n
 -- a strip that is not predicted and whose coefficients lie there
 pub record Between (a n : ℕ) (s : Strip) : Type 0 where
@@ -284,6 +274,7 @@ module _ (a n : ℕ) (w v : List ℤ) (same : (i : ℕ) → a ≤ i → i < n �
       ∙ chunks-ext (bandNumbers v l c second pair k q) (bandNumbers w l c second pair k q) (bandCount l) (λ m o. strip-alike (bandStrip l c second pair k q m) (lies m o))
       ∙ sym (run-chunks w l c second pair k q (bandCount l))
     where
+      -- at index q, which h does not speak of
       lies : (m : ℕ) → m < bandCount l → Between a n (bandStrip l c second pair k q m)
       lies m o =
           let j = strip-within h pair m o in
@@ -316,14 +307,12 @@ module _ {a n : ℕ} {w : List ℤ} {s : Strip} (h : Single a n w s) (y x : ℕ)
   place-single = place-plain w s y x (h .plain .plain) ∙ ap (λ (r : List ℤ). numberOf ∷ r) (second-none w s y x (h .single))
 
   module _ (i : Inside s y x) {t : Packing} (p : Packable a t 1) (z : ℤ) (e : z ≡ numberOf) where
-    place-near : natAbs z ≤ reach
-    place-near =
-        let q = numbered (h .plain .small) (h .plain .within) i in
-        let k : ℕ = s .coefs + (y * s .width + x) in
-        rw e (omega (arith, forward-most (s .factor) (at w k) (q .factor .0), q .coefficient .bound k (omega arith)))
-
     place-is : z ∷ [] ≡ placeNumbers w s y x
     place-is = ap (λ (z : ℤ). z ∷ []) e ∙ sym place-single
+
+    place-near : natAbs z ≤ reach
+    unfolding Below
+    place-near = let b : Below (z ∷ []) = rw (sym place-is) at (place-below h y x i) in omega (arith, b .0)
 
     pub place-zero : isZero z ≡ true → Packs w t (placeNumbers w s y x) w (record { at = t .at; zeros = t .zeros + 1; bits = t .bits }) × Small a n w
     place-zero d = (packs-same place-is (packs-zero w t z d), h .plain .small)
@@ -394,8 +383,12 @@ module _ {a n : ℕ} {w : List ℤ} {s : Strip} (h : Single a n w s) where
           (packs-same (row-alike a n w v (λ j l o. m j l) s y lies (omega (arith, bottom, lies .high)) ∙ ap (rowAt w s) e) d)
 
 -- ---- runs
+-- a run begins at place i
+abbrev pub packingAt : ℕ → Packing
+packingAt i = record { at = i; zeros = 0; bits = 0 }
+
 -- a run that ends before a can be packed
-pub run-packable : {a e : ℕ} {w : List ℤ} (at k : ℕ) → Small a e w → at + k ≤ a → Packable a (record { at = at; zeros = 0; bits = 0 }) k
+pub run-packable : {a e : ℕ} {w : List ℤ} (at k : ℕ) → Small a e w → at + k ≤ a → Packable a (packingAt at) k
 run-packable {a} at k m h =
     let f : a < 2 ^ 30 = omega (arith, m .order, m .few) in
     record { room = omega (arith, h); zeros = omega (arith, h, f); bits = omega (arith, h, f) }
@@ -417,23 +410,16 @@ module _ (w : List ℤ) (l : Layout) (c : Component) (k q : ℕ) where
   packs-run-none t = packs-same (sym (run-none w l c c false k q)) (packs-none w t)
 
   module _ {a e : ℕ} (h : RunIn l c c a e k q w) (plain : l .predicted ≡ false) where
-    band-single : (n : ℕ) → n < bandCount l → {v : List ℤ} → Small a e v → Single a e v (bandStrip l c c false k q n)
-    unfolding stripOf
-    band-single n b m = record {
-      plain = record { small = m; within = strip-within h false n b; plain = ap (λ (b : Bool). b && eqb n 0) plain };
-      single = refl;
-    }
-
     module _ {t r : Packing} {v : List ℤ} (s : Strip) (n : ℕ) (b : n < bandCount l) (d : s ≡ bandStrip l c c false k q n) (p : Packable a t (countOf l c k))
         (f : Packs w t (runNumbers w l c c false k q n) v r) where
       -- what the next band asks
       pub band-ready : Small a e v → Single a e v s × Packable a r ((s .bottom - s .top) * (s .right - s .left))
       unfolding stripOf
-      band-ready m = rw d (band-single n b m, packable-after p f _ (run-small w l c c false k q n) (band-room n b))
+      band-ready m = rw d (band-single h plain n b m, packable-after p f _ (run-small w l c c false k q n) (band-room n b))
 
       pub band-turn : {u : List ℤ} {g : Packing} → Packs v r (stripNumbers v s) u g → Packs w t (runNumbers w l c c false k q (n + 1)) u g
       band-turn x =
-          let i = band-single n b (h .small) in
+          let i = band-single h plain n b (h .small) in
           let m = packs-behind p f (omega (arith, band-room n b)) in
           packs-same (run-turn w l c c false k q n)
           (packs-then f (packs-same (ap (stripNumbers v) d ∙ strip-alike a e w v (λ j o z. m j o) (bandStrip l c c false k q n) (between (i .plain .within) (i .plain .plain))) x))

@@ -1,12 +1,12 @@
 -- Laws of written words: the bits of one, one more behind others, and room for it. Assumes nothing.
 use mathlib.Core.Path.{_≡_, refl, sym, ap, ap₂, _∙_, subst}
-use mathlib.Core.Bool.{true, false, cond}
+use mathlib.Core.Bool.{true, false}
 use mathlib.Core.List.{List, [], _∷_, _++_, append-nil}
 use Prim.Native.Nat.{ℕ, zero, suc, _+_, _-_, _≤_, _<_}
 use native.Mathlib.Omega.{arith}
 use native.Mathlib.Numerals.{add-one}
-use borrow.Author.Tests.{le-leb, lt-leb, leb-true, leb-false}
-use lib.Dec.{T, leb}
+use borrow.Author.Tests.{leb-true, leb-false}
+use lib.Dec.{T}
 use lib.IntN.{ℤ, pos, negsuc, _-ℤ_}
 use lib.Signed.{leZ}
 use lib.ListN.{length, take, drop, replicate, length-append, length-drop, length-replicate}
@@ -21,7 +21,7 @@ use Rattle.codewords.specs.WriterLaws.{wrote-none, wrote-then, room-after}
 use Rattle.codewords.specs.declared.writer.BitWriter.{BitWriter}
 use Rattle.unit.specs.Trim.{bitsOf}
 use Rattle.picture.specs.Packed.{mark, wordNumbers, unpacked, wordsAt}
-use Rattle.picture.specs.UnpackedLaws.{unpacked-append}
+use Rattle.picture.specs.UnpackedLaws.{unpacked-append, word-more, own-word}
 
 -- ---- the bits of a word
 zeros-codes : (n : ℕ) → codes (replicate n (pos 0)) ≡ ones n
@@ -29,25 +29,16 @@ unfolding codes
 zeros-codes zero = refl
 zeros-codes (suc n) = ap₂ _++_ (code-signed (pos 0) ∙ codeM-zero _) (zeros-codes n)
 
--- by any mark m, so that 2^52 is not computed with
-more-codes : (m n : ℕ) → m ≤ n → codes (cond (leb m n) (replicate (n - m) (pos 0)) (pos n ∷ [])) ≡ ones (n - m)
-more-codes m n h = rw (le-leb m n h) (zeros-codes (n - m))
-
-less-codes : (m n : ℕ) → n < m → codes (cond (leb m n) (replicate (n - m) (pos 0)) (pos n ∷ [])) ≡ codeS (pos n)
-less-codes m n h = rw (lt-leb m n h) (codes-one (pos n))
-
 pub zeros-word : (z : ℤ) → mark ≤ up z → codes (wordNumbers z) ≡ ones (up z - mark)
 unfolding wordNumbers
-zeros-word (pos n) h = more-codes mark n h
+zeros-word (pos n) h = ap codes (word-more mark n (n - mark) h refl) ∙ zeros-codes (n - mark)
 zeros-word (negsuc n) h = absurd (omega arith)
 
 pub zeros-room : {o : List ℕ} {w : BitWriter} (z : ℤ) → mark ≤ up z → Room o w (bitsOf (wordNumbers z)) → Room o w (up z - mark)
 zeros-room z h r = rw (ap length (zeros-word z h) ∙ length-replicate (up z - mark) true) at r
 
 pub number-word : (z : ℤ) → up z < mark → codes (wordNumbers z) ≡ codeS z
-unfolding wordNumbers
-number-word (pos n) h = less-codes mark n h
-number-word (negsuc n) h = codes-one (negsuc n)
+number-word z h = ap codes (own-word z h) ∙ codes-one z
 
 -- ---- a word as the code compares it with a mark m, and takes m from it
 pub over-mark : (m : ℕ) (z : ℤ) → leZ (pos m) z ≡ true → m ≤ up z

@@ -90,7 +90,7 @@ pub record Numbered (l : List ℤ) (s : Strip) (coefs base y x : ℕ) : Type 0 w
   pub column : x < s .width
   pub factor : (4 ≤ s .factor) × (s .factor < 2 ^ 63)
 
--- the work slice: rebuilt planes in its first a numbers, coefficients up to n
+-- the work slice: rebuilt planes or packed runs in its first a numbers, coefficients up to n
 pub record Small (a n : ℕ) (l : List ℤ) : Type 0 where
   pub bound : (k : ℕ) → k < n → natAbs (at l k) ≤ reach
   pub coefficients : (k : ℕ) → a ≤ k → k < n → natAbs (at l k) ≤ most

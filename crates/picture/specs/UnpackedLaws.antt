@@ -10,6 +10,7 @@ use lib.Dec.{leb, eqb}
 use lib.IntN.{ℤ, pos, negsuc, natAbs}
 use lib.ListN.{length, replicate, length-append}
 use Rattle.laws.specs.Chunks.{chunks}
+use Rattle.laws.specs.Integer.{up}
 use Rattle.codewords.specs.Code.{codeS}
 use Rattle.codewords.specs.CodeLaws.{length-codeS-zero}
 use Rattle.quantiser.specs.Quant.{quantFactor, forwardBy, forwardQuant}
@@ -19,12 +20,17 @@ use Rattle.unit.specs.HighQuality.{componentBits}
 use Rattle.picture.specs.declared.strip.Strip.{Strip}
 use Rattle.picture.specs.declared.layout.Component.{Component}
 use Rattle.picture.specs.declared.layout.Layout.{Layout}
-use Rattle.picture.specs.Run.{planeFrom, placeNumbers, rowNumbers, stripNumbers, most, Inside}
+use Rattle.picture.specs.Run.{planeFrom, placeNumbers, rowNumbers, stripNumbers, most, Small, Inside}
 use Rattle.picture.specs.RunLaws.{places, rows, row-chunks, rows-chunks, second-none, place-lt}
 use Rattle.picture.specs.TallyLaws.{bits-more, bits-none, place-plain}
 use Rattle.picture.specs.Layout.{bandCount, stripOf, runNumbers, RunIn}
 use Rattle.picture.specs.LayoutLaws.{bandStrip, bandNumbers, run-chunks, strip-within}
-use Rattle.picture.specs.Packed.{mark, zerosWord, packed, packedBits, waiting, wordNumbers, unpacked, due, Below, Single}
+use Rattle.picture.specs.Packed.{mark, zerosWord, packed, packedBits, waiting, wordNumbers, unpacked, due, Single}
+
+-- numbers that are their own words
+unfoldable pub Below : List ℤ → Type 0
+Below [] = Unit {0}
+Below (x ∷ xs) = (natAbs x < mark) × Below xs
 
 -- ---- the numbers of words
 pub unpacked-append : (xs ys : List ℤ) → unpacked (xs ++ ys) ≡ unpacked xs ++ unpacked ys
@@ -33,8 +39,8 @@ unpacked-append [] ys = refl
 unpacked-append (x ∷ xs) ys =
     ap (λ (r : List ℤ). wordNumbers x ++ r) (unpacked-append xs ys) ∙ sym (append-assoc (wordNumbers x) (unpacked xs) (unpacked ys))
 
--- a word of a number of at least m, and of a smaller one
-word-more : (m n k : ℕ) → m ≤ n → n - m ≡ k → cond (leb m n) (replicate (n - m) (pos 0)) (pos n ∷ []) ≡ replicate k (pos 0)
+-- a word of a number of at least m, and of a smaller one: by any mark m, so that 2^52 is not computed with
+pub word-more : (m n k : ℕ) → m ≤ n → n - m ≡ k → cond (leb m n) (replicate (n - m) (pos 0)) (pos n ∷ []) ≡ replicate k (pos 0)
 word-more m n k h e = rw (le-leb m n h, e)
 
 word-less : (m n : ℕ) → n < m → cond (leb m n) (replicate (n - m) (pos 0)) (pos n ∷ []) ≡ pos n ∷ []
@@ -48,7 +54,7 @@ unfolding zerosWord unpacked wordNumbers
 zeros-numbers zero = refl
 zeros-numbers (suc n) = append-nil (wordNumbers (pos (mark + suc n))) ∙ word-more mark (mark + suc n) (suc n) (omega arith) (omega arith)
 
-own-word : (x : ℤ) → natAbs x < mark → wordNumbers x ≡ x ∷ []
+pub own-word : (x : ℤ) → up x < mark → wordNumbers x ≡ x ∷ []
 unfolding wordNumbers
 own-word (pos n) h = word-less mark n h
 own-word (negsuc n) h = refl
@@ -91,7 +97,7 @@ less-stays m xs = by (trimmed xs)
 
 -- ---- the words of a run say its numbers without trailing zeros
 -- a number that is not 0 behind n zeros
-ends : (n : ℕ) (x : ℤ) (xs ps : List ℤ) → natAbs x < mark → trimmed (x ∷ xs) ≡ x ∷ trimmed xs → unpacked ps ≡ trimmed xs
+ends : (n : ℕ) (x : ℤ) (xs ps : List ℤ) → up x < mark → trimmed (x ∷ xs) ≡ x ∷ trimmed xs → unpacked ps ≡ trimmed xs
     → unpacked (zerosWord n ++ (x ∷ ps)) ≡ trimmed (zeros n ++ (x ∷ xs))
 unfolding unpacked
 ends n x xs ps h e d =
@@ -102,7 +108,7 @@ unfolding packed unpacked Below
 behind n [] b = sym (zeros-only n)
 behind n (pos zero ∷ xs) b = behind (suc n) xs (b .1) ∙ ap trimmed (sym (zero-more n xs))
 behind n (pos (suc m) ∷ xs) b = ends n (pos (suc m)) xs (packed 0 xs) (b .0) (more-stays m xs) (behind 0 xs (b .1))
-behind n (negsuc m ∷ xs) b = ends n (negsuc m) xs (packed 0 xs) (b .0) (less-stays m xs) (behind 0 xs (b .1))
+behind n (negsuc m ∷ xs) b = ends n (negsuc m) xs (packed 0 xs) (omega arith) (less-stays m xs) (behind 0 xs (b .1))
 
 pub unpacked-run : (xs : List ℤ) → Below xs → unpacked (packed 0 xs) ≡ trimmed xs
 unpacked-run xs b = behind 0 xs b
@@ -163,7 +169,7 @@ pub component-trimmed : (c : ℕ) (xs : List ℤ) → componentBits c (trimmed x
 unfolding componentBits trimmedCost
 component-trimmed c xs = rw (trimmed-again xs)
 
--- ---- numbers that are their own words
+-- ---- runs of numbers that are their own words
 pub below-append : (xs ys : List ℤ) → Below xs → Below ys → Below (xs ++ ys)
 unfolding Below
 below-append [] ys a b = b
@@ -180,7 +186,7 @@ number-below i c h = omega (arith, number-size c i)
 
 -- of a strip of one component that is not predicted
 module _ {a e : ℕ} {w : List ℤ} {s : Strip} (h : Single a e w s) where
-  place-below : (y x : ℕ) → Inside s y x → Below (placeNumbers w s y x)
+  pub place-below : (y x : ℕ) → Inside s y x → Below (placeNumbers w s y x)
   unfolding Below
   place-below y x i =
       let p = h .plain in
@@ -199,14 +205,16 @@ module _ {a e : ℕ} {w : List ℤ} {s : Strip} (h : Single a e w s) where
       rw (rows-chunks w s (s .top) (s .bottom - s .top)) (below-chunks (rows w s (s .top)) (s .bottom - s .top)
       (λ k o. row-below (s .top + k) (omega arith) (omega arith)))
 
+-- a slice's strip of a subband of one component
+pub band-single : {l : Layout} {c : Component} {a e k q : ℕ} {w v : List ℤ} → RunIn l c c a e k q w → l .predicted ≡ false → (n : ℕ) → n < bandCount l → Small a e v
+    → Single a e v (bandStrip l c c false k q n)
+unfolding stripOf
+band-single h d n o m = record {
+  plain = record { small = m; within = strip-within h false n o; plain = ap (λ (b : Bool). b && eqb n 0) d };
+  single = refl;
+}
+
 -- of a slice's run of one component
 pub run-below : (l : Layout) (c : Component) (a e k q : ℕ) (w : List ℤ) → RunIn l c c a e k q w → l .predicted ≡ false → Below (runNumbers w l c c false k q (bandCount l))
-unfolding stripOf
 run-below l c a e k q w h d =
-    rw (run-chunks w l c c false k q (bandCount l)) (below-chunks (bandNumbers w l c c false k q) (bandCount l) (λ n o. strip-below (single n o)))
-  where
-    single : (n : ℕ) → n < bandCount l → Single a e w (bandStrip l c c false k q n)
-    single n o = record {
-      plain = record { small = h .small; within = strip-within h false n o; plain = ap (λ (b : Bool). b && eqb n 0) d };
-      single = refl;
-    }
+    rw (run-chunks w l c c false k q (bandCount l)) (below-chunks (bandNumbers w l c c false k q) (bandCount l) (λ n o. strip-below (band-single h d n o (h .small))))

@@ -17,7 +17,7 @@ ghost use Rattle.picture.specs.Run.{Small};
 ghost use Rattle.picture.specs.Layout.{RunIn};
 ghost use Rattle.picture.specs.Picture.{slicesIn, runOf, numbersIn, SliceIn};
 ghost use Rattle.picture.specs.Tally.{trimmedOf};
-ghost use Rattle.picture.specs.High.{fitsBy, indexIn, halfOf, choiceBy, choiceIn, sliceWords, wordsIn, wordsTo, sliceCount, needsBy, noteRun, noteIn, RunAt, FewBits, TermsIn, PlanIn, Notes};
+ghost use Rattle.picture.specs.High.{fitsBy, indexIn, halfOf, choiceBy, choiceIn, sliceWords, wordsIn, wordsTo, sliceCount, wordsOf, needsBy, noteRun, noteIn, RunAt, FewBits, TermsIn, PlanIn, Notes};
 
 // The bytes that the components of a slice need.
 pub struct Needs {
@@ -86,6 +86,17 @@ pub fn needs_of(y: u64, c1: u64, c2: u64) -> Needs
     }
 }
 
+// How many words a choice has.
+pub fn words_of(c: Choice) -> usize
+    requires { ⌜ FewBits c ⌝ }
+    ensures { λ r. ⌜ (r ≡ wordsOf c) × (r ≤ 2 ^ 35) ⌝ }
+{
+    let y = c.y;
+    let c1 = c.c1;
+    let c2 = c.c2;
+    y.words + (c1.words + c2.words)
+}
+
 // The larger one.
 fn larger(a: u64, b: u64) -> u64
     ensures { λ r. ⌜ r ≡ max a b ⌝ }
@@ -145,15 +156,7 @@ fn fits(work: &[i64], p: Picture, t: Terms, share: u64, k: u32, q: u32) -> bool
     fits_with(work, p, t, share, k, q, y)
 }
 
-// The middle of a range, rounded down.
-pub fn middle(r: Range) -> u32
-    requires { ⌜ (r .lo ≤ 255) × (r .hi ≤ 255) ⌝ }
-    ensures { λ m. ⌜ m ≡ (r .lo + r .hi) / 2 ⌝ }
-{
-    (r.lo + r.hi) / 2
-}
-
-// A fit sends the search to the middle and below, and no fit above it.
+// A fit at mid sends the search to mid and below, and no fit above it.
 pub fn narrowed(r: Range, mid: u32, fits: bool) -> Range
     requires { ⌜ mid ≤ 255 ⌝ }
     ensures { λ n. ⌜ n ≡ halfOf r mid fits ⌝ }

@@ -119,7 +119,7 @@ fn plan_again(s: Settings, matrix: &[u32], work: &mut [i64], p: Picture, c: u32)
 }
 
 // While a component needs more than 255 scalers the scaler becomes the largest need over 255, rounded up.
-// The choices of the last pass are noted.
+// The words of the last pass are packed, and its choices noted.
 pub fn settle(s: Settings, matrix: &[u32], work: &mut [i64], p: Picture) -> Settled
     requires { ⌜ HighIn s p (now work) × CanCarry s (now matrix) ⌝ }
     ensures { λ r. ⌜ Settles (now (work .entry)) p s (now (matrix .entry)) r

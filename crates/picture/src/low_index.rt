@@ -8,7 +8,7 @@ use crate::layout::Window;
 use crate::tally::Tally;
 ghost use mathlib.Core.Path.{_≡_};
 ghost use mathlib.Core.Bool.{_&&_};
-ghost use Prim.Native.Nat.{ℕ, _+_, _*_, _-_, _^_, _≤_, _<_};
+ghost use Prim.Native.Nat.{ℕ, _+_, _*_, _-_, _/_, _^_, _≤_, _<_};
 ghost use lib.Dec.{leb, ltb};
 ghost use Rattle.unit.specs.Elect.{elect};
 ghost use Rattle.unit.specs.LowDelay.{sliceBytes, lengthBits, roomOf};
@@ -392,6 +392,14 @@ fn bracket_at(work: &mut [i64], p: Picture, room: u64, k: u32, g: u32, v: Window
     Bracket { low, high }
 }
 
+// The middle of a range, rounded down.
+fn middle(r: Range) -> u32
+    requires { ⌜ (r .lo ≤ 255) × (r .hi ≤ 255) ⌝ }
+    ensures { λ m. ⌜ m ≡ (r .lo + r .hi) / 2 ⌝ }
+{
+    (r.lo + r.hi) / 2
+}
+
 // The election from 0 to 127: its index, and runs at an index. The bracket begins at the guess g. The last index that was tried need not be the elected one.
 pub fn elect_qindex(work: &mut [i64], p: Picture, room: u64, k: u32, g: u32, v: Windows) -> Elected
     requires { ⌜ SliceIn p (now work) k 0 × ((g ≤ 127) × (v ≡ windowsOf p k)) ⌝ }
@@ -403,7 +411,7 @@ pub fn elect_qindex(work: &mut [i64], p: Picture, room: u64, k: u32, g: u32, v: 
     let mut high = b.high;
     let mut r = Range { lo: 0, hi: 127 };
     while r.lo < r.hi {
-        let mid = crate::high_index::middle(r);
+        let mid = middle(r);
         let t = fits(work, p, room, k, mid, v, low, high);
         low = t.low;
         high = t.high;

@@ -50,7 +50,7 @@ impl SliceCoder {
             cut_slices: self.cut_slices,
             largest: crate::high_index::largest(n, self.largest),
             index: c.index,
-            words: self.words + (y.words + (c1.words + c2.words)),
+            words: self.words + crate::high_index::words_of(c),
         }
     }
 
@@ -92,15 +92,12 @@ impl SliceCoder {
             × ((r .words ≡ self .words + length (wordsIn (now (work .entry)) p t k)) × (now (work .exit) ≡ now (work .entry))))) ⌝ }
     {
         let c = crate::high_index::noted_choice(work, p, t, k, self.words);
-        let y = c.y;
-        let c1 = c.c1;
-        let c2 = c.c2;
         SliceCoder {
             at: crate::high_slice::put_hq_slice(out, self.at, work, self.words, c, t),
             cut_slices: self.cut_slices,
             largest: self.largest,
             index: self.index,
-            words: self.words + (y.words + (c1.words + c2.words)),
+            words: self.words + crate::high_index::words_of(c),
         }
     }
 

@@ -1,5 +1,5 @@
 -- `SliceCoder::code_hq_slice` meets its contract. Assumes nothing.
-use mathlib.Core.Path.{refl, sym, ap, subst}
+use mathlib.Core.Path.{refl, sym, ap, _∙_, subst}
 use mathlib.Core.List.{List}
 use Prim.Native.Nat.{ℕ, _+_, _≤_}
 use native.Mathlib.Omega.{arith}
@@ -18,6 +18,7 @@ use Rattle.picture.proofs.slice_coder.SliceCoder.code_hq_slice.Tie as t
 use Rattle.picture.proofs.slice_coder.SliceCoder.code_hq_slice.Reads as reads
 use Rattle.picture.proofs.slice_coder.SliceCoder.code_hq_slice.Lts as lts
 use Rattle.picture.proofs.high_index.noted_choice.Reads as noted-choice-reads
+use Rattle.picture.proofs.high_index.words_of.Reads as words-of-reads
 use Rattle.picture.proofs.high_slice.put_hq_slice.Reads as put-hq-slice-reads
 
 -- the choice has few bits
@@ -32,10 +33,10 @@ noted-choice-requires c κs = search needs
 
 put-hq-slice-requires : tie.Need-put-hq-slice-requires
 put-hq-slice-requires c κs =
-    let st = c .before .before .before .before .before .before .before .before .before in
+    let st = c .before .before .before .before .before .before in
     let a = st .args in
     let p = st .pre in
-    let q = c .before .before .before .before .before .before .noted-choice in
+    let q = c .before .before .before .noted-choice in
     let i = a .self .words in
     subst (λ (v : List ℤ). HeldSlice v i (q .result) × (TermsIn (a .t) × (a .self .at + length (toBytes (highBits (a .t .prefix) (a .t .scaler) (q .result .index) (numbersAt v i (q .result)))) ≤ length (a .out .now))))
     (sym (q .ensures .1)) (
@@ -43,17 +44,14 @@ put-hq-slice-requires c κs =
       (p .0 .terms, plan-room (a .k) i (q .result) (p .0) (p .1 .0) (p .1 .1 .0) (p .1 .1 .1 .0) (q .ensures .0) (a .self .at) (length (a .out .now)) (p .1 .1 .1 .1)),
     )
 
-add-t18 : tie.Need-add-t18
-add-t18 c = omega (arith, few (c .before .before .before .before .before .before .before .before .before .before .before) .words)
+words-of-requires : tie.Need-words-of-requires
+words-of-requires c κs = few (c .before .before .before .before .before .before)
 
-add-t19 : tie.Need-add-t19
-add-t19 c = omega (arith, few (c .before .before .before .before .before .before .before .before .before .before .before .before) .words)
-
-add-t20 : tie.Need-add-t20
-add-t20 c =
-    let st = c .before .before .before .before .before .before .before .before .before .before .before .before .before .before .before .before in
+add-t16 : tie.Need-add-t16
+add-t16 c =
+    let st = c .before .before .before .before .before .before .before .before .before .before .before in
     let a = st .args in
-    omega (arith, few (c .before .before .before .before .before .before .before .before .before .before .before .before .before) .words, st .pre .1 .1 .1 .0, words-room (a .work .now) (a .p) (a .t) (a .k) (st .pre .0 .arranged) (st .pre .1 .0), st .pre .0 .small .few, st .pre .0 .small .order)
+    omega (arith, c .before .words-of .ensures .1, st .pre .1 .1 .1 .0, words-room (a .work .now) (a .p) (a .t) (a .k) (st .pre .0 .arranged) (st .pre .1 .0), st .pre .0 .small .few, st .pre .0 .small .order)
 
 same-length : tie.Need-same-length
 same-length c = search needs
@@ -63,15 +61,16 @@ same-length-2 c = search needs
 
 returns : tie.Need-returns
 returns c =
-    let st = c .before .before .before .before .before .before .before .before .before .before .before .before .before .before .before .before in
+    let st = c .before .before .before .before .before .before .before .before .before .before .before in
     let a = st .args in
     let p = st .pre in
-    let q = c .before .before .before .before .before .before .before .before .before .before .before .before .before .noted-choice in
+    let q = c .before .before .before .before .before .before .before .before .noted-choice in
     let i = a .self .words in
-    let o = c .before .before .before .before .before .before .put-hq-slice in (
+    let o = c .before .before .before .before .put-hq-slice in
+    let n = c .before .words-of .ensures .0 ∙ plan-words (a .k) i (q .result) (p .0) (p .1 .0) (p .1 .1 .0) (p .1 .1 .1 .0) (q .ensures .0) in (
       plan-laid (a .k) i (q .result) (p .0) (p .1 .0) (p .1 .1 .0) (p .1 .1 .1 .0) (q .ensures .0)
           (subst (λ (v : List ℤ). Lays (a .out .now) (a .self .at) (toBytes (highBits (a .t .prefix) (a .t .scaler) (q .result .index) (numbersAt v i (q .result)))) (o .last .0) (o .result)) (q .ensures .1) (o .ensures)),
-      (refl, (refl, (ap (λ (n : ℕ). i + n) (plan-words (a .k) i (q .result) (p .0) (p .1 .0) (p .1 .1 .0) (p .1 .1 .1 .0) (q .ensures .0)), q .ensures .1))),
+      (refl, (refl, (ap (λ (n : ℕ). i + n) n, q .ensures .1))),
     )
 
 pub code-hq-slice-spec : {M : Type 1} → statement M
@@ -80,9 +79,8 @@ code-hq-slice-spec =
     (tie.spec
     noted-choice-requires
     put-hq-slice-requires
-    add-t18
-    add-t19
-    add-t20
+    words-of-requires
+    add-t16
     same-length
     same-length-2
     returns)

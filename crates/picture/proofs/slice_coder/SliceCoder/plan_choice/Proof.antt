@@ -8,6 +8,7 @@ use Rattle.picture.proofs.slice_coder.SliceCoder.plan_choice.Lts as lts
 use Rattle.picture.proofs.high_index.largest.Reads as largest-reads
 use Rattle.picture.proofs.high_index.needs_of.Reads as needs-of-reads
 use Rattle.picture.proofs.high_index.slice_size.Reads as slice-size-reads
+use Rattle.picture.proofs.high_index.words_of.Reads as words-of-reads
 
 needs-of-requires : tie.Need-needs-of-requires
 needs-of-requires c κs = search needs
@@ -21,22 +22,19 @@ add-t10 c = search needs
 largest-requires : tie.Need-largest-requires
 largest-requires c κs = search needs
 
-add-t12 : tie.Need-add-t12
-add-t12 c = search needs
+words-of-requires : tie.Need-words-of-requires
+words-of-requires c κs = search needs
 
 add-t13 : tie.Need-add-t13
 add-t13 c = search needs
 
-add-t14 : tie.Need-add-t14
-add-t14 c = search needs
-
 returns : tie.Need-returns
 returns c =
-    let a = c .before .before .before .before .before .before .before .before .before .before .before .args in
-    let n = c .before .before .before .before .before .before .before .needs-of in
-    let z = c .before .before .before .before .before .before .slice-size in
-    let l = c .before .before .before .before .largest in
-    planned-is (a .t) (a .c) (a .self) (n .result) (z .result) (l .result) (n .ensures .0) (z .ensures .0) (z .ensures .1) (l .ensures)
+    let a = c .before .before .before .before .before .before .before .before .before .args in
+    let n = c .before .before .before .before .before .needs-of in
+    let z = c .before .before .before .before .slice-size in
+    let l = c .before .before .largest in
+    planned-is (a .t) (a .c) (a .self) (n .result) (z .result) (l .result) (c .before .words-of .result) (n .ensures .0) (z .ensures .0) (z .ensures .1) (l .ensures) (c .before .words-of .ensures .0)
 
 pub plan-choice-spec : {M : Type 1} → statement M
 plan-choice-spec =
@@ -46,7 +44,6 @@ plan-choice-spec =
     slice-size-requires
     add-t10
     largest-requires
-    add-t12
+    words-of-requires
     add-t13
-    add-t14
     returns)
