@@ -36,7 +36,7 @@ const HEADING: &str = "\
 Pictures are 4:2:2 of 10 bits, with shapes, texture and noise. Those of 1920x1080 and 3840x2160 have
 120 x 68 slices and a target of 1300000 bytes, the one of 64x64 has 4 x 4 and 2568. Only the picture
 call is timed: in the Rust encode_picture of an encoder made before, in the port vc2_encode_picture
-on slices lent before. Both encode in turn, 9 times or more and until each has run for 0.5 s, but not
+on slices lent before. Both encode in turn, 9 times or more and until each has run for 2 s, but not
 again after 20 s. The least time of each is shown, in seconds for which the processor ran the call, so
 that other load counts little. The units are compared after each call. Ratio: seconds of the Rust
 over those of the port. Lent bytes: the work slice, 8 bytes a number, and an output as long as the
@@ -45,7 +45,7 @@ unit. The speeds to reach, in the last lines, count 1920x1080 and 3840x2160 and 
 /// Each side encodes a picture at least so many times
 const LEAST_RUNS: u32 = 9;
 /// and until all its runs together have taken this,
-const LEAST_TIME: Duration = Duration::from_millis(500);
+const LEAST_TIME: Duration = Duration::from_secs(2);
 /// but not again once they have taken this.
 const MOST_TIME: Duration = Duration::from_secs(20);
 
