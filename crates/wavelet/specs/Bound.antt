@@ -1,5 +1,5 @@
--- How large the analysis of a row makes its numbers, stage by stage, and that it wraps nowhere while every sum stays below 2 ^ 63.
--- Assumes nothing.
+-- How large the analysis of a row makes its numbers, stage by stage, and that every sum and product of it is a number of 64 bits while the
+-- bounds stay below 2 ^ 63: what `wr` does with any other number changes nothing. Assumes nothing.
 use mathlib.Core.Path.{_≡_, refl, sym, ap, _∙_}
 use mathlib.Core.Bool.{Bool, true, false, not, cond}
 use Prim.Native.Nat.{ℕ, zero, suc, _+_, _*_, _-_, _/_, _%_, _^_, _≤_, _<_}
@@ -15,9 +15,8 @@ use lib.Dec.{eqb}
 use borrow.Author.Tests.{eq-eqb, ne-eqb}
 use Rattle.laws.specs.Integer.{abs-add, abs-sub, abs-mul, abs-floor}
 use Rattle.laws.specs.Machine.{fit}
-use Rattle.laws.specs.Wrap.{wrap, wrap-fits}
 use Rattle.laws.specs.Rows.{at}
-use Rattle.wavelet.specs.Lifting.{Stage, place, exact, dot, delta, change, lifted, unlift, analysis}
+use Rattle.wavelet.specs.Lifting.{Keeps, Stage, place, exact, dot, delta, change, lifted, unlift, analysis}
 use Rattle.wavelet.specs.LiftingLaws.{each-filter, place-law, length-lifted, length-analysis, hit, miss}
 use Rattle.wavelet.specs.Filters.{dd97, legall, dd137, haar0, haar1, fidelity, daub97, filterOf, analysisBy}
 
@@ -33,16 +32,16 @@ module _ (t x : ℕ → ℤ) (r : ℕ) (b : (k : ℕ) → natAbs (x k) ≤ r) wh
   dot-abs (suc m) =
       omega (arith, dot-abs m, abs-add (dot exact t x m) (t m *ℤ x m), abs-mul (t m) (x m), mul-le-mul-left (natAbs (t m)) (b m), add-mul (gain t m) (natAbs (t m)) r)
 
-  dot-same : (m : ℕ) → gain t m * r < 2 ^ 63 → dot wrap t x m ≡ dot exact t x m
+  dot-same : (wr : ℤ → ℤ) → Keeps wr → (m : ℕ) → gain t m * r < 2 ^ 63 → dot wr t x m ≡ dot exact t x m
   unfolding dot gain
-  dot-same zero h = refl
-  dot-same (suc m) h =
+  dot-same wr keeps zero h = refl
+  dot-same wr keeps (suc m) h =
       let a = add-mul (gain t m) (natAbs (t m)) r in
       let p = mul-le-mul-left (natAbs (t m)) (b m) in
       let e = abs-mul (t m) (x m) in
-      let w : wrap (t m *ℤ x m) ≡ t m *ℤ x m = wrap-fits (t m *ℤ x m) (fit (t m *ℤ x m) (omega arith)) in
-      rw (dot-same m (omega arith), w)
-      (wrap-fits (dot exact t x m +ℤ t m *ℤ x m) (fit (dot exact t x m +ℤ t m *ℤ x m) (omega (arith, dot-abs m, abs-add (dot exact t x m) (t m *ℤ x m)))))
+      let w : wr (t m *ℤ x m) ≡ t m *ℤ x m = keeps (t m *ℤ x m) (fit (t m *ℤ x m) (omega arith)) in
+      rw (dot-same wr keeps m (omega arith), w)
+      (keeps (dot exact t x m +ℤ t m *ℤ x m) (fit (dot exact t x m +ℤ t m *ℤ x m) (omega (arith, dot-abs m, abs-add (dot exact t x m) (t m *ℤ x m)))))
 
 -- what one stage asks: u and r bound the places that it updates and reads, and v the updated ones
 pub record Enough (st : Stage) (u r v : ℕ) : Type 0 where
@@ -70,13 +69,13 @@ module _ (st : Stage) (xs : List ℤ) (u r v : ℕ) (side : st .to ≤ 1) (even 
       let a = dot-abs (at (st .taps)) (read n) r (read-abs n l) (length (st .taps)) in
       le-trans (abs-add (sum n) (pos (2 ^ st .shift / 2))) (omega (arith, a))
 
-  delta-same : (n : ℕ) → n < length xs / 2 → delta wrap st xs n ≡ delta exact st xs n
+  delta-same : (wr : ℤ → ℤ) → Keeps wr → (n : ℕ) → n < length xs / 2 → delta wr st xs n ≡ delta exact st xs n
   unfolding delta
-  delta-same n l =
+  delta-same wr keeps n l =
       let g = enough .sums in
       rw (
-        dot-same (at (st .taps)) (read n) r (read-abs n l) (length (st .taps)) (omega arith),
-        wrap-fits (sum n +ℤ pos (2 ^ st .shift / 2)) (fit (sum n +ℤ pos (2 ^ st .shift / 2)) (lt-of-le-of-lt (sum-abs n l) g)),
+        dot-same (at (st .taps)) (read n) r (read-abs n l) wr keeps (length (st .taps)) (omega arith),
+        keeps (sum n +ℤ pos (2 ^ st .shift / 2)) (fit (sum n +ℤ pos (2 ^ st .shift / 2)) (lt-of-le-of-lt (sum-abs n l) g)),
       )
 
   delta-abs : (n : ℕ) → n < length xs / 2 → 2 ^ st .shift * natAbs (delta exact st xs n) ≤ gain (at (st .taps)) (length (st .taps)) * r + 2 ^ st .shift / 2 + 2 ^ st .shift
@@ -87,9 +86,9 @@ module _ (st : Stage) (xs : List ℤ) (u r v : ℕ) (side : st .to ≤ 1) (even 
   change-abs true x y = abs-add x y
   change-abs false x y = abs-sub x y
 
-  change-same : (b : Bool) (x y : ℤ) → natAbs (change exact b x y) < 2 ^ 63 → change wrap b x y ≡ change exact b x y
-  change-same true x y h = wrap-fits (x +ℤ y) (fit (x +ℤ y) h)
-  change-same false x y h = wrap-fits (x -ℤ y) (fit (x -ℤ y) h)
+  change-same : (wr : ℤ → ℤ) → Keeps wr → (b : Bool) (x y : ℤ) → natAbs (change exact b x y) < 2 ^ 63 → change wr b x y ≡ change exact b x y
+  change-same wr keeps true x y h = keeps (x +ℤ y) (fit (x +ℤ y) h)
+  change-same wr keeps false x y h = keeps (x -ℤ y) (fit (x -ℤ y) h)
 
   new-abs : (b : Bool) (n : ℕ) → n < length xs / 2 → natAbs (change exact b (at xs (2 * n + st .to)) (delta exact st xs n)) ≤ v
   new-abs b n l =
@@ -100,7 +99,7 @@ module _ (st : Stage) (xs : List ℤ) (u r v : ℕ) (side : st .to ≤ 1) (even 
       omega (arith, mul-add (2 ^ st .shift) (natAbs x) (natAbs d), mul-le-mul-left (2 ^ st .shift) p, delta-abs n l, enough .room) in
       le-trans (change-abs b x d) (le-of-mul-le-mul-left {k = 2 ^ st .shift} q (pow-pos (st .shift)))
 
-  -- the stage keeps to v, and wraps nowhere
+  -- the stage keeps to v, and only numbers of 64 bits come to wr
   pub stage-under : (b : Bool) → Under (st .to) v r (lifted exact st b (length xs / 2) xs)
   stage-under b = record {
     mine = λ k e. by k e (decLt k (length xs));
@@ -119,24 +118,24 @@ module _ (st : Stage) (xs : List ℤ) (u r v : ℕ) (side : st .to ≤ 1) (even 
       by k e (no l) =
           rw (List·getD-eq-default (lifted exact st b (length xs / 2) xs) (pos 0) {n = k} (rw (length-lifted exact st b (length xs / 2) xs) (omega arith))) (omega arith)
 
-  pub stage-same : (b : Bool) → lifted wrap st b (length xs / 2) xs ≡ lifted exact st b (length xs / 2) xs
-  stage-same b =
-      ext-getD (pos 0) (lifted wrap st b h xs) (lifted exact st b h xs) (length-lifted wrap st b h xs ∙ sym (length-lifted exact st b h xs))
-      (λ k l. by k (rw (length-lifted wrap st b h xs) at l) (ℕ-discrete (k % 2) (st .to)))
+  pub stage-same : (wr : ℤ → ℤ) → Keeps wr → (b : Bool) → lifted wr st b (length xs / 2) xs ≡ lifted exact st b (length xs / 2) xs
+  stage-same wr keeps b =
+      ext-getD (pos 0) (lifted wr st b h xs) (lifted exact st b h xs) (length-lifted wr st b h xs ∙ sym (length-lifted exact st b h xs))
+      (λ k l. by k (rw (length-lifted wr st b h xs) at l) (ℕ-discrete (k % 2) (st .to)))
     where
       h : ℕ
       h = length xs / 2
 
-      by : (k : ℕ) → k < length xs → Dec (k % 2 ≡ st .to) → at (lifted wrap st b h xs) k ≡ at (lifted exact st b h xs) k
-      by k l (no g) = miss wrap st b h k xs (λ f. absurd (g f)) ∙ sym (miss exact st b h k xs (λ f. absurd (g f)))
+      by : (k : ℕ) → k < length xs → Dec (k % 2 ≡ st .to) → at (lifted wr st b h xs) k ≡ at (lifted exact st b h xs) k
+      by k l (no g) = miss wr st b h k xs (λ f. absurd (g f)) ∙ sym (miss exact st b h k xs (λ f. absurd (g f)))
       by k l (yes g) =
           let n : ℕ = k / 2 in
           let here : k ≡ 2 * n + st .to = omega arith in
           let inx : 2 * n + st .to < length xs = omega (arith, l) in
           let nx : n < length xs / 2 = omega arith in
-          rw here (hit wrap st b h n xs side nx inx
-          ∙ ap (change wrap b (at xs (2 * n + st .to))) (delta-same n nx)
-          ∙ change-same b (at xs (2 * n + st .to)) (delta exact st xs n) (lt-of-le-of-lt (new-abs b n nx) (enough .fits))
+          rw here (hit wr st b h n xs side nx inx
+          ∙ ap (change wr b (at xs (2 * n + st .to))) (delta-same wr keeps n nx)
+          ∙ change-same wr keeps b (at xs (2 * n + st .to)) (delta exact st xs n) (lt-of-le-of-lt (new-abs b n nx) (enough .fits))
           ∙ sym (hit exact st b h n xs side nx inx))
 
 -- ---- from stage to stage, the last one first. vs: a bound for each stage, on the places that it updates
@@ -151,17 +150,17 @@ Steps M [] vs = Unit {0}
 Steps M (st ∷ ss) [] = ⊥
 Steps M (st ∷ ss) (v ∷ vs) = (st .to ≤ 1) × (Enough st (reach M ss vs (st .to)) (reach M ss vs (1 - st .to)) v × Steps M ss vs)
 
--- an analysis that does not wrap, and how large it leaves its numbers
-pub record Grown (M : ℕ) (ss : List Stage) (vs : List ℕ) (xs : List ℤ) : Type 0 where
-  pub same : analysis wrap ss xs ≡ analysis exact ss xs
+-- an analysis to which wr does nothing, and how large it leaves its numbers
+pub record Grown (wr : ℤ → ℤ) (M : ℕ) (ss : List Stage) (vs : List ℕ) (xs : List ℤ) : Type 0 where
+  pub same : analysis wr ss xs ≡ analysis exact ss xs
   pub under : (k : ℕ) → natAbs (at (analysis exact ss xs) k) ≤ reach M ss vs (k % 2)
 
-pub all-stages : (M : ℕ) (ss : List Stage) (vs : List ℕ) → Steps M ss vs → (xs : List ℤ) → length xs % 2 ≡ 0 → ((k : ℕ) → natAbs (at xs k) ≤ M) → Grown M ss vs xs
+pub all-stages : (wr : ℤ → ℤ) → Keeps wr → (M : ℕ) (ss : List Stage) (vs : List ℕ) → Steps M ss vs → (xs : List ℤ) → length xs % 2 ≡ 0 → ((k : ℕ) → natAbs (at xs k) ≤ M) → Grown wr M ss vs xs
 unfolding analysis
-all-stages M [] vs t xs l b = record { same = refl; under = b }
-all-stages M (st ∷ ss) [] t xs l b = absurd t
-all-stages M (st ∷ ss) (v ∷ vs) t xs l b =
-    let g = all-stages M ss vs (t .1 .1) xs l b in
+all-stages wr keeps M [] vs t xs l b = record { same = refl; under = b }
+all-stages wr keeps M (st ∷ ss) [] t xs l b = absurd t
+all-stages wr keeps M (st ∷ ss) (v ∷ vs) t xs l b =
+    let g = all-stages wr keeps M ss vs (t .1 .1) xs l b in
     let ys = analysis exact ss xs in
     let i : length ys % 2 ≡ 0 = rw (length-analysis exact ss xs) l in
     let r = reach M ss vs in
@@ -171,7 +170,7 @@ all-stages M (st ∷ ss) (v ∷ vs) t xs l b =
     } in
     let z = stage-under st ys (r (st .to)) (r (1 - st .to)) v (t .0) i w (t .1 .0) (not (st .adds)) in
     record {
-      same = rw (g .same) (stage-same st ys (r (st .to)) (r (1 - st .to)) v (t .0) i w (t .1 .0) (not (st .adds)));
+      same = rw (g .same) (stage-same st ys (r (st .to)) (r (1 - st .to)) v (t .0) i w (t .1 .0) wr keeps (not (st .adds)));
       under = λ k. by st ss vs v (unlift exact st ys) (t .0) z k (ℕ-discrete (k % 2) (st .to));
     }
   where
@@ -220,12 +219,12 @@ top-at i l M zero h = top i l M .0
 top-at i l M (suc zero) h = top i l M .1
 top-at i l M (suc (suc p)) h = absurd (omega arith)
 
--- the analysis of a row by filter i: numbers of at most M become at most grown i M, and nothing wraps
-pub record Pass (i M : ℕ) (xs : List ℤ) : Type 0 where
-  pub same : analysisBy wrap i xs ≡ analysisBy exact i xs
+-- the analysis of a row by filter i: numbers of at most M become at most grown i M, and wr does nothing
+pub record Pass (wr : ℤ → ℤ) (i M : ℕ) (xs : List ℤ) : Type 0 where
+  pub same : analysisBy wr i xs ≡ analysisBy exact i xs
   pub small : (k : ℕ) → natAbs (at (analysisBy exact i xs) k) ≤ grown i M
 
-pub pass : (i M : ℕ) (xs : List ℤ) → i ≤ 6 → InRange i M → length xs % 2 ≡ 0 → ((k : ℕ) → natAbs (at xs k) ≤ M) → Pass i M xs
-pass i M xs l h e b =
-    let g = all-stages M (filterOf i .stages) (map (times M) (margins i)) (steps i l M h) xs e b in
+pub pass : (wr : ℤ → ℤ) → Keeps wr → (i M : ℕ) (xs : List ℤ) → i ≤ 6 → InRange i M → length xs % 2 ≡ 0 → ((k : ℕ) → natAbs (at xs k) ≤ M) → Pass wr i M xs
+pass wr keeps i M xs l h e b =
+    let g = all-stages wr keeps M (filterOf i .stages) (map (times M) (margins i)) (steps i l M h) xs e b in
     record { same = g .same; small = λ k. le-trans (g .under k) (top-at i l M (k % 2) (omega arith)) }

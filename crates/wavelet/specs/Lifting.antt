@@ -1,6 +1,7 @@
 -- One lifting stage of ST 2042-1, 15.4.4.1, on a row of any length; the synthesis of a row (15.4.4) and its analysis, document 01,
 -- "Coefficients". The parameter `wr` says what is done with every sum and product: nothing (`exact`, the standard's integers), or the wrap at
 -- 64 bits (the encoder's numbers). Assumes nothing.
+use mathlib.Core.Path.{_≡_}
 use mathlib.Core.Bool.{Bool, true, false, not, cond, _&&_}
 use Prim.Native.Nat.{ℕ, zero, suc, _+_, _*_, _-_, _/_, _%_, _^_, min, max}
 use mathlib.Core.List.{List, [], _∷_}
@@ -8,6 +9,8 @@ use lib.Dec.{eqb, ltb}
 use lib.ListN.{length}
 use lib.IntN.{ℤ, pos, _+ℤ_, _-ℤ_, _*ℤ_}
 use lib.Signed.{shrZ}
+use mir.Syntax.{w64}
+use mir.Val.{SFits}
 use Rattle.laws.specs.Rows.{at, row}
 
 -- a stage: types 1 and 2 go to the even places (to is 0), types 3 and 4 to the odd ones (to is 1); types 1 and 3 add, 2 and 4 subtract;
@@ -31,6 +34,10 @@ place st len n k = within (st .to) len (n + k + st .ahead - st .back)
 -- without wrap
 abbrev pub exact : ℤ → ℤ
 exact z = z
+
+-- wr leaves every number of 64 bits as it is; for a number that does not fit it may give anything
+abbrev pub Keeps : (ℤ → ℤ) → Type 0
+Keeps wr = (z : ℤ) → SFits w64 z → wr z ≡ z
 
 module _ (wr : ℤ → ℤ) where
   -- t 0 * x 0 + .. + t (k - 1) * x (k - 1)

@@ -1,5 +1,5 @@
--- How large the analysis of a plane makes its numbers, filter by filter, and that it wraps nowhere while they stay within 2 ^ 51.
--- Assumes nothing.
+-- How large the analysis of a plane makes its numbers, filter by filter, and that every sum and product of it is a number of 64 bits while they stay within
+-- 2 ^ 51: what `wr` does with any other number changes nothing. Assumes nothing.
 use mathlib.Core.Path.{_≡_, refl, ap, _∙_}
 use Prim.Native.Nat.{ℕ, zero, suc, _+_, _*_, _-_, _/_, _%_, _^_, _≤_, _<_}
 use native.Mathlib.Omega.{arith}
@@ -11,10 +11,9 @@ use lib.Seq.{getD-append-add}
 use lib.IntN.{ℤ, pos, natAbs, _*ℤ_}
 use Rattle.laws.specs.Integer.{abs-mul}
 use Rattle.laws.specs.Machine.{fit}
-use Rattle.laws.specs.Wrap.{wrap, wrap-fits}
 use Rattle.laws.specs.Rows.{at, row, at-row, span-ext, length-span}
 use Rattle.laws.specs.Plane.{Plane, turned, asList, row-lt, column-lt}
-use Rattle.wavelet.specs.Lifting.{exact}
+use Rattle.wavelet.specs.Lifting.{Keeps, exact}
 use Rattle.wavelet.specs.LiftingLaws.{each-filter}
 use Rattle.wavelet.specs.Filters.{filterOf, analysisBy}
 use Rattle.wavelet.specs.Bound.{growth, grown, InRange, Pass, pass}
@@ -30,7 +29,7 @@ abbrev pub AllSmall : ℕ → List Band → Type 0
 AllSmall N [] = Unit {0}
 AllSmall N (c ∷ cs) = Small N (c .high) (c .wide) (c .plane) × AllSmall N cs
 
--- the bands with wrap are those without, and every number of them is at most N in size
+-- the bands with wr are those without, and every number of them is at most N in size
 pub record Unwrapped (N : ℕ) (bs cs : List Band) : Type 0 where
   pub same : bs ≡ cs
   pub small : AllSmall N cs
@@ -84,26 +83,26 @@ row-small M w f b k = by (decLt k w)
     by (yes l) = rw (at-row w f k l) (b k l)
     by (no g) = rw (List·getD-eq-default (row w f) (pos 0) {n = k} (rw (length-span f 0 w) (omega arith))) (omega arith)
 
--- a plane with wrap is the one without, and its numbers are at most M in size
+-- a plane with wr is the one without, and its numbers are at most M in size
 record PlaneUnwrapped (M h w : ℕ) (p q : Plane) : Type 0 where
   same : p ≡ q
   small : Small M h w q
 
-rows-unwrapped : (i M h w : ℕ) (f : Plane) → i ≤ 6 → InRange i M → w % 2 ≡ 0 → Small M h w f
-    → PlaneUnwrapped (grown i M) h w (rowsBy (analysisBy wrap i) h w f) (rowsBy (analysisBy exact i) h w f)
+rows-unwrapped : (wr : ℤ → ℤ) → Keeps wr → (i M h w : ℕ) (f : Plane) → i ≤ 6 → InRange i M → w % 2 ≡ 0 → Small M h w f
+    → PlaneUnwrapped (grown i M) h w (rowsBy (analysisBy wr i) h w f) (rowsBy (analysisBy exact i) h w f)
 unfolding rowsBy
-rows-unwrapped i M h w f hi m e b = record {
-  same = ap ofRows (span-ext (λ y. analysisBy wrap i (row w (f y))) (λ y. analysisBy exact i (row w (f y))) 0 h (λ y a c. one y (omega arith) .same));
+rows-unwrapped wr keeps i M h w f hi m e b = record {
+  same = ap ofRows (span-ext (λ y. analysisBy wr i (row w (f y))) (λ y. analysisBy exact i (row w (f y))) 0 h (λ y a c. one y (omega arith) .same));
   small = λ y x hy hx. rw (rows-at (analysisBy exact i) h w f y x hy) (one y hy .small x);
 }
   where
-    one : (y : ℕ) → y < h → Pass i M (row w (f y))
-    one y hy = pass i M (row w (f y)) hi m (rw (length-span (f y) 0 w) e) (row-small M w (f y) (λ x hx. b y x hy hx))
+    one : (y : ℕ) → y < h → Pass wr i M (row w (f y))
+    one y hy = pass wr keeps i M (row w (f y)) hi m (rw (length-span (f y) 0 w) e) (row-small M w (f y) (λ x hx. b y x hy hx))
 
-columns-unwrapped : (i M h w : ℕ) (f : Plane) → i ≤ 6 → InRange i M → h % 2 ≡ 0 → Small M h w f
-    → PlaneUnwrapped (grown i M) h w (columnsBy (analysisBy wrap i) h w f) (columnsBy (analysisBy exact i) h w f)
-columns-unwrapped i M h w f hi m e b =
-    let k = rows-unwrapped i M w h (turned f) hi m e (λ y x hy hx. b x y hx hy) in
+columns-unwrapped : (wr : ℤ → ℤ) → Keeps wr → (i M h w : ℕ) (f : Plane) → i ≤ 6 → InRange i M → h % 2 ≡ 0 → Small M h w f
+    → PlaneUnwrapped (grown i M) h w (columnsBy (analysisBy wr i) h w f) (columnsBy (analysisBy exact i) h w f)
+columns-unwrapped wr keeps i M h w f hi m e b =
+    let k = rows-unwrapped wr keeps i M w h (turned f) hi m e (λ y x hy hx. b x y hx hy) in
     record { same = ap turned (k .same); small = λ y x hy hx. k .small x y hx hy }
 
 raise-abs : (b M : ℕ) (z : ℤ) → natAbs z ≤ M → b ≤ 1 → natAbs (raise exact b z) ≤ 2 ^ b * M
@@ -111,31 +110,31 @@ raise-abs zero M z l h = omega arith
 raise-abs (suc zero) M z l h = omega (arith, abs-mul (pos 2) z)
 raise-abs (suc (suc b)) M z l h = absurd (omega arith)
 
-raise-same : (b : ℕ) (z : ℤ) → natAbs (raise exact b z) < 2 ^ 63 → b ≤ 1 → raise wrap b z ≡ raise exact b z
-raise-same zero z l h = refl
-raise-same (suc zero) z l h = wrap-fits (pos 2 *ℤ z) (fit (pos 2 *ℤ z) l)
-raise-same (suc (suc b)) z l h = absurd (omega arith)
+raise-same : (wr : ℤ → ℤ) → Keeps wr → (b : ℕ) (z : ℤ) → natAbs (raise exact b z) < 2 ^ 63 → b ≤ 1 → raise wr b z ≡ raise exact b z
+raise-same wr keeps zero z l h = refl
+raise-same wr keeps (suc zero) z l h = keeps (pos 2 *ℤ z) (fit (pos 2 *ℤ z) l)
+raise-same wr keeps (suc (suc b)) z l h = absurd (omega arith)
 
-h-unwrapped : (i M h w : ℕ) (f : Plane) → i ≤ 6 → 2 ^ 16 ≤ M → hGrown i M ≤ 2 ^ 51 → w % 2 ≡ 0 → Small M h w f
-    → PlaneUnwrapped (hGrown i M) h w (hPass wrap i h w f) (hPass exact i h w f)
-h-unwrapped i M h w f hi lo up e s =
+h-unwrapped : (wr : ℤ → ℤ) → Keeps wr → (i M h w : ℕ) (f : Plane) → i ≤ 6 → 2 ^ 16 ≤ M → hGrown i M ≤ 2 ^ 51 → w % 2 ≡ 0 → Small M h w f
+    → PlaneUnwrapped (hGrown i M) h w (hPass wr i h w f) (hPass exact i h w f)
+h-unwrapped wr keeps i M h w f hi lo up e s =
     let b : ℕ = filterOf i .bits in
     let few = bits-le i hi in
     let g : Plane = λ y x. raise exact b (f y x) in
     let sg : Small (2 ^ b * M) h w g = λ y x hy hx. raise-abs b M (f y x) (s y x hy hx) few in
     let m = grown-up i hi (2 ^ b * M) in
-    let k = rows-unwrapped i (2 ^ b * M) h w g hi (record { low = omega (arith, raised-le b M few); high = up }) e sg in
-    let c = rows-cong (analysisBy wrap i) h w (λ y x. raise wrap b (f y x)) g
-    (record { same = λ y x hy hx. raise-same b (f y x) (omega (arith, sg y x hy hx, m, up)) few }) in
+    let k = rows-unwrapped wr keeps i (2 ^ b * M) h w g hi (record { low = omega (arith, raised-le b M few); high = up }) e sg in
+    let c = rows-cong (analysisBy wr i) h w (λ y x. raise wr b (f y x)) g
+    (record { same = λ y x hy hx. raise-same wr keeps b (f y x) (omega (arith, sg y x hy hx, m, up)) few }) in
     record { same = c ∙ k .same; small = k .small }
 
-vh-unwrapped : (i j M h w : ℕ) (f : Plane) → i ≤ 6 → j ≤ 6 → 2 ^ 16 ≤ M → vhGrown i j M ≤ 2 ^ 51 → h % 2 ≡ 0 → w % 2 ≡ 0 → Small M h w f
-    → PlaneUnwrapped (vhGrown i j M) h w (vhPass wrap i j h w f) (vhPass exact i j h w f)
-vh-unwrapped i j M h w f hi hj lo up e₁ e₂ s =
+vh-unwrapped : (wr : ℤ → ℤ) → Keeps wr → (i j M h w : ℕ) (f : Plane) → i ≤ 6 → j ≤ 6 → 2 ^ 16 ≤ M → vhGrown i j M ≤ 2 ^ 51 → h % 2 ≡ 0 → w % 2 ≡ 0 → Small M h w f
+    → PlaneUnwrapped (vhGrown i j M) h w (vhPass wr i j h w f) (vhPass exact i j h w f)
+vh-unwrapped wr keeps i j M h w f hi hj lo up e₁ e₂ s =
     let u = grown-up j hj (hGrown i M) in
-    let a = h-unwrapped i M h w f hi lo (omega arith) e₂ s in
-    let k = columns-unwrapped j (hGrown i M) h w (hPass exact i h w f) hj (record { low = le-trans lo (h-up i M hi); high = up }) e₁ (a .small) in
-    record { same = ap (columnsBy (analysisBy wrap j) h w) (a .same) ∙ k .same; small = k .small }
+    let a = h-unwrapped wr keeps i M h w f hi lo (omega arith) e₂ s in
+    let k = columns-unwrapped wr keeps j (hGrown i M) h w (hPass exact i h w f) hj (record { low = le-trans lo (h-up i M hi); high = up }) e₁ (a .small) in
+    record { same = ap (columnsBy (analysisBy wr j) h w) (a .same) ∙ k .same; small = k .small }
 
 -- ---- levels
 small-le : (M N h w : ℕ) (f : Plane) → M ≤ N → Small M h w f → Small N h w f
@@ -145,43 +144,44 @@ all-append : (N : ℕ) (bs cs : List Band) → AllSmall N bs → AllSmall N cs �
 all-append N [] cs p q = q
 all-append N (c ∷ bs) cs p q = (p .0, all-append N bs cs (p .1) q)
 
-dwtH-unwrapped : (i k M h w : ℕ) (f : Plane) → i ≤ 6 → 2 ^ 16 ≤ M → dwtHGrown i k M ≤ 2 ^ 51 → Padded k 0 h w → Small M h w f
-    → Unwrapped (dwtHGrown i k M) (dwtH wrap i k h w f) (dwtH exact i k h w f)
+dwtH-unwrapped : (wr : ℤ → ℤ) → Keeps wr → (i k M h w : ℕ) (f : Plane) → i ≤ 6 → 2 ^ 16 ≤ M → dwtHGrown i k M ≤ 2 ^ 51 → Padded k 0 h w → Small M h w f
+    → Unwrapped (dwtHGrown i k M) (dwtH wr i k h w f) (dwtH exact i k h w f)
 unfolding dwtH dwtHGrown
-dwtH-unwrapped i zero M h w f hi lo up e s = record { same = refl; small = (s, tt) }
-dwtH-unwrapped i (suc k) M h w f hi lo up e s =
+dwtH-unwrapped wr keeps i zero M h w f hi lo up e s = record { same = refl; small = (s, tt) }
+dwtH-unwrapped wr keeps i (suc k) M h w f hi lo up e s =
     let p = padded-across k h w e in
     let top = dwtH-up i k (hGrown i M) hi in
-    let a = h-unwrapped i M h w f hi lo (le-trans top up) (p .0) s in
+    let a = h-unwrapped wr keeps i M h w f hi lo (le-trans top up) (p .0) s in
     let g : Plane = hPass exact i h w f in
     let t : Band = record { high = h; wide = w / 2; plane = partH 1 g } in
-    let n = dwtH-unwrapped i k (hGrown i M) h (w / 2) (partH 0 g) hi (le-trans lo (h-up i M hi)) up (p .1) (λ y x hy hx. a .small y (2 * x + 0) hy (omega arith)) in
+    let n = dwtH-unwrapped wr keeps i k (hGrown i M) h (w / 2) (partH 0 g) hi (le-trans lo (h-up i M hi)) up (p .1) (λ y x hy hx. a .small y (2 * x + 0) hy (omega arith)) in
     record {
-      same = ap (λ (q : Plane). dwtH wrap i k h (w / 2) (partH 0 q) ++ (record { high = h; wide = w / 2; plane = partH 1 q } ∷ [])) (a .same)
+      same = ap (λ (q : Plane). dwtH wr i k h (w / 2) (partH 0 q) ++ (record { high = h; wide = w / 2; plane = partH 1 q } ∷ [])) (a .same)
           ∙ ap (λ (l : List Band). l ++ (t ∷ [])) (n .same);
       small = all-append (dwtHGrown i k (hGrown i M)) (dwtH exact i k h (w / 2) (partH 0 g)) (t ∷ []) (n .small)
           ((λ y x hy hx. le-trans (a .small y (2 * x + 1) hy (omega arith)) top), tt);
     }
 
--- rows by filter i, columns by filter j: from numbers of at most M the analysis wraps nowhere, and leaves none above the bound that their growth gives
-pub dwt-wraps-nowhere : (i j k d M h w : ℕ) (f : Plane) → i ≤ 6 → j ≤ 6 → 2 ^ 16 ≤ M → dwtGrown i j k d M ≤ 2 ^ 51 → Padded k d h w → Small M h w f
-    → Unwrapped (dwtGrown i j k d M) (dwt wrap i j k d h w f) (dwt exact i j k d h w f)
+-- rows by filter i, columns by filter j: from numbers of at most M the analysis wraps nowhere, whatever a wrap would give, and leaves none above the bound that
+-- their growth gives
+pub dwt-wraps-nowhere : (wr : ℤ → ℤ) → Keeps wr → (i j k d M h w : ℕ) (f : Plane) → i ≤ 6 → j ≤ 6 → 2 ^ 16 ≤ M → dwtGrown i j k d M ≤ 2 ^ 51 → Padded k d h w → Small M h w f
+    → Unwrapped (dwtGrown i j k d M) (dwt wr i j k d h w f) (dwt exact i j k d h w f)
 unfolding dwt dwtGrown
-dwt-wraps-nowhere i j k zero M h w f hi hj lo up e s = dwtH-unwrapped i k M h w f hi lo up e s
-dwt-wraps-nowhere i j k (suc d) M h w f hi hj lo up e s =
+dwt-wraps-nowhere wr keeps i j k zero M h w f hi hj lo up e s = dwtH-unwrapped wr keeps i k M h w f hi lo up e s
+dwt-wraps-nowhere wr keeps i j k (suc d) M h w f hi hj lo up e s =
     let p = padded-both k d h w e in
     let N : ℕ = vhGrown i j M in
     let top = dwt-up i j k d N hi hj in
-    let a = vh-unwrapped i j M h w f hi hj lo (le-trans top up) (p .0) (p .1 .0) s in
+    let a = vh-unwrapped wr keeps i j M h w f hi hj lo (le-trans top up) (p .0) (p .1 .0) s in
     let g : Plane = vhPass exact i j h w f in
     let one : (u v : ℕ) → u ≤ 1 → v ≤ 1 → Small N (h / 2) (w / 2) (part u v g) =
     λ u v hu hv y x hy hx. a .small (2 * y + u) (2 * x + v) (omega (arith, p .0)) (omega (arith, p .1 .0)) in
     let t0 : Band = record { high = h / 2; wide = w / 2; plane = part 0 1 g } in
     let t1 : Band = record { high = h / 2; wide = w / 2; plane = part 1 0 g } in
     let t2 : Band = record { high = h / 2; wide = w / 2; plane = part 1 1 g } in
-    let n = dwt-wraps-nowhere i j k d N (h / 2) (w / 2) (part 0 0 g) hi hj (le-trans lo (vh-up i j M hi hj)) up (p .1 .1) (one 0 0 (omega arith) (omega arith)) in
+    let n = dwt-wraps-nowhere wr keeps i j k d N (h / 2) (w / 2) (part 0 0 g) hi hj (le-trans lo (vh-up i j M hi hj)) up (p .1 .1) (one 0 0 (omega arith) (omega arith)) in
     record {
-      same = ap (λ (q : Plane). dwt wrap i j k d (h / 2) (w / 2) (part 0 0 q)
+      same = ap (λ (q : Plane). dwt wr i j k d (h / 2) (w / 2) (part 0 0 q)
           ++ (record { high = h / 2; wide = w / 2; plane = part 0 1 q } ∷ record { high = h / 2; wide = w / 2; plane = part 1 0 q } ∷ record { high = h / 2; wide = w / 2; plane = part 1 1 q } ∷ [])) (a .same)
           ∙ ap (λ (l : List Band). l ++ (t0 ∷ t1 ∷ t2 ∷ [])) (n .same);
       small = all-append (dwtGrown i j k d N) (dwt exact i j k d (h / 2) (w / 2) (part 0 0 g)) (t0 ∷ t1 ∷ t2 ∷ []) (n .small) (

@@ -6,12 +6,12 @@ use native.Mathlib.Omega.{arith}
 use native.Mathlib.Nat.{lt-of-le-of-lt, le-of-lt}
 use mathlib.Core.List.{List, [], _∷_}
 use lib.ListN.{getD}
-use lib.IntN.{pos, natAbs, _-ℤ_}
+use lib.IntN.{ℤ, pos, natAbs, _-ℤ_}
 use Rattle.laws.specs.Integer.{var, _⊟_, parts}
-use Rattle.laws.specs.Wrap.{wrap}
+use Rattle.laws.specs.Wrap.{wrap, wrap-fits}
 use Rattle.laws.specs.Rows.{at}
 use Rattle.laws.specs.Plane.{Plane, Agree}
-use Rattle.wavelet.specs.Lifting.{exact}
+use Rattle.wavelet.specs.Lifting.{Keeps, exact}
 use Rattle.wavelet.specs.Planes.{Band, dwt, idwt, Padded}
 use Rattle.wavelet.specs.Pad.{padded, componentOf}
 use Rattle.wavelet.specs.PlaneLaws as laws
@@ -22,9 +22,10 @@ use Rattle.wavelet.specs.PlaneBound.{Small, AllSmall, Unwrapped, dwtGrow
 pub idwt-undoes-dwt : (i j k d h w : ℕ) (f : Plane) → i ≤ 6 → j ≤ 6 → Padded k d h w → Agree h w (idwt i j (dwt exact i j k d h w f) k d) f
 idwt-undoes-dwt i j k d h w f hi hj p = laws.idwt-undoes-dwt i j hi hj k d h w f p
 
--- numbers of at most M: while the bound that the growth of the filters gives stays within 2 ^ 51, nothing wraps, and no coefficient is above it
-pub dwt-wraps-nowhere : (i j k d M h w : ℕ) (f : Plane) → i ≤ 6 → j ≤ 6 → 2 ^ 16 ≤ M → dwtGrown i j k d M ≤ 2 ^ 51 → Padded k d h w → Small M h w f
-    → Unwrapped (dwtGrown i j k d M) (dwt wrap i j k d h w f) (dwt exact i j k d h w f)
+-- numbers of at most M: while the bound that the growth of the filters gives stays within 2 ^ 51, nothing wraps, and no coefficient is above it. Nothing wraps:
+-- whatever wr gives for numbers that do not fit in 64 bits, the bands are those of the standard's integers
+pub dwt-wraps-nowhere : (wr : ℤ → ℤ) → Keeps wr → (i j k d M h w : ℕ) (f : Plane) → i ≤ 6 → j ≤ 6 → 2 ^ 16 ≤ M → dwtGrown i j k d M ≤ 2 ^ 51 → Padded k d h w → Small M h w f
+    → Unwrapped (dwtGrown i j k d M) (dwt wr i j k d h w f) (dwt exact i j k d h w f)
 dwt-wraps-nowhere = bound.dwt-wraps-nowhere
 
 -- ---- components
@@ -39,7 +40,9 @@ all-below M N (b ∷ bs) h s = ((λ y x hy hx. lt-of-le-of-lt (s .0 y x hy hx) h
 
 -- what is known of a component: rows by filter i, columns by filter j
 pub record Exact (i j k d : ℕ) (s : List ℕ) (o w h pw ph : ℕ) : Type 0 where
-  -- nothing wraps
+  -- nothing wraps: whatever wr gives for numbers that do not fit in 64 bits, the bands are those of the standard's integers
+  pub nowhere : (wr : ℤ → ℤ) → Keeps wr → dwt wr i j k d ph pw (padded s o w h) ≡ dwt exact i j k d ph pw (padded s o w h)
+  -- so they are with the wrap at 64 bits
   pub same : dwt wrap i j k d ph pw (padded s o w h) ≡ dwt exact i j k d ph pw (padded s o w h)
   -- every coefficient is below 2 ^ 51, by band and place, and in the list of all
   pub below : AllBelow (2 ^ 51) (dwt exact i j k d ph pw (padded s o w h))
@@ -62,8 +65,10 @@ component-within i j k d g n s o w h pw ph hi hj f few low p hs ho =
     let P = padded s o w h in
     let N : ℕ = dwtGrown i j k d (2 ^ 16) in
     let b : N < 2 ^ 51 = lt-of-le-of-lt (dwt-times i j g k d n (2 ^ 16) f few) low in
-    let r = bound.dwt-wraps-nowhere i j k d (2 ^ 16) ph pw P hi hj (omega arith) (le-of-lt b) p (padded-small s o w h pw ph hs ho) in
+    let small = padded-small s o w h pw ph hs ho in
+    let r = bound.dwt-wraps-nowhere wrap wrap-fits i j k d (2 ^ 16) ph pw P hi hj (omega arith) (le-of-lt b) p small in
     record {
+      nowhere = λ wr keeps. bound.dwt-wraps-nowhere wr keeps i j k d (2 ^ 16) ph pw P hi hj (omega arith) (le-of-lt b) p small .same;
       same = r .same;
       below = all-below N (2 ^ 51) (dwt exact i j k d ph pw P) b (r .small);
       list-below = λ m. rw (r .same) (lt-of-le-of-lt (coefficients-small N (dwt exact i j k d ph pw P) (r .small) m) b);
