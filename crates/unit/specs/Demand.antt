@@ -82,16 +82,20 @@ Drops HighQuality a = a .kept ≡ a .numbers
 abbrev pub planIndex : Plan → ℕ → ℕ
 planIndex a k = getD (map (λ (s : SlicePlan). s .index) (a .slices)) k 0
 
--- a component's subbands b and those read, r: at every place, padding included, four times the error is less than the factor of the
--- band's index there; n counts the subbands, m are the matrix values
+-- a subband b and the one read, r, which has its sides: at every place, padding included, four times the error is less than the factor of the
+-- band's index there. The error is document 01's: the coefficient less the reader's. n is the subband's number, m are the matrix values
+pub record NearBand (g : Grid) (m : List ℕ) (index : ℕ → ℕ) (n : ℕ) (b r : Band) : Type 0 where
+  pub high : b .high ≡ r .high
+  pub wide : b .wide ≡ r .wide
+  pub near : (y x : ℕ) → y < b .high → x < b .wide
+      → 4 * natAbs (b .plane y x -ℤ r .plane y x) < quantFactor (bandIndex (index (sliceOf g (sizeOf b) y x)) (getD m n 0))
+
+-- a component's subbands and those read, as many, each near; n is the number of the first
 abbrev pub NearBands : Grid → List ℕ → (ℕ → ℕ) → ℕ → List Band → List Band → Type 0
 NearBands g m index n [] [] = Unit {0}
 NearBands g m index n [] (r ∷ rs) = ⊥
 NearBands g m index n (b ∷ bs) [] = ⊥
-NearBands g m index n (b ∷ bs) (r ∷ rs) =
-    ((y x : ℕ) → y < b .high → x < b .wide
-    → 4 * natAbs (b .plane y x -ℤ r .plane y x) < quantFactor (bandIndex (index (sliceOf g (sizeOf b) y x)) (getD m n 0)))
-    × NearBands g m index (suc n) bs rs
+NearBands g m index n (b ∷ bs) (r ∷ rs) = NearBand g m index n b r × NearBands g m index (suc n) bs rs
 
 -- a component's samples of size z and those read
 abbrev pub SameSamples : Size → List ℕ → Plane → Type 0

@@ -91,7 +91,10 @@ pub near-bands : (g : Grid) (m : List ℕ) (q : ℕ → ℕ) (n : ℕ) (bs rs : 
 near-bands g m q n [] [] o = tt
 near-bands g m q n [] (r ∷ rs) o = absurd o
 near-bands g m q n (b ∷ bs) [] o = absurd o
-near-bands g m q n (b ∷ bs) (r ∷ rs) o = ((λ y x hy hx. read-near (o .0 .read y x hy hx)), near-bands g m q (suc n) bs rs (o .1))
+near-bands g m q n (b ∷ bs) (r ∷ rs) o = (
+  record { high = o .0 .high; wide = o .0 .wide; near = λ y x hy hx. read-near (o .0 .read y x hy hx) },
+  near-bands g m q (suc n) bs rs (o .1),
+)
 
 module _ (g : Grid) (hm : 0 < g .down) (hn : 0 < g .across) (m : List ℕ) (q : ℕ → ℕ) where
   -- where every slice has index 0, what is read is the coefficients
