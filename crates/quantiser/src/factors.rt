@@ -263,8 +263,8 @@ const FACTORS: [u64; 256] = [
     9223372036854775807,
 ];
 
-// A factor by the table.
-fn table_at(index: u32) -> u64
+// A factor by the table. The crate's public calls take it at every index.
+pub(crate) fn table_at(index: u32) -> u64
     requires { ⌜ index ≤ 255 ⌝ }
     ensures { λ r. ⌜ (r ≡ quantFactor index) × ((4 ≤ r) × (r < 2 ^ 63)) ⌝ }
 {
@@ -288,7 +288,8 @@ fn factor_by(remainder: u32, base: u64) -> u64
     (440253 * base + 32722) / 65444
 }
 
-// Below index 128 by the standard's formulas, whose terms stay below 2^64 there; from 128 on by the table. For the layers above.
+// The same factor without the table below index 128, by the standard's formulas, whose terms stay below 2^64 there; from 128 on by the table.
+// For the layers above, which ask for a factor once for each band of a slice: a table that is read is written anew at every call.
 pub fn factor_at(index: u32) -> u64
     requires { ⌜ index ≤ 255 ⌝ }
     ensures { λ r. ⌜ (r ≡ quantFactor index) × ((4 ≤ r) × (r < 2 ^ 63)) ⌝ }
@@ -315,9 +316,9 @@ pub fn offset_by(index: u32, factor: u64) -> u64
 }
 
 // The offset of an index.
-pub fn offset_at(index: u32) -> u64
+pub(crate) fn offset_at(index: u32) -> u64
     requires { ⌜ index ≤ 255 ⌝ }
     ensures { λ r. ⌜ (r ≡ quantOffset index) × (r < 2 ^ 63) ⌝ }
 {
-    offset_by(index, factor_at(index))
+    offset_by(index, table_at(index))
 }

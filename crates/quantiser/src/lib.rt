@@ -24,7 +24,7 @@ pub fn quant_factor(index: u32) -> QuantAnswer
     if index > 255 {
         return QuantAnswer::Refused(6);
     }
-    QuantAnswer::Value(factors::factor_at(index) as i64)
+    QuantAnswer::Value(factors::table_at(index) as i64)
 }
 
 pub fn quant_offset(index: u32) -> QuantAnswer
@@ -42,7 +42,7 @@ pub fn forward_quant(coeff: i64, index: u32) -> QuantAnswer
     if index > 255 {
         return QuantAnswer::Refused(6);
     }
-    QuantAnswer::Value(forward_by(coeff, factors::factor_at(index)))
+    QuantAnswer::Value(forward_by(coeff, factors::table_at(index)))
 }
 
 pub fn inverse_quant(number: i64, index: u32) -> QuantAnswer
@@ -51,7 +51,7 @@ pub fn inverse_quant(number: i64, index: u32) -> QuantAnswer
     if index > 255 {
         return QuantAnswer::Refused(6);
     }
-    QuantAnswer::Value(inverse_by(number, factors::factor_at(index), factors::offset_at(index)))
+    QuantAnswer::Value(inverse_by(number, factors::table_at(index), factors::offset_at(index)))
 }
 
 // The sign of z on the magnitude m.
