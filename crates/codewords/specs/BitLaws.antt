@@ -1,14 +1,14 @@
 -- Laws of literals and of the numbers that bits say. Assumes nothing.
 use mathlib.Core.Path.{_≡_, refl, sym, ap, ap₂, _∙_}
 use mathlib.Core.Bool.{Bool, true, false}
-use mathlib.Core.List.{List, [], _∷_, _++_}
+use mathlib.Core.List.{[], _∷_, _++_}
 use Prim.Native.Nat.{ℕ, zero, suc, _+_, _-_, _*_, _/_, _%_, _^_, _≤_, _<_}
 use native.Mathlib.Nat.{zero-div, mod-one, mod-lt, mod-eq-of-lt, mul-add-mod-self-right, div-one, div-div-eq-div-mul, pow-suc, pow-succ', mul-comm, mul-assoc, mul-one, add-mul, add-assoc, zero-add, zero-mul, zero-lt-suc, mod-eq-sub-mod, one-mul, suc-add, add-comm}
 use native.Mathlib.Numerals.{add-one}
 use native.Mathlib.Omega.{arith}
 use lib.Arith.{digits-div, mod-mul}
 use lib.Dec.{eqb}
-use lib.ListN.{length, length-append, replicate, replicate-append-replicate}
+use lib.ListN.{length, replicate, replicate-append-replicate}
 use lib.Pow.{pow-pos, pow-lt, shr-shr, high, low}
 use mir.Val.{boolByte}
 use Rattle.codewords.specs.Bit.{Bits, val, lit, value, ones, zeros}
@@ -79,11 +79,6 @@ byte-up x i h =
     shr-shr x (i - 8) 8 ∙ ap (λ (j : ℕ). x / 2 ^ j) e
 
 -- ---- the numbers that bits say
-pub value-append : (s t : Bits) (a : ℕ) → value a (s ++ t) ≡ value (value a s) t
-unfolding value
-value-append [] t a = refl
-value-append (b ∷ s) t a = value-append s t (a * 2 + val b)
-
 mod-pow-suc : (v k : ℕ) → v % 2 ^ suc k ≡ (v / 2 ^ k % 2) * 2 ^ k + v % 2 ^ k
 mod-pow-suc v k = ap (λ (x : ℕ). v % x) (pow-suc 2 k ∙ mul-comm (2 ^ k) 2) ∙ mod-mul v (zero-lt-suc 1) (pow-pos k)
 

@@ -112,11 +112,3 @@ to-from [] h = pack-none 7 0
 to-from (x ∷ xs) h =
     pack-fill 7 0 (lit 8 x) (fromBytes xs) (length-lit 8 x)
     ∙ ap₂ (λ (y : ℕ) (l : List ℕ). y ∷ l) (value-of-lit 8 x (h .0)) (to-from xs (h .1))
-
-pub length-fromBytes : (xs : List ℕ) → length (fromBytes xs) ≡ 8 * length xs
-unfolding fromBytes
-length-fromBytes [] = refl
-length-fromBytes (x ∷ xs) = length-append (lit 8 x) (fromBytes xs) ∙ rw (length-lit 8 x, length-fromBytes xs) (omega arith)
-
-pub full-fromBytes : (xs : List ℕ) → Full (fromBytes xs)
-full-fromBytes xs = record { full = rw (length-fromBytes xs) (omega arith) }

@@ -1,21 +1,21 @@
 -- Reading gives back what was written and stops where it ended. Assumes nothing.
-use mathlib.Core.Path.{_≡_, refl, sym, ap, ap₂, _∙_}
+use mathlib.Core.Path.{_≡_, refl, sym, ap, _∙_}
 use mathlib.Core.Bool.{Bool, true, false, cond}
-use mathlib.Core.List.{List, [], _∷_, _++_, append-assoc, append-nil}
-use mathlib.Core.Option.{Option, none, some}
-use Prim.Native.Nat.{ℕ, zero, suc, pred, _+_, _-_, _*_, _/_, _%_, _^_, _≤_, _<_}
+use mathlib.Core.List.{List, [], _∷_, _++_, append-assoc}
+use mathlib.Core.Option.{some}
+use Prim.Native.Nat.{ℕ, zero, suc, pred, _+_, _-_, _*_, _%_, _^_, _≤_, _<_}
 use native.Mathlib.Numerals.{add-one}
 use native.Mathlib.Omega.{arith}
 use lib.Dec.{T}
 use lib.IntN.{ℤ, pos, negsuc, natAbs}
-use lib.ListN.{length, drop, length-append, replicate}
+use lib.ListN.{length, length-append}
 use lib.Seq.{drop-at}
 use Rattle.codewords.specs.Bit.{Bits, val, lit, value, ones}
 use Rattle.codewords.specs.BitLaws.{length-lit, value-of-lit}
 use Rattle.codewords.specs.Code.{log2, interleaved, codeU, sign, codeS, codes, zeroFilled}
 use Rattle.codewords.specs.CodeLaws.{value-code}
-use Rattle.codewords.specs.Read.{Read, got, stop, Parser, pure, field, checked, such, after, _>>=_, nbitsFrom, readNbits, boolFrom, readBool, uintFrom, readUint, signFrom, sintFrom, readSint, byteAlign, splitFrom, readBits, uintb, signb, sintb, sintsb}
-use Rattle.codewords.specs.ByteLaws.{Full, full-append}
+use Rattle.codewords.specs.Read.{got, stop, Parser, pure, field, checked, such, after, _>>=_, nbitsFrom, readNbits, readBool, uintFrom, readUint, signFrom, sintFrom, readSint, byteAlign, splitFrom, readBits, uintb, signb, sintb, sintsb}
+use Rattle.codewords.specs.ByteLaws.{Full}
 
 -- p reads x from w, whatever follows, and stops where w ends
 pub record Reads {A : Type 0} (p : Parser A) (w : Bits) (x : A) : Type 0 where
@@ -106,27 +106,6 @@ reads-sint z = record {
 -- p reads x from w where whole bytes follow
 pub record ReadsTo {A : Type 0} (p : Parser A) (w : Bits) (x : A) : Type 0 where
   pub at : (rest : Bits) → Full rest → p (w ++ rest) ≡ got x rest
-
-pub reads-to : {A : Type 0} {p : Parser A} {w : Bits} {x : A} → Reads p w x → ReadsTo p w x
-reads-to r = record { at = λ rest f. r .at rest }
-
--- a step that ends anywhere, then the rest
-pub to-bind : {A B : Type 0} {p : Parser A} {w : Bits} {x : A} (f : A → Parser B) {v : Bits} {y : B}
-    → Reads p w x → ReadsTo (f x) v y → ReadsTo (p >>= f) (w ++ v) y
-unfolding _>>=_
-to-bind {p = p} {w = w} f {v = v} a b = record {
-  at = λ rest k.
-      ap (λ s. after (p s) f) (append-assoc w v rest) ∙ ap (λ o. after o f) (a .at (v ++ rest)) ∙ b .at rest k;
-}
-
--- a step that ends at a byte, before whole bytes
-pub full-bind : {A B : Type 0} {p : Parser A} {w : Bits} {x : A} (f : A → Parser B) {v : Bits} {y : B}
-    → ReadsTo p w x → Full v → ReadsTo (f x) v y → ReadsTo (p >>= f) (w ++ v) y
-unfolding _>>=_
-full-bind {p = p} {w = w} f {v = v} a h b = record {
-  at = λ rest k.
-      ap (λ s. after (p s) f) (append-assoc w v rest) ∙ ap (λ o. after o f) (a .at (v ++ rest) (full-append h k)) ∙ b .at rest k;
-}
 
 -- alignment skips the bits that fill a byte
 pub reads-align : (w : Bits) → length w < 8 → ReadsTo byteAlign w tt

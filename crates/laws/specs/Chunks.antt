@@ -1,13 +1,13 @@
 -- Lists put one after the other, and what a loop leaves that lends one part of a slice after the other. Assumes nothing.
-use mathlib.Core.Path.{_≡_, refl, sym, ap, ap₂, _∙_}
-use Prim.Native.Nat.{ℕ, zero, suc, _+_, _*_, _-_, _≤_, _<_}
+use mathlib.Core.Path.{_≡_, refl, sym, ap₂, _∙_}
+use Prim.Native.Nat.{ℕ, zero, suc, _+_, _*_, _≤_, _<_}
 use native.Mathlib.Nat.{suc-mul, zero-mul, mul-le-mul-right, le-trans}
 use native.Mathlib.Numerals.{add-one}
 use native.Mathlib.Omega.{arith}
 use native.Mathlib.Decide.{ℕ-discrete}
-use mathlib.Core.List.{List, [], _∷_, _++_, append-assoc, append-nil}
-use lib.ListN.{length, getD, set, take, drop, length-append, List·getD-append}
-use lib.Seq.{take-at, drop-at, drop-drop, getD-append-add, set-at, drop-cons, append-snoc, drop-length}
+use mathlib.Core.List.{List, [], _++_, append-nil}
+use lib.ListN.{length, getD, set, drop, length-append, List·getD-append}
+use lib.Seq.{getD-append-add, set-at, drop-cons, append-snoc, drop-length}
 use lib.IntN.{ℤ, pos}
 use Rattle.laws.specs.Rows.{at, row, length-span, row-more}
 
@@ -30,10 +30,6 @@ module _ {A : Type 0} where
   unfolding chunks
   chunks-more F n = rw (add-one n)
 
-  pub chunks-zero : (F : ℕ → List A) (l : List A) → l ≡ chunks F 0 ++ drop 0 l
-  unfolding chunks
-  chunks-zero F l = refl
-
   -- parts of one length
   module _ (F : ℕ → List A) (w : ℕ) (long : (k : ℕ) → length (F k) ≡ w) where
     pub length-chunks : (n : ℕ) → length (chunks F n) ≡ n * w
@@ -54,18 +50,6 @@ module _ {A : Type 0} where
             let b : y * w + x < length (chunks F n) = rw (length-chunks n) (omega (arith, m, suc-mul y w)) in
             List·getD-append (chunks F n) (F n) d (y * w + x) b ∙ ih l
 
-    -- one turn of the loop: xs has the first n parts; the next part comes back as F n
-    pub chunk-turn : (l xs ys : List A) (n p : ℕ) → p ≡ n * w → xs ≡ chunks F n ++ drop p l → ys ≡ F n
-        → take p xs ++ (ys ++ drop w (drop p xs)) ≡ chunks F (n + 1) ++ drop (p + w) l
-    unfolding chunks
-    chunk-turn l xs ys n p e f g =
-        let k = length-chunks n ∙ sym e in
-        rw (g, f, take-at (chunks F n) (drop p l) p k, drop-at (chunks F n) (drop p l) p k, drop-drop, add-one, append-assoc)
-
-    -- the part itself is that of the old list
-    pub chunk-part : (l xs : List A) (n p : ℕ) → p ≡ n * w → xs ≡ chunks F n ++ drop p l → take w (drop p xs) ≡ take w (drop p l)
-    chunk-part l xs n p e f = rw (f, drop-at (chunks F n) (drop p l) p (length-chunks n ∙ sym e))
-
 pub at-chunks : (F : ℕ → List ℤ) (w : ℕ) → ((k : ℕ) → length (F k) ≡ w) → (n y x : ℕ) → y < n → x < w → at (chunks F n) (y * w + x) ≡ at (F y) x
 at-chunks F w long n y x hy hx = getD-chunks F w long (pos 0) n y x hy hx
 
@@ -79,9 +63,6 @@ next-place n w p e = rw (add-one, suc-mul, e)
 pub fill-turn : (f : ℕ → ℤ) (l xs : List ℤ) (n : ℕ) → n < length l → xs ≡ row n f ++ drop n l → set xs n (f n) ≡ row (n + 1) f ++ drop (n + 1) l
 fill-turn f l xs n h e =
     rw (e, drop-cons l n (pos 0) h, set-at (row n f) (at l n) (drop (suc n) l) (f n) n (length-span f 0 n), row-more, add-one n) (sym (append-snoc (row n f) (f n) (drop (suc n) l)))
-
-pub fill-zero : (f : ℕ → ℤ) (l : List ℤ) → l ≡ row 0 f ++ drop 0 l
-fill-zero f l = refl
 
 pub fill-all : (f : ℕ → ℤ) (l : List ℤ) (n : ℕ) → n ≡ length l → row n f ++ drop n l ≡ row (length l) f
 fill-all f l n e = rw (e, drop-length l) (append-nil (row (length l) f))

@@ -1,13 +1,12 @@
 -- Linear arithmetic on ℤ by omega: z is up z - dn z, and one of the two is 0; magnitudes; division that rounds down. Assumes nothing.
 use mathlib.Core.Path.{_≡_, refl, ap, sym, _∙_, subst}
 use mathlib.Core.Bool.{Bool, true, false, not, cond}
-use Prim.Native.Nat.{ℕ, zero, suc, _+_, _*_, _-_, _/_, _%_, _≤_, _<_, min}
+use Prim.Native.Nat.{ℕ, zero, suc, _+_, _*_, _-_, _/_, _≤_, _<_, min}
 use native.Mathlib.Omega.{arith}
-use native.Mathlib.Nat.{mod-lt, div-add-mod, div-mul-le-self, mul-comm, mul-suc, suc-mul, mul-add, mul-zero, mul-le-mul-left, le-antisymm}
-use native.Mathlib.Decide.{decLe}
-use lib.Dec.{T, ltb, leb, ltb→lt, nltb→le, leb→le, le→leb, lt→ltb}
+use native.Mathlib.Nat.{mod-lt, div-add-mod, div-mul-le-self, mul-comm, mul-suc, suc-mul, mul-add, mul-zero}
+use lib.Dec.{T, ltb, ltb→lt, nltb→le}
 use lib.IntN.{ℤ, pos, negsuc, negℤ, natAbs, subℕ, _+ℤ_, _-ℤ_, _*ℤ_}
-use lib.Signed.{mag, shrZ, quotZ, remZ, leZ, ltZ, _≤ℤ_, _<ℤ_}
+use lib.Signed.{mag, shrZ, ltZ}
 
 abbrev pub up : ℤ → ℕ
 up (pos n) = n
@@ -93,18 +92,6 @@ holds e = subst T (sym e) tt
 fails : {b : Bool} → b ≡ false → T (not b)
 fails e = subst (λ (x : Bool). T (not x)) (sym e) tt
 
-pub le-is : {a b : ℤ} → a ≤ℤ b → up a + dn b ≤ up b + dn a
-le-is {a = pos m} {b = pos n} h = let g = leb→le m n (h .le) in omega arith
-le-is {a = pos m} {b = negsuc n} h = absurd (h .le)
-le-is {a = negsuc m} {b = pos n} h = omega arith
-le-is {a = negsuc m} {b = negsuc n} h = let g = leb→le n m (h .le) in omega arith
-
-pub is-le : (a b : ℤ) → up a + dn b ≤ up b + dn a → a ≤ℤ b
-is-le (pos m) (pos n) h = record { le = le→leb m n (omega arith) }
-is-le (pos m) (negsuc n) h = absurd (omega arith)
-is-le (negsuc m) (pos n) h = record { le = tt }
-is-le (negsuc m) (negsuc n) h = record { le = le→leb n m (omega arith) }
-
 -- a signed test's flag
 pub lt-yes : (a b : ℤ) → ltZ a b ≡ true → up a + dn b < up b + dn a
 lt-yes (pos m) (pos n) h = let g = ltb→lt m n (holds h) in omega arith
@@ -143,19 +130,6 @@ pub floor-law : (z : ℤ) {m : ℕ} → 0 < m → Floor z (shrZ z m) m
 floor-law (pos a) {m} h = let l = mod-lt a h in omega (arith, div-add-mod a m, mul-zero m)
 floor-law (negsuc a) {m} h = let l = mod-lt a h in omega (arith, div-add-mod a m, mul-zero m, mul-suc m (a / m))
 
--- the floor is the only such number
-pub floor-unique : (z q : ℤ) {m : ℕ} → 0 < m → Floor z q m → q ≡ shrZ z m
-floor-unique z q {m} h f = ext (le-antisymm (half q (shrZ z m) f (floor-law z h)) (half (shrZ z m) q (floor-law z h) f))
-  where
-    half : (a b : ℤ) → Floor z a m → Floor z b m → up a + dn b ≤ up b + dn a
-    half a b s t = by (decLe (up a + dn b) (up b + dn a))
-      where
-        by : Dec (up a + dn b ≤ up b + dn a) → up a + dn b ≤ up b + dn a
-        by (yes l) = l
-        by (no l) =
-            let g : suc (up b + dn a) ≤ up a + dn b = omega arith in
-            absurd (omega (arith, mul-le-mul-left m g, mul-suc m (up b + dn a), mul-add m (up b) (dn a), mul-add m (up a) (dn b)))
-
 -- m |floor (z / m)| is less than |z| + m
 pub abs-floor : (z : ℤ) (m : ℕ) → m * natAbs (shrZ z m) ≤ natAbs z + m
 abs-floor (pos a) m = omega (arith, div-mul-le-self a m, mul-comm m (a / m))
@@ -164,6 +138,3 @@ abs-floor (negsuc a) m = omega (arith, div-mul-le-self a m, mul-comm m (suc (a /
 -- ---- regrouping
 pub sub-add : (a b : ℤ) → (a -ℤ b) +ℤ b ≡ a
 sub-add a b = by-parts (var a ⊟ var b ⊞ var b) (var a) (omega arith)
-
-pub add-sub : (a b : ℤ) → (a +ℤ b) -ℤ b ≡ a
-add-sub a b = by-parts (var a ⊞ var b ⊟ var b) (var a) (omega arith)

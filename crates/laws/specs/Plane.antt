@@ -1,11 +1,11 @@
 -- A plane as a function of y and x; the same as a list, row by row; a plane kept as a list between two passes, so that each value is
 -- computed once. Assumes nothing.
-use mathlib.Core.Path.{_≡_, refl, sym, ap, ap₂, _∙_}
-use Prim.Native.Nat.{ℕ, zero, suc, _+_, _-_, _*_, _/_, _%_, _≤_, _<_}
+use mathlib.Core.Path.{_≡_, sym, ap, ap₂, _∙_}
+use Prim.Native.Nat.{ℕ, zero, suc, _+_, _*_, _/_, _%_, _<_}
 use native.Mathlib.Nat.{zero-add, div-add-mod', div-lt-iff-lt-mul, mod-lt, mul-comm}
 use native.Mathlib.Omega.{arith}
-use mathlib.Core.List.{List, [], _∷_}
-use lib.ListN.{length, getD}
+use mathlib.Core.List.{List}
+use lib.ListN.{length}
 use lib.Seq.{ext-getD}
 use lib.Arith.{digits-div, digits-mod, digits-lt}
 use lib.IntN.{ℤ, pos}
@@ -65,7 +65,3 @@ asList-back h w l e =
 
 unfoldable pub kept : ℕ → ℕ → Plane → Plane
 kept h w f = let l = asList h w f in asPlane w l
-
-pub kept-is : (h w : ℕ) (f : Plane) → Agree h w (kept h w f) f
-unfolding kept
-kept-is h w f = record { same = at-asList h w f }

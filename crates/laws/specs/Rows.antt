@@ -39,14 +39,6 @@ module _ {A : Type 0} where
   pub span-more : (f : ℕ → A) (i n : ℕ) → span f i (n + 1) ≡ span f i n ++ (f (i + n) ∷ [])
   span-more f i n = rw (add-one n) (span-suc f i n)
 
-  -- the same values at other numbers
-  pub span-shift : (f g : ℕ → A) (i j n : ℕ) → ((k : ℕ) → f (i + k) ≡ g (j + k)) → span f i n ≡ span g j n
-  span-shift f g i j zero h = refl
-  span-shift f g i j (suc n) h =
-      ap₂ (λ (a : A) (r : List A). a ∷ r)
-      (ap f (omega arith) ∙ h 0 ∙ ap g (omega arith))
-      (span-shift f g (suc i) (suc j) n (λ k. ap f (omega arith) ∙ h (suc k) ∙ ap g (omega arith)))
-
   pub span-append : (f : ℕ → A) (i m n : ℕ) → span f i (m + n) ≡ span f i m ++ span f (i + m) n
   span-append f i zero n =
       let e : zero + n ≡ n = omega arith in
@@ -61,14 +53,6 @@ module _ {A : Type 0} where
   unfoldable pub area : (ℕ → ℕ → A) → ℕ → ℕ → ℕ → ℕ → List A
   area p y x zero n = []
   area p y x (suc m) n = area p y x m n ++ span (p (y + m)) x n
-
-  pub area-none : (p : ℕ → ℕ → A) (y x n : ℕ) → area p y x 0 n ≡ []
-  unfolding area
-  area-none p y x n = refl
-
-  pub area-more : (p : ℕ → ℕ → A) (y x m n : ℕ) → area p y x (m + 1) n ≡ area p y x m n ++ span (p (y + m)) x n
-  unfolding area
-  area-more p y x m n = rw (add-one m)
 
   pub length-area : (p : ℕ → ℕ → A) (y x m n : ℕ) → length (area p y x m n) ≡ m * n
   unfolding area

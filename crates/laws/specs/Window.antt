@@ -1,15 +1,15 @@
 -- A list with n places from p on replaced: what a function over one slice and offsets leaves. Assumes nothing.
 use mathlib.Core.Path.{_≡_, refl, sym, ap, ap₂, _∙_}
-use Prim.Native.Nat.{ℕ, zero, suc, _+_, _*_, _-_, _≤_, _<_}
+use Prim.Native.Nat.{ℕ, suc, _+_, _*_, _-_, _≤_, _<_}
 use native.Mathlib.Omega.{arith}
-use native.Mathlib.Nat.{add-assoc, add-zero, zero-add, add-sub-cancel-left, suc-mul, zero-mul}
+use native.Mathlib.Nat.{add-assoc, add-zero, add-sub-cancel-left, suc-mul, zero-mul}
 use native.Mathlib.Numerals.{add-one}
 use native.Mathlib.Decide.{decLt}
-use mathlib.Core.List.{List, [], _∷_, _++_, append-assoc, append-nil}
-use lib.ListN.{length, getD, set, take, drop, length-append, length-take, length-drop, take-append-drop, List·getD-append}
-use lib.Seq.{take-at, drop-at, drop-drop, take-add, take-take, drop-append-le, take-append-le, getD-append-add, getD-take, getD-drop, length-take-le, drop-cons, set-at, append-snoc, ext-getD, take-set-le, drop-set-add, take-set-lt, drop-set-lt}
+use mathlib.Core.List.{List, [], _∷_, _++_, append-assoc}
+use lib.ListN.{length, set, take, drop, length-append, length-drop, take-append-drop, List·getD-append}
+use lib.Seq.{take-at, drop-at, drop-drop, take-add, drop-append-le, take-append-le, getD-append-add, getD-take, getD-drop, length-take-le, drop-cons, set-at, append-snoc, take-set-le, drop-set-add, take-set-lt, drop-set-lt}
 use lib.IntN.{ℤ, pos}
-use Rattle.laws.specs.Rows.{at, row, length-span, row-at, row-ext, row-more}
+use Rattle.laws.specs.Rows.{at, row, length-span, row-more}
 use Rattle.laws.specs.Chunks.{chunks, length-chunks, chunk-room, next-place}
 
 -- n places from p on
@@ -80,9 +80,6 @@ module _ (p n : ℕ) (ys l : List ℤ) (fits : p + n ≤ length l) (long : lengt
   drop-put-at : drop p (put p n ys l) ≡ ys ++ drop (p + n) l
   unfolding put
   drop-put-at = drop-at (take p l) (ys ++ drop (p + n) l) p head-long
-
-  put-behind : drop (p + n) (put p n ys l) ≡ drop (p + n) l
-  put-behind = sym (drop-drop n p (put p n ys l)) ∙ ap (drop n) drop-put-at ∙ drop-at ys (drop (p + n) l) n long
 
   pub piece-inner : (q : ℕ) → q ≤ n → piece p q (put p n ys l) ≡ take q ys
   piece-inner q h = ap (take q) drop-put-at ∙ take-append-le q ys (drop (p + n) l) (rw long h)
@@ -157,12 +154,6 @@ put-turn f l xs p k h e =
     ∙ append-assoc (take p l) (row (k + 1) f) (drop (suc (p + k)) l)
     ∙ ap (λ (x : ℕ). take p l ++ (row (k + 1) f ++ drop x l)) u
 
--- changed in place from the front: the next number is the old one
-pub fill-same : (f : ℕ → ℤ) (l xs : List ℤ) (k : ℕ) → xs ≡ row k f ++ drop k l → at xs k ≡ at l k
-fill-same f l xs k e =
-    let s : k ≡ length (row k f) + 0 = omega (arith, length-span f 0 k) in
-    ap (λ (z : List ℤ). at z k) e ∙ ap (at (row k f ++ drop k l)) s ∙ getD-append-add (row k f) (drop k l) 0 (pos 0) ∙ getD-drop k l 0 (pos 0) ∙ ap (at l) (add-zero k)
-
 -- one more part of len places
 pub part-turn : (F : ℕ → List ℤ) (len : ℕ) → ((k : ℕ) → length (F k) ≡ len) → (l xs ys : List ℤ) (to n p : ℕ) → to + n * len ≤ length l → p ≡ to + n * len
     → xs ≡ put to (n * len) (chunks F n) l → ys ≡ F n → put p len ys xs ≡ put to ((n + 1) * len) (chunks F (n + 1)) l
@@ -218,29 +209,7 @@ parts-same F l to count len now n p long q fits h i out =
     let r = parts-room F l to count len now n p q fits h in
     ap (λ (z : List ℤ). at z i) (q .now-is) ∙ put-out to (n * len) (chunks F n) l (omega (arith, q .place-is)) (length-chunks F len long n) i (λ o. omega (arith, out o, q .place-is))
 
--- ---- parts changed in place: f on each part of len places
-abbrev pub eachOf : (List ℤ → List ℤ) → ℕ → ℕ → List ℤ → ℕ → List ℤ
-eachOf f to len l n = f (row len (λ x. at l (to + n * len + x)))
-
-pub piece-row : (p len : ℕ) (l : List ℤ) → p + len ≤ length l → piece p len l ≡ row len (λ x. at l (p + x))
-piece-row p len l h = sym (row-at len (piece p len l) (length-piece p len l h)) ∙ row-ext len (at (piece p len l)) (λ x. at l (p + x)) (λ k hk. at-piece p len l k hk)
-
--- the part that is lent next is the old list's
-pub each-piece : (F : ℕ → List ℤ) (l : List ℤ) (to count len : ℕ) (now : List ℤ) (n p : ℕ) → ((k : ℕ) → length (F k) ≡ len) → Parts F l to count len now n p → to + count * len ≤ length l → n < count
-    → piece p (p + len - p) now ≡ row len (λ x. at l (to + n * len + x))
-each-piece F l to count len now n p long q fits h =
-    let r = parts-room F l to count len now n p q fits h in
-    ap (λ (k : ℕ). piece p k now) (add-sub-cancel-left p len) ∙ ap₂ (λ (p : ℕ) (z : List ℤ). piece p len z) (q .place-is) (q .now-is)
-    ∙ ap (take len) (put-behind to (n * len) (chunks F n) l (omega (arith, q .place-is)) (length-chunks F len long n))
-    ∙ piece-row (to + n * len) len l (omega (arith, q .place-is))
-
--- one more part, lent and changed by f
-pub each-next : (f : List ℤ → List ℤ) (l : List ℤ) (to count len : ℕ) (now : List ℤ) (n p : ℕ) → ((k : ℕ) → length (eachOf f to len l k) ≡ len) → Parts (eachOf f to len l) l to count len now n p
-    → to + count * len ≤ length l → n < count → (ys : List ℤ) → ys ≡ f (piece p (p + len - p) now)
-    → Parts (eachOf f to len l) l to count len (take p now ++ (ys ++ drop (p + len - p) (drop p now))) (n + 1) (p + len)
-each-next f l to count len now n p long q fits h ys e =
-    lent-next (eachOf f to len l) l to count len now n p long q fits h ys (e ∙ ap f (each-piece (eachOf f to len l) l to count len now n p long q fits h))
-
+-- ---- a part that was lent
 -- a value set in a part of m places that was lent from p on
 pub set-lent : (p m i : ℕ) (v : ℤ) (l : List ℤ) → i < m → take p l ++ (set (take m (drop p l)) i v ++ drop m (drop p l)) ≡ set l (p + i) v
 set-lent p m i v l h =

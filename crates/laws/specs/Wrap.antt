@@ -1,16 +1,14 @@
 -- The two's complement wrap of any integer at 64 bits. Assumes nothing.
 use mathlib.Core.Path.{_≡_, refl, ap, sym, _∙_}
 use mathlib.Core.Bool.{Bool, true, false, not}
-use Prim.Native.Nat.{ℕ, zero, suc, _+_, _*_, _-_, _/_, _%_, _^_, _≤_, _<_, min}
+use Prim.Native.Nat.{ℕ, suc, _+_, _*_, _-_, _/_, _%_, _^_, _≤_, _<_}
 use native.Mathlib.Omega.{arith}
-use native.Mathlib.Nat.{add-mul, mul-assoc, mul-comm}
 use lib.Dec.{T, ltb, ltb→lt, nltb→le}
-use lib.IntN.{ℤ, pos, negsuc, negℤ, natAbs, _+ℤ_, _-ℤ_, _*ℤ_, negℤ-negℤ}
-use lib.Signed.{shrZ, mag, ltZ}
+use lib.IntN.{ℤ, pos, negsuc, negℤ, _+ℤ_, _-ℤ_, _*ℤ_, negℤ-negℤ}
+use lib.Signed.{shrZ, mag}
 use mir.Syntax.{w64}
-use mir.Val.{SFits, Fits, toZ, ofZ, sel}
-use mir.Facts.{toZ-ofZ}
-use Rattle.laws.specs.Integer.{up, dn, Parts, parts, ext, Lin, var, minus, times, _⊞_, _⊟_, Floor, floor-law, lt-yes, lt-no}
+use mir.Val.{SFits, toZ, ofZ, sel}
+use Rattle.laws.specs.Integer.{up, dn, parts, ext, var, _⊞_, _⊟_}
 
 -- the lowest 64 bits of z
 abbrev pub low64 : ℤ → ℕ
@@ -68,15 +66,6 @@ wrap-add a b =
     let u = var (x .k) ⊞ var (y .k) in
     unique (a +ℤ b) _ _ (record { k = x .k +ℤ y .k; law = omega arith; fits = x .fits }) (wraps (a +ℤ b))
 
-pub wrap-sub-add : (a w : ℤ) → SFits w64 a → wrap (wrap (a -ℤ w) +ℤ w) ≡ a
-wrap-sub-add a w f =
-    let x = wraps (wrap (a -ℤ w) +ℤ w) in
-    let y = wraps (a -ℤ w) in
-    let v = var (wrap (a -ℤ w)) ⊞ var w in
-    let u = var a ⊟ var w in
-    let t = var (x .k) ⊞ var (y .k) in
-    unique a _ _ (record { k = x .k +ℤ y .k; law = omega arith; fits = x .fits }) (record { k = pos 0; law = omega arith; fits = f .sfits })
-
 -- by the machine's bits: n is z and j times 2 ^ 64
 pub wrap-bits : (z : ℤ) (n j : ℕ) → n + dn z ≡ up z + 2 ^ 64 * j → toZ w64 (n % 2 ^ 64) ≡ wrap z
 wrap-bits z n j h =
@@ -117,41 +106,6 @@ sub-bits a b r f g h e =
     let m : n % 2 ^ 64 ≡ r = omega arith in
     ap (toZ w64) (sym m) ∙ wrap-bits (a -ℤ b) n (1 + q + sg a - sg b) (omega (arith, ofZ-law a f, ofZ-law b g, ofZ-lt a f, ofZ-lt b g, sg-le b))
 
-pub tap-bits : (a : ℤ) (t : ℕ) → SFits w64 a → toZ w64 ((ofZ w64 a * t) % 2 ^ 64) ≡ wrap (pos t *ℤ a)
-tap-bits a t f =
-    let l = ofZ-law a f in
-    let v = times t (var a) in
-    let e : (ofZ w64 a + dn a) * t ≡ (up a + 2 ^ 64 * sg a) * t = ap (λ (x : ℕ). x * t) l in
-    wrap-bits (pos t *ℤ a) (ofZ w64 a * t) (sg a * t)
-    (omega (arith, add-mul (ofZ w64 a) (dn a) t, add-mul (up a) (2 ^ 64 * sg a) t, mul-assoc (2 ^ 64) (sg a) t, mul-comm t (up a), mul-comm t (dn a)))
-
-pub wrap-add-sub : (a w : ℤ) → SFits w64 a → wrap (wrap (a +ℤ w) -ℤ w) ≡ a
-wrap-add-sub a w f =
-    let x = wraps (wrap (a +ℤ w) -ℤ w) in
-    let y = wraps (a +ℤ w) in
-    let v = var (wrap (a +ℤ w)) ⊟ var w in
-    let u = var a ⊞ var w in
-    let t = var (x .k) ⊞ var (y .k) in
-    unique a _ _ (record { k = x .k +ℤ y .k; law = omega arith; fits = x .fits }) (record { k = pos 0; law = omega arith; fits = f .sfits })
-
-pub wrap-neg : (a : ℤ) → wrap (pos 0 -ℤ wrap a) ≡ wrap (negℤ a)
-wrap-neg a =
-    let x = wraps (pos 0 -ℤ wrap a) in
-    let y = wraps a in
-    let v = var (pos 0) ⊟ var (wrap a) in
-    let u = minus (var a) in
-    let t = var (x .k) ⊟ var (y .k) in
-    unique (negℤ a) _ _ (record { k = x .k -ℤ y .k; law = omega arith; fits = x .fits }) (wraps (negℤ a))
-
 pub neg-mul : (n : ℕ) (x : ℤ) → negsuc n *ℤ x ≡ negℤ (pos (suc n) *ℤ x)
 neg-mul n (pos a) = refl
 neg-mul n (negsuc a) = sym (negℤ-negℤ (pos (suc n * suc a)))
-
--- by the sign of t
-pub mul-below : (t x : ℤ) → ltZ t (pos 0) ≡ true → wrap (pos 0 -ℤ wrap (pos (natAbs t) *ℤ x)) ≡ wrap (t *ℤ x)
-mul-below (pos n) x h = let l = lt-yes (pos n) (pos 0) h in absurd (omega arith)
-mul-below (negsuc n) x h = wrap-neg (pos (suc n) *ℤ x) ∙ ap wrap (sym (neg-mul n x))
-
-pub mul-plain : (t x : ℤ) → ltZ t (pos 0) ≡ false → wrap (pos (natAbs t) *ℤ x) ≡ wrap (t *ℤ x)
-mul-plain (pos n) x h = refl
-mul-plain (negsuc n) x h = let l = lt-no (negsuc n) (pos 0) h in absurd (omega arith)

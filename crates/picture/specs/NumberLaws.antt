@@ -314,11 +314,6 @@ apart-run l c second a e k q w r =
       ahead = omega (arith, area-most l c, r .rebuilt, r .coefs .0);
     }
 
-coefs-ahead : (l : Layout) (c second : Component) (k q : ℕ) (w : List ℤ) → let s = stripOf l c second false 0 0 k q in
-    Apart w s → s .rebuilt + s .height * s .width ≤ c .coefs
-unfolding stripOf
-coefs-ahead l c second k q w fits = omega (arith, fits .ahead)
-
 -- the coefficients are still there
 pub holds-rebuilt : (w : List ℤ) (s : Strip) (base : ℕ) (bs : List Band) → Apart w s → s .rebuilt + s .height * s .width ≤ base → Holds w base bs
     → Holds (rebuiltStrip w s) base bs

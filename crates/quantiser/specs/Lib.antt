@@ -13,4 +13,3 @@ pub mod StepLaws
 pub mod LengthLaws
 pub mod QuantLaws
 pub mod RisesLaws
-pub mod Examples

@@ -5,12 +5,9 @@ use Prim.Native.Nat.{ℕ, zero, suc, _+_, _*_, _/_, _%_, _^_, _≤_, _<_}
 use native.Mathlib.Nat.{mod-lt, div-add-mod', div-eq-of-lt, div-le-of-le-mul, mul-le-mul-right, suc-mul, zero-mul, mul-le-mul-left}
 use native.Mathlib.Omega.{arith}
 use lib.IntN.{ℤ, pos, natAbs, _-ℤ_}
-use mir.Syntax.{w64}
-use mir.Val.{SFits}
-use Rattle.laws.specs.Machine.{fit}
 use Rattle.quantiser.specs.Standard.{factor, offset, signed, inverseAbs, inverse}
 use Rattle.quantiser.specs.Quant.{cap, quantFactor, quantOffset, forwardBy, forwardQuant, cappedInverseAbs, inverseBy, inverseQuant}
-use Rattle.quantiser.specs.CapLaws.{cap-same, cap-lt, cap-le, quantFactor-zero, quantFactor-one, quantFactor-six, factor-same, offset-same}
+use Rattle.quantiser.specs.CapLaws.{cap-same, cap-le, quantFactor-zero, quantFactor-one, quantFactor-six, factor-same, offset-same}
 pub use Rattle.quantiser.specs.CapLaws.{factor-least, quantFactor-least, quantFactor-lt, quantOffset-lt}
 use Rattle.quantiser.specs.SignLaws.{signed-zero, abs-signed, signed-abs, signed-signed, Near, near-signed}
 
@@ -26,9 +23,6 @@ quotient-most m i = div-le-of-le-mul (quantFactor i) (mul-le-mul-right m (quantF
 pub number-size : (c : ℤ) (i : ℕ) → natAbs (forwardQuant c i) ≤ natAbs c
 number-size c i =
     omega (arith, number-abs c i, cap-le (4 * natAbs c / quantFactor i), quotient-most (natAbs c) i)
-
-pub number-fits : (c : ℤ) (i : ℕ) → SFits w64 (forwardQuant c i)
-number-fits c i = fit (forwardQuant c i) (omega (arith, number-abs c i, cap-lt (4 * natAbs c / quantFactor i)))
 
 pub forward-zero : (c : ℤ) (i : ℕ) → 4 * natAbs c < quantFactor i → forwardQuant c i ≡ pos 0
 unfolding forwardQuant forwardBy
@@ -116,9 +110,6 @@ module _ (c : ℤ) (i : ℕ) (h : natAbs c < 2 ^ 53) where
 
   pub near : 4 * natAbs (c -ℤ inverseQuant (forwardQuant c i) i) < quantFactor i
   near = rw (rebuilt .is) (near-signed (quantFactor i) (rebuilt .size) c (rebuilt .near-size))
-
-  pub rebuilt-size : natAbs (inverseQuant (forwardQuant c i) i) ≤ natAbs c + natAbs c / 2 + 1
-  rebuilt-size = rw (rebuilt .is, abs-signed) (rebuilt .most)
 
   pub standard-same : inverse (forwardQuant c i) i ≡ inverseQuant (forwardQuant c i) i
   standard-same = rebuilt .by-standard ∙ sym (rebuilt .is)

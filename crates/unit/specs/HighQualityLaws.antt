@@ -232,9 +232,3 @@ unfolding highIndex
 high-index g m b p Lossless f c n k = omega arith
 high-index g m b p (FixedQuantIndex q) f c n k = omega arith
 high-index g m b p (PictureBytes t) f c n k = omega (arith, elected (fitsShare g m b p c n k) 0 255 (omega arith) .high)
-
--- under a byte target a slice whose index is below 255 fits its share
-pub high-fits : (g : Grid) (m : List ℕ) (b : Three (List Band)) (p t c n k : ℕ) → highIndex g m b p (PictureBytes t) c n k < 255
-    → takes g m b p (PictureBytes t) c n k ≤ shareOf n (count g) k
-unfolding highIndex
-high-fits g m b p t c n k h = leb-true _ (shareOf n (count g) k) (elected (fitsShare g m b p c n k) 0 255 (omega arith) .fit h)

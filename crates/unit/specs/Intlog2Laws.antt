@@ -1,8 +1,8 @@
 -- Laws of the standard's intlog2 and of sample offsets: intlog2 n is the least m with n at most 2^m. Assumes nothing.
 use mathlib.Core.Path.{_≡_, refl}
 use mathlib.Core.Bool.{Bool, true, false}
-use Prim.Native.Nat.{ℕ, zero, suc, _+_, _-_, _*_, _/_, _^_, _≤_, _<_}
-use native.Mathlib.Nat.{le-antisymm, pow-suc}
+use Prim.Native.Nat.{ℕ, zero, suc, _+_, _^_, _≤_, _<_}
+use native.Mathlib.Nat.{pow-suc}
 use native.Mathlib.Decide.{decLe}
 use native.Mathlib.Omega.{arith}
 use lib.Dec.{leb}
@@ -15,17 +15,6 @@ pub record Least (n m : ℕ) : Type 0 where
   pub enough : n ≤ 2 ^ m
   pub least : (j : ℕ) → n ≤ 2 ^ j → m ≤ j
 
-pub least-unique : {n a b : ℕ} → Least n a → Least n b → a ≡ b
-least-unique {n} {a} {b} s t = le-antisymm (s .least b (t .enough)) (t .least a (s .enough))
-
--- one less is too little
-pub least-below : (n m : ℕ) → Least n (suc m) → 2 ^ m < n
-least-below n m l = by (decLe n (2 ^ m))
-  where
-    by : Dec (n ≤ 2 ^ m) → 2 ^ m < n
-    by (yes h) = let g = l .least m h in absurd (omega arith)
-    by (no h) = omega arith
-
 -- what is more than 2^m needs more than m
 above : {n m : ℕ} → 2 ^ m < n → (j : ℕ) → n ≤ 2 ^ j → suc m ≤ j
 above {n} {m} p j g = by (decLe (suc m) j)
@@ -33,10 +22,6 @@ above {n} {m} p j g = by (decLe (suc m) j)
     by : Dec (suc m ≤ j) → suc m ≤ j
     by (yes h) = h
     by (no h) = let q = pow-mono {i = j} {j = m} (omega arith) in absurd (omega arith)
-
--- enough, where one less is too little
-pub least-by : (n m : ℕ) → n ≤ 2 ^ suc m → 2 ^ m < n → Least n (suc m)
-least-by n m h p = record { enough = h; least = above p }
 
 least-from : (f k n : ℕ) → n ≤ 2 ^ (k + f) → ((j : ℕ) → n ≤ 2 ^ j → k ≤ j) → Least n (leastFrom f k n)
 least-from zero k n h l = let e : k + 0 ≡ k = omega arith in record { enough = rw e at h; least = l }

@@ -166,14 +166,3 @@ module _ (g : Grid) (hm : 0 < g .down) (hn : 0 < g .across) (m : List ℕ) (q : 
           ap (drop (partSize g (sizeOf b) k)) (e k hk)
           ∙ drop-part g (sizeOf b) k (λ y x. numberAt i (b .plane y x) (predict (rebuilt g b i k (stateAt g m (b ∷ bs) q k)) y x)) (numbersFrom g m 1 bs (q k) k)),
     )
-
-    -- it is near
-    pub bands-near : (kind : PictureKind) (bs : List Band) (s : ℕ → List ℤ) → AllSmall n bs
-        → ((k : ℕ) → k < count g → s k ≡ numbersBy kind g m bs q k) → NearBands g m q 0 bs (readBandsBy g m q kind (map sizeOf bs) s)
-    bands-near kind bs s small e = near-bands g m q 0 bs (readBandsBy g m q kind (map sizeOf bs) s) (bands-read kind bs s small e)
-
-    -- and equal where every slice has index 0
-    pub bands-equal : (kind : PictureKind) (bs : List Band) (s : ℕ → List ℤ) → AllSmall n bs
-        → ((k : ℕ) → k < count g → s k ≡ numbersBy kind g m bs q k) → ((k : ℕ) → k < count g → q k ≡ 0)
-        → EqualBands bs (readBandsBy g m q kind (map sizeOf bs) s)
-    bands-equal kind bs s small e zeros = equal-bands zeros 0 bs (readBandsBy g m q kind (map sizeOf bs) s) (bands-read kind bs s small e)

@@ -187,10 +187,6 @@ module _ (g : Grid) (z : Size) (hm : 0 < g .down) (hn : 0 < g .across) (y x : �
       ∙ List·getD-append (part g z k f) rest (pos 0) (placeIn g z y x) long
       ∙ part-at f
 
-  -- f may differ from slice to slice
-  pub plane-back : (f : ℕ → Plane) (rest : ℕ → List ℤ) → numberPlane g z (λ k. part g z k (f k) ++ rest k) y x ≡ f (sliceOf g z y x) y x
-  plane-back f rest = number-back (λ k. part g z k (f k) ++ rest k) (f (sliceOf g z y x)) (rest (sliceOf g z y x)) refl
-
 -- ---- the standard's loop, 13.5.6: slice after slice, and in a slice's window number after number, row by row
 -- the plane p with v stored at (b, a)
 abbrev pub store : Plane → ℕ → ℕ → ℤ → Plane

@@ -13,7 +13,7 @@ use lib.ListN.{getD}
 use Rattle.laws.specs.Plane.{Plane, Agree}
 use Rattle.laws.specs.Integer.{parts, var, _⊞_, _⊟_, abs-sub}
 use Rattle.quantiser.specs.Standard.{signed, inverse}
-use Rattle.quantiser.specs.Quant.{inverseQuant, bandIndex}
+use Rattle.quantiser.specs.Quant.{bandIndex}
 use Rattle.wavelet.specs.Planes.{Band}
 use Rattle.unit.specs.Slices.{Grid, count, sliceOf}
 use Rattle.unit.specs.Predict.{predict, scan}
@@ -117,10 +117,6 @@ module _ (g : Grid) (m : List ℕ) (q : ℕ → ℕ) (b : Band) (bs : List Band)
   state-predict k y x hy hx l =
       after-predict k y x hy hx l (neighbours (After k) y x (λ c a hc ha. state-after k c a (omega arith) (omega arith)))
 
-  -- the last slice leaves the whole plane
-  pub state-last : Agree (b .high) (b .wide) (stateAt g m (b ∷ bs) q (count g)) (whole g m q b)
-  state-last = record { same = λ y x hy hx. state-after (count g) y x hy hx (slice-lt g (sizeOf b) hm hn y x hy hx) }
-
   -- the number of a place among its slice's
   pub number-whole : (s : ℕ → List ℤ) (y x : ℕ) → y < b .high → x < b .wide → let k = sliceOf g (sizeOf b) y x in
       s k ≡ numbersLD g m (b ∷ bs) (stateAt g m (b ∷ bs) q k) (q k) k
@@ -132,19 +128,6 @@ module _ (g : Grid) (m : List ℕ) (q : ℕ → ℕ) (b : Band) (bs : List Band)
       let r = stateAt g m (b ∷ bs) q (suc k) in
       number-back g (sizeOf b) hm hn y x hy hx s (λ y x. numberAt i (b .plane y x) (predict r y x)) (numbersFrom g m 1 bs (q k) k) e
       ∙ ap (numberAt i (b .plane y x)) (state-predict (suc k) y x hy hx (omega arith))
-
-  -- in it every place is its prediction and what is rebuilt of its number
-  pub last-recurs : (s : ℕ → List ℤ) → ((k : ℕ) → k < count g → s k ≡ numbersLD g m (b ∷ bs) (stateAt g m (b ∷ bs) q k) (q k) k)
-      → Recurs (λ y x p. p +ℤ inverseQuant (numberPlane g (sizeOf b) s y x) (indexAt g m q 0 (sizeOf b) y x)) (b .high) (b .wide) (stateAt g m (b ∷ bs) q (count g))
-  last-recurs s e =
-      record {
-        recurs = λ y x hy hx.
-            let l = slice-lt g (sizeOf b) hm hn y x hy hx in
-            let i : ℕ = indexAt g m q 0 (sizeOf b) y x in
-            state-after (count g) y x hy hx l
-            ∙ whole-recurs g m q b .recurs y x hy hx
-            ∙ ap₂ (λ (p v : ℤ). p +ℤ inverseQuant v i) (sym (state-predict (count g) y x hy hx l)) (sym (number-whole s y x hy hx (e (sliceOf g (sizeOf b) y x) l)));
-      }
 
 -- ---- sizes
 -- a value rebuilt from a prediction p of c goes from p towards c, and past it by at most half of the way and 1

@@ -176,8 +176,3 @@ recurs-unique g h w p q e d =
 
 pub scan-unique : (g : ℕ → ℕ → ℤ → ℤ) (h w : ℕ) (p : Plane) → Recurs g h w p → Agree h w p (scan g h w)
 scan-unique g h w p e = recurs-unique g h w p (scan g h w) e (scan-recurs g h w)
-
--- two makers that agree on what the first is asked make the same plane
-pub scan-cong : (f g : ℕ → ℕ → ℤ → ℤ) (h w : ℕ)
-    → ((y x : ℕ) → y < h → x < w → f y x (predict (scan f h w) y x) ≡ g y x (predict (scan f h w) y x)) → Agree h w (scan f h w) (scan g h w)
-scan-cong f g h w e = scan-unique g h w (scan f h w) (record { recurs = λ y x hy hx. scan-recurs f h w .recurs y x hy hx ∙ e y x hy hx })

@@ -196,10 +196,6 @@ many-by : (s : Settings) (m : List ℕ) (b : Three (List Band)) (kind : PictureK
 many-by s m b LowDelay = low-many (gridOf s) (matrixValues s m) b (numeratorOf s m) zeroPlanes 0 (count (gridOf s))
 many-by s m b HighQuality = high-many (gridOf s) (matrixValues s m) b (s .«slice_prefix_bytes») (s .rate) (scalerOf s m b) (highBytes s m (scalerOf s m b))
 
-pub many-of : (s : Settings) (m : List ℕ) (p : Three (List ℕ)) → length (planOf s m p .slices) ≡ count (gridOf s)
-unfolding planOf
-many-of s m p = many-by s m (coefficientsOf s p) (s .kind)
-
 -- what Sound says of the parameters and the slices, by kind
 pub record SoundBy (s : Settings) (kind : PictureKind) (a : Plan) : Type 0 where
   pub legal : Legal (majorVersion s) kind (a .parameters)
@@ -256,12 +252,6 @@ module _ (s : Settings) (m : List ℕ) (p : Three (List ℕ)) (work : List ℤ) 
   bytes-of rs e = bytes-by (s .kind) rs e
 
   -- ---- lengths
-  pub length-low-unit : s .kind ≡ LowDelay
-      → lengthOf s (planOf s m p) ≡ 17 + parameterBytes (majorVersion s) (lowParameters s m (numeratorOf s m)) + numeratorOf s m
-  length-low-unit e =
-      let o : ℕ = 17 + parameterBytes (majorVersion s) (lowParameters s m (numeratorOf s m)) in
-      ap (lengthOf s) (plan-by s m p LowDelay e) ∙ length-is s (planBy s m LowDelay (coefficientsOf s p)) ∙ ap (λ (n : ℕ). o + n) low-all
-
   pub length-high-unit : s .kind ≡ HighQuality → lengthOf s (planOf s m p) ≡ highOverhead s m p + sum (span (takenBy s m p) 0 (count (gridOf s)))
   length-high-unit e =
       let b = coefficientsOf s p in

@@ -7,19 +7,13 @@ use native.Mathlib.Omega.{arith}
 use borrow.Author.Tests.{leb-true}
 use lib.Dec.{leb}
 use lib.IntN.{ℤ, pos, negsuc, natAbs}
-use lib.ListN.{length, take, length-append, length-take}
+use lib.ListN.{length, take, length-append}
 use Rattle.codewords.specs.Bit.{lit, ones}
 use Rattle.codewords.specs.Code.{log2In, log2, interleaved, codeU, codeS, codes, zeroFilled}
 use Rattle.codewords.specs.CodeLaws.{codeS-pos, codeS-short, length-codeS}
 use Rattle.unit.specs.Trim.{trimCons, trimmed, bitsOf, trimmedCost, fitPrefix}
 
 -- ---- zeros filled in
-pub length-zeroFilled : (n : ℕ) (ys : List ℤ) → length (zeroFilled n ys) ≡ n
-unfolding zeroFilled
-length-zeroFilled zero ys = refl
-length-zeroFilled (suc n) [] = ap suc (length-zeroFilled n [])
-length-zeroFilled (suc n) (y ∷ ys) = ap suc (length-zeroFilled n ys)
-
 fill-cons : (n : ℕ) (x : ℤ) (ys : List ℤ) → zeroFilled (suc n) (trimCons x ys) ≡ x ∷ zeroFilled n ys
 unfolding zeroFilled
 fill-cons n x (y ∷ ys) = refl
@@ -70,19 +64,6 @@ unfolding codes
 bits-most [] a = omega arith
 bits-most (x ∷ xs) a = rw (length-append (codeS x) (codes xs)) (omega (arith, codeS-short x (a .0), bits-most xs (a .1)))
 
-bits-cons : (x : ℤ) (ys : List ℤ) → bitsOf (trimCons x ys) ≤ bitsOf (x ∷ ys)
-unfolding codes
-bits-cons x (y ∷ ys) = omega arith
-bits-cons (pos zero) [] = omega arith
-bits-cons (pos (suc k)) [] = omega arith
-bits-cons (negsuc k) [] = omega arith
-
-pub cost-bits : (xs : List ℤ) → trimmedCost xs ≤ bitsOf xs
-unfolding trimmedCost trimmed codes
-cost-bits [] = omega arith
-cost-bits (x ∷ xs) =
-    omega (arith, bits-cons x (trimmed xs), cost-bits xs, length-append (codeS x) (codes xs), length-append (codeS x) (codes (trimmed xs)))
-
 pub cost-most : (xs : List ℤ) → Small xs → trimmedCost xs ≤ 128 * length xs
 unfolding trimmedCost
 cost-most xs a = omega (arith, bits-most (trimmed xs) (small-trimmed xs a), length-trimmed xs)
@@ -109,9 +90,6 @@ fit-prefix (x ∷ xs) n = by (leb (length (codeS x)) n) (fit-prefix xs (n - leng
         → let r : List ℤ = elim b [ true ↦ x ∷ fitPrefix xs (n - length (codeS x)) | false ↦ [] ] in r ≡ take (length r) (x ∷ xs)
     by true h = ap (λ (r : List ℤ). x ∷ r) h
     by false h = refl
-
-pub length-fit : (xs : List ℤ) (n : ℕ) → length (fitPrefix xs n) ≤ length xs
-length-fit xs n = omega (arith, ap length (fit-prefix xs n), length-take (length (fitPrefix xs n)) xs)
 
 -- ---- a run of at most one bit
 -- it is empty or a single 0: it reads as no numbers do, and its bit is a 1

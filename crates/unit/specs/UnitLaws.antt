@@ -11,9 +11,9 @@ use lib.ListN.{length, length-append, length-replicate}
 use Rattle.codewords.specs.Bit.{Bits, lit, zeros}
 use Rattle.codewords.specs.BitLaws.{length-lit}
 use Rattle.codewords.specs.Bytes.{toBytes, fromBytes}
-use Rattle.codewords.specs.ByteLaws.{Full, full-nil, full-append, full-lit, full-length, from-to, length-toBytes, toBytes-append, length-fromBytes}
+use Rattle.codewords.specs.ByteLaws.{Full, full-nil, full-append, full-lit, full-length, from-to, length-toBytes, toBytes-append}
 use Rattle.codewords.specs.Read.{Read, got, stop, Parser, pure, such, after, _>>=_, readNbits, byteAlign}
-use Rattle.codewords.specs.ReadLaws.{Reads, reads-pure, reads-bind, reads-such, reads-nbits, ReadsTo, reads-to, reads-align}
+use Rattle.codewords.specs.ReadLaws.{Reads, reads-pure, reads-bind, reads-such, reads-nbits, ReadsTo, reads-align}
 use Rattle.unit.specs.declared.Settings.{Settings}
 use Rattle.unit.specs.declared.PictureKind.{PictureKind}
 use Rattle.unit.specs.declared.PictureKind.the-variants.{LowDelay, HighQuality}

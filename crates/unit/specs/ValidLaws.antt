@@ -134,10 +134,6 @@ module _ (s : Settings) (m : List ℕ) (p : Three (List ℕ)) (work : List ℤ) 
   unfolding refusalOf
   valid e = kept .0 (none-of (broken s m p work) 0 .0 e)
 
-  pub not-refused : Valid s m p work → refusalOf s m p work ≡ 0
-  unfolding refusalOf
-  not-refused v = none-of (broken s m p work) 0 .1 (kept .1 v)
-
 -- ---- sizes
 -- a component's size z, and its padded size
 pub record Sides (s : Settings) (z : Size) : Type 0 where
@@ -224,11 +220,6 @@ module _ {s : Settings} {m : List ℕ} {p : Three (List ℕ)} {work : List ℤ} 
       let c = colour-fits s in
       sides s (colourSize s) (v .depths) (omega (arith, v .width)) (omega (arith, v .height)) (v .colour-some)
       (le-trans (colour-most s) (v .padded))
-
-  -- the most that a call asks of the work slice
-  pub work-few : workNeeded s ≤ 603979776
-  unfolding workNeeded
-  work-few = omega (arith, luma-sides .padded-area, colour-sides .padded-area)
 
   -- ---- sample depths
   pub sample-depths : DepthsFit (depthsOf s)

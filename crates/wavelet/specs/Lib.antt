@@ -19,4 +19,3 @@ pub mod Level
 pub mod Walk
 pub mod Component
 pub mod Theorems
-pub mod Examples

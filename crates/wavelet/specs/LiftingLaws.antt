@@ -10,11 +10,8 @@ use mathlib.Core.List.{List, [], _∷_}
 use lib.Dec.{eqb, ltb}
 use lib.ListN.{length, take, drop, set, getD, length-set, List·getD-eq-default}
 use lib.Seq.{ext-getD, length-take-le, getD-take, getD-set-same, getD-set-other, drop-cons, drop-length}
-use lib.IntN.{ℤ, pos, _+ℤ_, _-ℤ_, _*ℤ_, +ℤ-negℤ-cancel, -ℤ-+ℤ-cancel}
-use mir.Syntax.{w64}
-use mir.Val.{SFits}
+use lib.IntN.{ℤ, pos, _+ℤ_, _*ℤ_, +ℤ-negℤ-cancel, -ℤ-+ℤ-cancel}
 use borrow.Author.Tests.{lt-ltb, le-ltb, eq-eqb, ne-eqb}
-use Rattle.laws.specs.Wrap.{wrap, wraps, wrap-sub-add, wrap-add-sub}
 use Rattle.laws.specs.Rows.{at, at-row, length-span}
 use Rattle.wavelet.specs.Lifting.{Stage, within, place, exact, dot, scaled, delta, change, newAt, lifted, lift, unlift, synthesis, analysis}
 use Rattle.wavelet.specs.Filters.{dd97, legall, dd137, haar0, haar1, fidelity, daub97, filterOf, analysisBy, synthesisBy}
@@ -253,34 +250,18 @@ module _ (wr : ℤ → ℤ) where
         let ys = analysis wr ss xs in
         ap (synthesis wr ss) (lift-unlift st ys (h .0) (rw (length-analysis ss xs) e) (analysis-P ss xs z q)) ∙ synthesis-analysis ss xs (h .1) e z q
 
--- ---- without wrap, and with it
+-- ---- without wrap
 undo : (b : Bool) (x y : ℤ) → Unit {0} → change exact b (change exact (not b) x y) y ≡ x
 undo true x y t = -ℤ-+ℤ-cancel x y
 undo false x y t = +ℤ-negℤ-cancel x y
-
-undo-wrap : (b : Bool) (x y : ℤ) → SFits w64 x → change wrap b (change wrap (not b) x y) y ≡ x
-undo-wrap true x y h = wrap-sub-add x y h
-undo-wrap false x y h = wrap-add-sub x y h
-
-fits-wrap : (b : Bool) (x y : ℤ) → SFits w64 (change wrap b x y)
-fits-wrap true x y = record { sfits = wraps (x +ℤ y) .fits }
-fits-wrap false x y = record { sfits = wraps (x -ℤ y) .fits }
 
 pub sides : (i : ℕ) → i ≤ 6 → Sides (filterOf i .stages)
 unfolding dd97 legall dd137 haar0 haar1 fidelity daub97
 sides = each-filter (λ i. Sides (filterOf i .stages)) (omega arith) (omega arith) (omega arith) (omega arith) (omega arith) (omega arith) (omega arith)
 
--- the synthesis of the analysis is the row: on ℤ, and on 64-bit numbers whose sums wrap
+-- the synthesis of the analysis is the row
 pub synthesis-exact : (i : ℕ) (xs : List ℤ) → i ≤ 6 → length xs % 2 ≡ 0 → synthesisBy exact i (analysisBy exact i xs) ≡ xs
 synthesis-exact i xs l e = synthesis-analysis exact (λ x. Unit {0}) undo (λ b x y. tt) (filterOf i .stages) xs (sides i l) e tt (λ k. tt)
-
-pub synthesis-wrapped : (i : ℕ) (xs : List ℤ) → i ≤ 6 → length xs % 2 ≡ 0 → ((k : ℕ) → SFits w64 (at xs k)) → synthesisBy wrap i (analysisBy wrap i xs) ≡ xs
-synthesis-wrapped i xs l e q = synthesis-analysis wrap (SFits w64) undo-wrap fits-wrap (filterOf i .stages) xs (sides i l) e (record { sfits = omega arith }) q
-
-pub dot-fits : (t x : ℕ → ℤ) (k : ℕ) → SFits w64 (dot wrap t x k)
-unfolding dot
-dot-fits t x zero = record { sfits = omega arith }
-dot-fits t x (suc k) = record { sfits = wraps (dot wrap t x k +ℤ wrap (t k *ℤ x k)) .fits }
 
 -- the first c taps of an array
 pub dot-take : (wr : ℤ → ℤ) (ts : List ℤ) (c : ℕ) (x : ℕ → ℤ) → c ≤ length ts → dot wr (at ts) x c ≡ dot wr (at (take c ts)) x (length (take c ts))

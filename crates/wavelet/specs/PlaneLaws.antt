@@ -131,9 +131,6 @@ padded-both k d h w p =
 pub padded-across : (k h w : ℕ) → Padded (suc k) 0 h w → (w % 2 ≡ 0) × Padded k 0 h (w / 2)
 padded-across k h w p = let b = half-of w (k + 0) (rw (suc-add k 0) at (p .wide)) in (b .0, record { high = p .high; wide = b .1 })
 
-pub padded-of : (k d a c : ℕ) → Padded k d (2 ^ d * a) (2 ^ (k + d) * c)
-padded-of k d a c = record { high = mul-mod-right (2 ^ d) a; wide = mul-mod-right (2 ^ (k + d)) c }
-
 -- ---- how many bands
 pub length-dwtH : (wr : ℤ → ℤ) (i k h w : ℕ) (f : Plane) → length (dwtH wr i k h w f) ≡ 1 + k
 unfolding dwtH
