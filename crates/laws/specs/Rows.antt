@@ -12,6 +12,11 @@ use lib.IntN.{ℤ, pos}
 abbrev pub at : List ℤ → ℕ → ℤ
 at xs k = getD xs k (pos 0)
 
+-- the sum of a list's numbers
+abbrev pub total : List ℕ → ℕ
+total [] = 0
+total (n ∷ ns) = n + total ns
+
 module _ {A : Type 0} where
   -- f i, f (i + 1), .., n of them
   abbrev pub span : (ℕ → A) → ℕ → ℕ → List A

@@ -17,14 +17,14 @@ use Rattle.laws.specs.Laid.{Lays, laid-is}
 use Rattle.codewords.specs.Bytes.{toBytes}
 use Rattle.quantiser.specs.Default.{places}
 use Rattle.wavelet.specs.Lifting.{exact}
-use Rattle.wavelet.specs.Pad.{padded}
+use Rattle.wavelet.specs.Pad.{roundedUp, padded}
 use Rattle.unit.specs.declared.Settings.{Settings}
 use Rattle.unit.specs.declared.Coded.{Coded}
 use Rattle.unit.specs.declared.Answer.the-variants.{Accepted, Refused}
 use Rattle.unit.specs.Three.{Three}
 use Rattle.unit.specs.Sizes.{Size, lumaSize, colourSize, depthsOf, offsetOf}
 use Rattle.unit.specs.Slices.{count}
-use Rattle.unit.specs.Subbands.{roundedUp, paddedSize, subbandCount}
+use Rattle.unit.specs.Subbands.{paddedSize, subbandCount}
 use Rattle.unit.specs.Matrix.{defaultOf, orNone, matrixValues}
 use Rattle.unit.specs.MatrixLaws.{MatrixIf, default-matrix}
 use Rattle.unit.specs.PaddedLaws.{rounded-mono}

@@ -14,7 +14,7 @@ use Rattle.laws.specs.Rows.{at, span, row}
 use Rattle.laws.specs.Wrap.{wrap}
 use Rattle.wavelet.specs.Planes.{Band, coefficients}
 use Rattle.wavelet.specs.PlaneLaws.{length-coefficients}
-use Rattle.wavelet.specs.Pad.{padded, componentOf}
+use Rattle.wavelet.specs.Pad.{roundedUp, padded, componentOf}
 use Rattle.wavelet.specs.Theorems.{component-exact}
 use Rattle.wavelet.specs.Walk.{Deep}
 use Rattle.wavelet.specs.Component.{ComponentsIn}
@@ -23,7 +23,7 @@ use Rattle.wavelet.specs.declared.component.Transform.{Transform}
 use Rattle.unit.specs.declared.Settings.{Settings}
 use Rattle.unit.specs.Three.{Three}
 use Rattle.unit.specs.Sizes.{Size, area, lumaSize, colourSize, intlog2, depthsOf, offsetOf}
-use Rattle.unit.specs.Subbands.{roundedUp, paddedSize}
+use Rattle.unit.specs.Subbands.{paddedSize}
 use Rattle.unit.specs.Refusal.{paddedArea, workNeeded}
 use Rattle.unit.specs.Coefficients.{bandsOf, coefficientsOf}
 use Rattle.unit.specs.Valid.{Between}

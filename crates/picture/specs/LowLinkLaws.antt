@@ -9,7 +9,7 @@ use lib.Arith.{digits-lt}
 use lib.Dec.{eqb, leb, ltb}
 use lib.IntN.{ℤ, pos}
 use lib.ListN.{length, getD, drop}
-use Rattle.laws.specs.Rows.{at, span, span-suc}
+use Rattle.laws.specs.Rows.{at, span, span-suc, total}
 use Rattle.laws.specs.Plane.{Plane, Agree}
 use Rattle.laws.specs.Chunks.{chunks-ext}
 use Rattle.laws.specs.Laid.{Lays}
@@ -37,7 +37,6 @@ use Rattle.unit.specs.Parameters.{lowDelay, Parameters, parameterBytes}
 use Rattle.unit.specs.Matrix.{matrixValues}
 use Rattle.unit.specs.Coefficients.{coefficientsOf}
 use Rattle.unit.specs.Valid.{RateFits}
-use Rattle.unit.specs.Demand.{sum}
 use Rattle.unit.specs.Unit.{majorVersion, gridOf, parametersBy, targetOf, lowParameters, numeratorOf, planBy, planOf, sliceRuns, joined, headBits, lengthOf}
 use Rattle.unit.specs.Outcome.{lastIndices, cutCount, scalerIn, codedOf}
 use Rattle.unit.specs.LowDelayLaws.{numerator-least, bytes-all, low-bytes}
@@ -375,7 +374,7 @@ module _ {s : Settings} {m : List ℕ} (called : Called s m) (low : s .kind ≡ 
         let g = gridOf s in
         let o : ℕ = 17 + parameterBytes (majorVersion s) (lowParameters s m n) in
         ap (lengthOf s) plan-is ∙ length-is s (planBy s m LowDelay bands)
-        ∙ ap (λ (k : ℕ). o + k) (ap sum (low-bytes g (matrixValues s m) bands n zeroPlanes 0 (count g) slices-some numerator-some) ∙ bytes-all n (count g) slices-some)
+        ∙ ap (λ (k : ℕ). o + k) (ap total (low-bytes g (matrixValues s m) bands n zeroPlanes 0 (count g) slices-some numerator-some) ∙ bytes-all n (count g) slices-some)
 
     module _ (w : List ℤ) (an : Analysed s pl w) where
       front-room : pictureOf s m .front ≤ length w

@@ -11,11 +11,11 @@ use native.Mathlib.Decide.{decLt, ℕ-discrete}
 use lib.ListN.{length, getD, take, drop, set, replicate, length-append, length-drop, getD-replicate, take-append-drop, List·getD-map}
 use lib.Seq.{paste, paste-suc, take-all}
 use borrow.Author.Tests.{lt-ltb, le-ltb, eq-eqb, ne-eqb}
-use Rattle.laws.specs.Rows.{span}
+use Rattle.laws.specs.Rows.{span, total}
 use Rattle.quantiser.specs.TableLaws.{table}
 use Rattle.quantiser.specs.AnnexD.{Table, tables, tableD8, nth, andThen, tableOf, defaultMatrix}
 use Rattle.quantiser.specs.Default.{places, handed, defaultOf}
-use Rattle.quantiser.specs.Cells.{allTables, shape, sum, startOf, cellOf, tableAt, matrixAt}
+use Rattle.quantiser.specs.Cells.{allTables, shape, startOf, cellOf, tableAt, matrixAt}
 
 -- ---- lists
 module _ {A : Type 0} where
@@ -38,7 +38,7 @@ module _ {A : Type 0} where
   nth-right [] ys n = ap (nth ys) (zero-add n)
   nth-right (x ∷ xs) ys n = ap (nth (x ∷ (xs ++ ys))) (suc-add (length xs) n) ∙ nth-right xs ys n
 
-  length-flatten : (t : List (List A)) → length (flatten t) ≡ sum (map length t)
+  length-flatten : (t : List (List A)) → length (flatten t) ≡ total (map length t)
   unfolding flatten
   length-flatten [] = refl
   length-flatten (b ∷ t) = length-append b (flatten t) ∙ ap (λ (n : ℕ). length b + n) (length-flatten t)
@@ -100,7 +100,7 @@ start-up [] (suc k) = omega arith
 start-up (n ∷ ns) zero = omega arith
 start-up (n ∷ ns) (suc k) = omega (arith, start-up ns k)
 
-start-most : (sizes : List ℕ) (k : ℕ) → startOf sizes k ≤ sum sizes
+start-most : (sizes : List ℕ) (k : ℕ) → startOf sizes k ≤ total sizes
 start-most ns zero = omega arith
 start-most [] (suc k) = omega arith
 start-most (n ∷ ns) (suc k) = omega (arith, start-most ns k)
@@ -114,7 +114,7 @@ unfolding cellOf
 cell-out d k h = rw (le-ltb _ _ h) refl
 
 pub cell-past : (d k : ℕ) → 4 < k → 19 ≡ cellOf d k
-cell-past d k h = cell-out d k (omega (arith, start-most shape (suc k), ap sum (take-all k shape h)))
+cell-past d k h = cell-out d k (omega (arith, start-most shape (suc k), ap total (take-all k shape h)))
 
 -- by the block's start s and the next one's n
 pub record Place (d k s n : ℕ) : Type 0 where
@@ -152,7 +152,7 @@ cell-finds t d k e = by (decLt (startOf shape k + d) (startOf shape (suc k)))
     by (no l) =
         let g : startOf shape (suc k) ≤ startOf shape k + d = omega arith in
         rw (← cell-out d k g)
-        (nth-out (flatten t) 19 (omega (arith, length-flatten t, ap sum e)) ∙ sym (block-out t k d (rw e g)))
+        (nth-out (flatten t) 19 (omega (arith, length-flatten t, ap total e)) ∙ sym (block-out t k d (rw e g)))
 
 -- ---- what antt computes of the eight tables: how many, their shape, and that no matrix has more than 14 values
 eight : length allTables ≡ 8
@@ -178,7 +178,7 @@ module _ (t : ℕ) (ht : t < 8) where
   shape-at = sym (List·getD-map (map length) allTables t []) ∙ ap (λ (l : List (List ℕ)). getD l t []) shapes ∙ getD-replicate 8 t shape [] ht
 
   count : length (flatten (tableAt t)) ≡ 19
-  count = length-flatten (tableAt t) ∙ ap sum shape-at
+  count = length-flatten (tableAt t) ∙ ap total shape-at
 
   tail-at : (c : ℕ) → c < 19 → tail (matrixAt t c) ≡ replicate 11 0
   unfolding matrixAt

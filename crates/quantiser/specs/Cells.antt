@@ -5,6 +5,7 @@ use mathlib.Core.List.{List, [], _∷_, _++_, flatten}
 use Prim.Native.Nat.{ℕ, suc, _+_}
 use lib.Dec.{ltb}
 use lib.ListN.{getD, take}
+use Rattle.laws.specs.Rows.{total}
 use Rattle.quantiser.specs.AnnexD.{Table, tables, tableD1, tableD2, tableD3, tableD4, tableD5, tableD6, tableD7, tableD8}
 
 unfoldable pub allTables : List Table
@@ -15,13 +16,9 @@ allTables = tables ++ (tableD8 ∷ [])
 abbrev pub shape : List ℕ
 shape = 5 ∷ 5 ∷ 4 ∷ 3 ∷ 2 ∷ []
 
-abbrev pub sum : List ℕ → ℕ
-sum [] = 0
-sum (n ∷ ns) = n + sum ns
-
 -- where block k starts, in a table of blocks of these sizes
 abbrev pub startOf : List ℕ → ℕ → ℕ
-startOf sizes k = sum (take k sizes)
+startOf sizes k = total (take k sizes)
 
 -- a matrix's place in its table, for a depth and a horizontal-only depth: 19, past the last, where there is none
 unfoldable pub cellOf : ℕ → ℕ → ℕ

@@ -6,7 +6,7 @@ use lib.IntN.{ℤ, pos, natAbs, _-ℤ_}
 use lib.ListN.{length, getD}
 use Rattle.codewords.specs.Read.{Read, got}
 use Rattle.laws.specs.Plane.{Plane}
-use Rattle.laws.specs.Rows.{span}
+use Rattle.laws.specs.Rows.{span, total}
 use Rattle.quantiser.specs.Quant.{quantFactor, bandIndex}
 use Rattle.wavelet.specs.Planes.{Band}
 use Rattle.unit.specs.declared.Settings.{Settings}
@@ -49,14 +49,10 @@ abbrev pub Follow : ℕ → List SliceRead → ℕ → Type 0
 Follow n [] e = n ≡ e
 Follow n (r ∷ rs) e = (r .offset ≡ n) × Follow (n + r .length) rs e
 
-abbrev pub sum : List ℕ → ℕ
-sum [] = 0
-sum (n ∷ ns) = n + sum ns
-
 -- low delay: each slice takes exactly its slice bytes, and they sum to the numerator
 abbrev pub Bytes : SliceParameters → List SliceRead → Type 0
 Bytes (highQuality p c) ss = Unit {0}
-Bytes (lowDelay n d) ss = (map (λ (r : SliceRead). r .length) ss ≡ span (sliceBytes n d) 0 (length ss)) × (sum (map (λ (r : SliceRead). r .length) ss) ≡ n)
+Bytes (lowDelay n d) ss = (map (λ (r : SliceRead). r .length) ss ≡ span (sliceBytes n d) 0 (length ss)) × (total (map (λ (r : SliceRead). r .length) ss) ≡ n)
 
 -- no slice has dropped a number that is not 0
 abbrev pub Undropped : Plan → Type 0

@@ -9,7 +9,7 @@ use borrow.Author.Tests.{leb-true, leb-false, ltb-true, ltb-false}
 use lib.Dec.{leb, ltb}
 use lib.IntN.{ℤ}
 use lib.ListN.{length, length-append, length-replicate}
-use Rattle.laws.specs.Rows.{span, length-span, map-span, span-ext}
+use Rattle.laws.specs.Rows.{span, length-span, map-span, span-ext, total}
 use Rattle.codewords.specs.Bit.{Bits, lit, ones, zeros}
 use Rattle.codewords.specs.BitLaws.{length-lit}
 use Rattle.codewords.specs.Code.{codes}
@@ -27,7 +27,7 @@ use Rattle.unit.specs.Plan.{SlicePlan}
 use Rattle.unit.specs.Quantised.{sizeOf, numbersHQ}
 use Rattle.unit.specs.HighQuality.{ceiling, needOf, scalersOf, componentBits, highBits, sliceSize, shareOf, highNumbers, highIndex, highPlan, highSlices, largestNeed, scalerFrom}
 use Rattle.unit.specs.Reader.{readComponent, readHigh}
-use Rattle.unit.specs.Demand.{sum, bytesOf}
+use Rattle.unit.specs.Demand.{bytesOf}
 use Rattle.unit.specs.Valid.{RateFits}
 use Rattle.unit.specs.ElectLaws.{elected}
 use Rattle.unit.specs.SubbandLaws.{areas}
@@ -183,25 +183,25 @@ module _ (n d : ℕ) where
       by false false e f = (omega arith, omega arith)
 
   -- the shares of j slices from slice k on
-  shares-sum : (k j : ℕ) → sum (span (shareOf n d) k j) + min k (n % d) ≡ j * (n / d) + min (k + j) (n % d)
+  shares-sum : (k j : ℕ) → total (span (shareOf n d) k j) + min k (n % d) ≡ j * (n / d) + min (k + j) (n % d)
   unfolding shareOf
   shares-sum k zero = let e : k + 0 ≡ k = omega arith in rw (e, zero-mul (n / d)) (omega arith)
   shares-sum k (suc j) = by (ltb k (n % d)) refl (shares-sum (suc k) j)
     where
-      by : (a : Bool) → ltb k (n % d) ≡ a → sum (span (shareOf n d) (suc k) j) + min (suc k) (n % d) ≡ j * (n / d) + min (suc k + j) (n % d)
-          → n / d + cond a 1 0 + sum (span (shareOf n d) (suc k) j) + min k (n % d) ≡ suc j * (n / d) + min (k + suc j) (n % d)
+      by : (a : Bool) → ltb k (n % d) ≡ a → total (span (shareOf n d) (suc k) j) + min (suc k) (n % d) ≡ j * (n / d) + min (suc k + j) (n % d)
+          → n / d + cond a 1 0 + total (span (shareOf n d) (suc k) j) + min k (n % d) ≡ suc j * (n / d) + min (k + suc j) (n % d)
       by true e h = omega (arith, suc-mul j (n / d), ltb-true k (n % d) e)
       by false e h = omega (arith, suc-mul j (n / d), ltb-false k (n % d) e)
 
-  pub shares-all : 1 ≤ d → sum (span (shareOf n d) 0 d) ≡ n
+  pub shares-all : 1 ≤ d → total (span (shareOf n d) 0 d) ≡ n
   shares-all h = omega (arith, shares-sum 0 d, mod-lt n h, div-add-mod n d)
 
-sum-most : (f g : ℕ → ℕ) (i n : ℕ) → ((k : ℕ) → i ≤ k → k < i + n → f k ≤ g k) → sum (span f i n) ≤ sum (span g i n)
+sum-most : (f g : ℕ → ℕ) (i n : ℕ) → ((k : ℕ) → i ≤ k → k < i + n → f k ≤ g k) → total (span f i n) ≤ total (span g i n)
 sum-most f g i zero h = omega arith
 sum-most f g i (suc n) h = omega (arith, h i (omega arith) (omega arith), sum-most f g (suc i) n (λ k a b. h k (omega arith) (omega arith)))
 
 -- slices that fit their shares take no more than n bytes
-pub shares-kept : (f : ℕ → ℕ) (n d : ℕ) → 1 ≤ d → ((k : ℕ) → k < d → f k ≤ shareOf n d k) → sum (span f 0 d) ≤ n
+pub shares-kept : (f : ℕ → ℕ) (n d : ℕ) → 1 ≤ d → ((k : ℕ) → k < d → f k ≤ shareOf n d k) → total (span f 0 d) ≤ n
 shares-kept f n d h e = omega (arith, sum-most f (shareOf n d) 0 d (λ k a b. e k (omega arith)), shares-all n d h)
 
 -- ---- slices as planned

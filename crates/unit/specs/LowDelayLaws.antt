@@ -9,7 +9,7 @@ use borrow.Author.Tests.{leb-true, le-leb}
 use lib.Dec.{leb, le→leb}
 use lib.IntN.{ℤ}
 use lib.ListN.{length, length-append, length-replicate, replicate-append-replicate}
-use Rattle.laws.specs.Rows.{span}
+use Rattle.laws.specs.Rows.{span, total}
 use Rattle.laws.specs.Plane.{Plane}
 use Rattle.codewords.specs.Bit.{Bits, lit, ones}
 use Rattle.codewords.specs.BitLaws.{length-lit, lit-none}
@@ -26,7 +26,7 @@ use Rattle.unit.specs.Parameters.{Parameters}
 use Rattle.unit.specs.Trim.{trimmed, bitsOf, trimmedCost, fitPrefix}
 use Rattle.unit.specs.LowDelay.{sliceBytes, lengthBits, roomOf, numerator, alternated, evens, odds, lowBits, Runs, keptRuns, lowNumbers, lowFits, lowIndex, lowPlanOf, lowPlan, lowSlices, lowLeft}
 use Rattle.unit.specs.Reader.{SliceNumbers, readLow}
-use Rattle.unit.specs.Demand.{sum, bytesOf}
+use Rattle.unit.specs.Demand.{bytesOf}
 use Rattle.unit.specs.Intlog2Laws.{intlog2-least, intlog2-most}
 use Rattle.unit.specs.ElectLaws.{elected}
 use Rattle.unit.specs.TrimLaws.{filled-trimmed, fit-bits, bare}
@@ -46,7 +46,7 @@ module _ (n d : ℕ) where
       omega (arith, div-rises d h, add-div-right (k * n) a)
 
   -- the bytes of j slices from slice k on
-  bytes-sum : (k j : ℕ) → sum (span (sliceBytes n d) k j) + k * n / d ≡ (k + j) * n / d
+  bytes-sum : (k j : ℕ) → total (span (sliceBytes n d) k j) + k * n / d ≡ (k + j) * n / d
   unfolding sliceBytes
   bytes-sum k zero = let e : k + 0 ≡ k = omega arith in rw e (omega arith)
   bytes-sum k (suc j) =
@@ -54,7 +54,7 @@ module _ (n d : ℕ) where
       let h : k * n ≤ suc k * n = omega (arith, suc-mul k n) in
       rw e (omega (arith, bytes-sum (suc k) j, div-rises d h))
 
-  pub bytes-all : 1 ≤ d → sum (span (sliceBytes n d) 0 d) ≡ n
+  pub bytes-all : 1 ≤ d → total (span (sliceBytes n d) 0 d) ≡ n
   bytes-all a =
       let e : 0 + d ≡ d = omega arith in
       let f : (0 + d) * n / d ≡ n = rw e (mul-div-cancel-left n a) in

@@ -5,8 +5,9 @@ use native.Mathlib.Nat.{div-add-mod', mod-lt, mul-mod-left, mul-le-mul, mul-le-m
 use native.Mathlib.Omega.{arith}
 use lib.Pow.{pow-pos}
 use Rattle.wavelet.specs.Planes.{Padded}
+use Rattle.wavelet.specs.Pad.{roundedUp}
 use Rattle.unit.specs.Sizes.{Size, area}
-use Rattle.unit.specs.Subbands.{roundedUp, paddedSize}
+use Rattle.unit.specs.Subbands.{paddedSize}
 use Rattle.unit.specs.SliceLaws.{div-rises}
 
 -- r is n rounded up to a multiple of m

@@ -12,7 +12,7 @@ use lib.Dec.{leb}
 use lib.IntN.{ℤ, pos}
 use lib.ListN.{length, getD}
 use lib.Arith.{digits-div, digits-mod}
-use Rattle.laws.specs.Rows.{span}
+use Rattle.laws.specs.Rows.{span, total}
 use Rattle.laws.specs.Plane.{Plane}
 use Rattle.codewords.specs.Bit.{Bits, lit, value, ones}
 use Rattle.codewords.specs.BitLaws.{length-lit, lit-none, value-lt, lit-value}
@@ -26,7 +26,7 @@ use Rattle.unit.specs.Trim.{bitsOf}
 use Rattle.unit.specs.LowDelay.{roomOf, evens, odds, lowBits}
 use Rattle.unit.specs.HighQuality.{shareOf}
 use Rattle.unit.specs.Reader.{SliceNumbers, readLow}
-use Rattle.unit.specs.Demand.{All, sum}
+use Rattle.unit.specs.Demand.{All}
 use Rattle.unit.specs.TrimLaws.{bare}
 use Rattle.unit.specs.LowDelayLaws.{lowRead, reads-blocks, block-ones, one-bit}
 use Rattle.unit.specs.HighQualityLaws.{share-falls, shares-all}
@@ -42,7 +42,7 @@ shares-close n d i j = by (leb i j) refl
 
 -- any two differ by at most one byte, earlier ones are not smaller, and they sum to n
 pub shares : (n d : ℕ) → 1 ≤ d
-    → ((i j : ℕ) → shareOf n d i ≤ suc (shareOf n d j)) × ((i j : ℕ) → i ≤ j → shareOf n d j ≤ shareOf n d i) × (sum (span (shareOf n d) 0 d) ≡ n)
+    → ((i j : ℕ) → shareOf n d i ≤ suc (shareOf n d j)) × ((i j : ℕ) → i ≤ j → shareOf n d j ≤ shareOf n d i) × (total (span (shareOf n d) 0 d) ≡ n)
 shares n d h = (shares-close n d, λ i j l. share-falls n d i j l .0, shares-all n d h)
 
 -- ---- a low-delay slice of one byte

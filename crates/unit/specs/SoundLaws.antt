@@ -7,7 +7,7 @@ use native.Mathlib.Nat.{le-trans, zero-div, zero-mod}
 use native.Mathlib.Decide.{decLe}
 use lib.IntN.{ℤ}
 use lib.ListN.{length, length-append}
-use Rattle.laws.specs.Rows.{span}
+use Rattle.laws.specs.Rows.{span, total}
 use Rattle.laws.specs.Plane.{Plane}
 use Rattle.codewords.specs.Bytes.{toBytes}
 use Rattle.codewords.specs.ByteLaws.{length-toBytes}
@@ -29,7 +29,7 @@ use Rattle.unit.specs.LowDelay.{sliceBytes, lowNumbers, lowIndex, lowPla
 use Rattle.unit.specs.HighQuality.{highBits, sliceSize, shareOf, highNumbers, highPlan, largestNeed}
 use Rattle.unit.specs.Unit.{majorVersion, gridOf, parametersBy, targetOf, lowParameters, highParameters, numeratorOf, highBytes, highSlicesOf, scalerOf, planBy, planOf, sliceRuns, joined, lengthOf}
 use Rattle.unit.specs.Reader.{SliceRead, numberCount, readLow, readHigh, gridIn, countsIn}
-use Rattle.unit.specs.Demand.{bytesOf, SameSlices, sum, Bytes}
+use Rattle.unit.specs.Demand.{bytesOf, SameSlices, Bytes}
 use Rattle.unit.specs.Valid.{RateFits, Valid}
 use Rattle.unit.specs.Sound.{Legal, SoundSlice, SoundSlices, Sound}
 use Rattle.unit.specs.SubbandLaws.{sizes-of, areas, areas-most}
@@ -144,13 +144,13 @@ module _ (s : Settings) (m : List ℕ) (b : Three (List Band)) where
       (16 * paddedArea s (lumaSize s)) (s .«slice_size_scaler») (omega arith)
 
 -- ---- bytes
-length-runs : (ss : List SlicePlan) → length (joined (sliceRuns ss)) ≡ sum (map bytesOf ss)
+length-runs : (ss : List SlicePlan) → length (joined (sliceRuns ss)) ≡ total (map bytesOf ss)
 unfolding joined
 length-runs [] = refl
 length-runs (a ∷ ss) = length-append (toBytes (a .bits)) (joined (sliceRuns ss)) ∙ ap₂ _+_ (length-toBytes (a .bits)) (length-runs ss)
 
 -- a unit is its overhead and its slices' bytes
-pub length-is : (s : Settings) (a : Plan) → lengthOf s a ≡ 17 + parameterBytes (majorVersion s) (a .parameters) + sum (map bytesOf (a .slices))
+pub length-is : (s : Settings) (a : Plan) → lengthOf s a ≡ 17 + parameterBytes (majorVersion s) (a .parameters) + total (map bytesOf (a .slices))
 unfolding lengthOf
 length-is s a = rw (length-runs (a .slices))
 
@@ -235,15 +235,15 @@ module _ (s : Settings) (m : List ℕ) (p : Three (List ℕ)) (work : List ℤ) 
       ≡ span (sliceBytes (numeratorOf s m) (count (gridOf s))) 0 (count (gridOf s))
   low-each = low-bytes (gridOf s) (matrixValues s m) (coefficientsOf s p) (numeratorOf s m) zeroPlanes 0 (count (gridOf s)) (slice-count v .some) numerator-some
 
-  pub low-all : sum (map bytesOf (planBy s m LowDelay (coefficientsOf s p) .slices)) ≡ numeratorOf s m
-  low-all = ap sum low-each ∙ bytes-all (numeratorOf s m) (count (gridOf s)) (slice-count v .some)
+  pub low-all : total (map bytesOf (planBy s m LowDelay (coefficientsOf s p) .slices)) ≡ numeratorOf s m
+  low-all = ap total low-each ∙ bytes-all (numeratorOf s m) (count (gridOf s)) (slice-count v .some)
 
   bytes-by : (kind : PictureKind) (rs : List SliceRead) → SameSlices (planBy s m kind (coefficientsOf s p) .slices) rs
       → Bytes (planBy s m kind (coefficientsOf s p) .parameters .slice) rs
   bytes-by LowDelay rs e =
       let ss = planBy s m LowDelay (coefficientsOf s p) .slices in
       let n : length rs ≡ count (gridOf s) = read-many ss rs e ∙ many-by s m (coefficientsOf s p) LowDelay in
-      (read-bytes ss rs e ∙ low-each ∙ ap (span (sliceBytes (numeratorOf s m) (count (gridOf s))) 0) (sym n), ap sum (read-bytes ss rs e) ∙ low-all)
+      (read-bytes ss rs e ∙ low-each ∙ ap (span (sliceBytes (numeratorOf s m) (count (gridOf s))) 0) (sym n), ap total (read-bytes ss rs e) ∙ low-all)
   bytes-by HighQuality rs e = tt
 
   -- demand 3: each low-delay slice that is read takes exactly its slice bytes, and they sum to the numerator
@@ -252,12 +252,12 @@ module _ (s : Settings) (m : List ℕ) (p : Three (List ℕ)) (work : List ℤ) 
   bytes-of rs e = bytes-by (s .kind) rs e
 
   -- ---- lengths
-  pub length-high-unit : s .kind ≡ HighQuality → lengthOf s (planOf s m p) ≡ highOverhead s m p + sum (span (takenBy s m p) 0 (count (gridOf s)))
+  pub length-high-unit : s .kind ≡ HighQuality → lengthOf s (planOf s m p) ≡ highOverhead s m p + total (span (takenBy s m p) 0 (count (gridOf s)))
   length-high-unit e =
       let b = coefficientsOf s p in
       let c = scalerOf s m b in
       ap (lengthOf s) (plan-by s m p HighQuality e) ∙ length-is s (planBy s m HighQuality b)
-      ∙ ap (λ (ns : List ℕ). highOverhead s m p + sum ns)
+      ∙ ap (λ (ns : List ℕ). highOverhead s m p + total ns)
       (high-bytes (gridOf s) (matrixValues s m) b (s .«slice_prefix_bytes») (s .rate) c (highBytes s m c) (scaler-some s m b (v .scaler .some)))
 
   -- if every high-quality slice fits its share of the target less the overhead, the unit is at most the target: where the overhead is more than the

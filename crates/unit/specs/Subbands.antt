@@ -4,11 +4,8 @@ use mathlib.Core.List.{List, [], _∷_, _++_}
 use Prim.Native.Nat.{ℕ, zero, suc, _+_, _*_, _-_, _/_, _^_}
 use lib.Dec.{eqb, leb}
 use Rattle.laws.specs.Rows.{span}
+use Rattle.wavelet.specs.Pad.{roundedUp}
 use Rattle.unit.specs.Sizes.{Size}
-
--- n rounded up to a multiple of m
-abbrev pub roundedUp : ℕ → ℕ → ℕ
-roundedUp m n = (n + (m - 1)) / m * m
 
 -- a component's padded size
 unfoldable pub paddedSize : ℕ → ℕ → Size → Size

@@ -16,9 +16,13 @@ centred o s = pos s -ℤ pos o
 abbrev pub padded : List ℕ → ℕ → ℕ → ℕ → Plane
 padded s o w h y x = centred o (getD s (min y (h - 1) * w + min x (w - 1)) 0)
 
+-- n rounded up to a multiple of m
+abbrev pub roundedUp : ℕ → ℕ → ℕ
+roundedUp m n = (n + (m - 1)) / m * m
+
 -- a side, padded up to a multiple of 2 ^ n
 unfoldable pub paddedSide : ℕ → ℕ → ℕ
-paddedSide n side = (side + (2 ^ n - 1)) / 2 ^ n * 2 ^ n
+paddedSide n side = roundedUp (2 ^ n) side
 
 -- the coefficients of a component, in the stream's order: rows by filter i, columns by filter j, k horizontal-only levels and d both ways,
 -- from ph rows of pw
