@@ -98,7 +98,7 @@ module _ (s : Settings) (m : List ℕ) (p : Three (List ℕ)) (out : List ℕ) (
   demand-zero : (out′ : List ℕ) (work′ : List ℤ) (v : Values) (r : Answer) → Encodes s m p out work out′ work′ r → numberOf r ≡ 0
       → Demand3 s m p (take (valuesOf r v .length) out′)
   demand-zero out′ work′ v (Accepted c) h e = h .demand c refl
-  demand-zero out′ work′ v (Refused n) h e = no-truth (sym (ap isAccepted (h .answer) ∙ zero-accepted (sym (h .number) ∙ e)))
+  demand-zero out′ work′ v (Refused n) h e = no-truth (sym (ap isAccepted (h .answer) ∙ zero-accepted (sym (ap numberOf (h .answer)) ∙ e)))
 
 left-same : (n k : ℕ) (o u : List ℕ) (w x : List ℤ) (a b : Values) → n ≡ k → o ≡ u → w ≡ x → a ≡ b
     → _≡_ {A = Left} (record { number = n; output = o; work = w; values = a }) (record { number = k; output = u; work = x; values = b })
@@ -129,7 +129,7 @@ module _ (ws m : List ℕ) (p : Three (List ℕ)) (out : List ℕ) (work : List 
       record {
         is =
             left-same (numberOf r) (numberOf (o .answer)) out′ (o .output) work′ (o .work) (valuesOf r v) (valuesOf (o .answer) v)
-            (h .number) (h .output) (h .work-left) (ap (λ (r : Answer). valuesOf r v) (h .answer)) ∙ sym (left-if true e);
+            (ap numberOf (h .answer)) (h .output) (h .work-left) (ap (λ (r : Answer). valuesOf r v) (h .answer)) ∙ sym (left-if true e);
         demand = demand-zero (settingsOf ws) m p out work out′ work′ v r h;
       }
 

@@ -3,7 +3,7 @@ use mathlib.Core.Path.{_≡_}
 use mathlib.Core.Bool.{Bool, true, false, _||_}
 use mathlib.Core.List.{List, [], _∷_, _++_}
 use Prim.Native.Nat.{ℕ, _+_, _≤_, _<_}
-use lib.Dec.{ltb}
+use lib.Dec.{eqb, ltb}
 use lib.IntN.{ℤ}
 use lib.ListN.{length, take, drop, replicate}
 use Rattle.unit.specs.declared.Settings.{Settings}
@@ -12,29 +12,50 @@ use Rattle.unit.specs.declared.Coded.{Coded}
 use Rattle.unit.specs.declared.Answer.{Answer}
 use Rattle.unit.specs.declared.Answer.the-variants.{Accepted, Refused}
 use Rattle.unit.specs.Three.{Three}
+use Rattle.unit.specs.Refusal.{refusalOf}
 use Rattle.unit.specs.Plan.{Plan}
 use Rattle.unit.specs.Unit.{planOf, lengthOf, unitOf}
-use Rattle.unit.specs.Outcome.{numberOf, tells, codedOf, outcomeOf}
+use Rattle.unit.specs.Outcome.{numberOf, tells, cutCount, scalerIn, codedOf, outcomeOf}
 use Rattle.unit.specs.Demand.{Demand3}
 use Rattle.picture.specs.declared.layout.Picture.{Picture}
 use Rattle.picture.specs.Run.{Small}
 use Rattle.picture.specs.Analysed.{pictureOf, frontOf, Called, Analysed}
 
+-- the unit does not fit the output, or a length of 32 bits
+abbrev pub tooLong : ℕ → ℕ → Bool
+tooLong len n = ltb len n || ltb 4294967295 n
+
+-- the answer's number: that of the first rule of 1 to 13 that is broken, else 14 where the unit is too long, else 0
+abbrev pub answerNumber : Settings → List ℕ → Three (List ℕ) → List ℕ → List ℤ → ℕ
+answerNumber s m p out work =
+    elim (eqb (refusalOf s m p work) 0) [
+      | true ↦ elim (tooLong (length out) (lengthOf s (planOf s m p))) [ true ↦ 14 | false ↦ 0 ]
+      | false ↦ refusalOf s m p work
+    ]
+
+-- what the answer tells: this number, and behind a 0 the unit's length, the count of cut slices and the final scaler
+abbrev pub answerTold : Settings → List ℕ → Three (List ℕ) → List ℕ → List ℤ → List ℕ
+answerTold s m p out work =
+    let a = planOf s m p in
+    elim (eqb (refusalOf s m p work) 0) [
+      | true ↦ elim (tooLong (length out) (lengthOf s a)) [
+        | true ↦ 14 ∷ []
+        | false ↦ 0 ∷ lengthOf s a ∷ cutCount (s .kind) a ∷ scalerIn (a .parameters .slice) (s .«slice_size_scaler») ∷ []
+      ]
+      | false ↦ refusalOf s m p work ∷ []
+    ]
+
 -- settings s, lent matrix m, planes p, output and work slice as they came and as they are left, and the answer
 pub record Encodes (s : Settings) (m : List ℕ) (p : Three (List ℕ)) (out : List ℕ) (work : List ℤ) (out′ : List ℕ) (work′ : List ℤ) (r : Answer) : Type 0 where
   pub answer : r ≡ outcomeOf s m p out work .answer
-  pub number : numberOf r ≡ numberOf (outcomeOf s m p out work .answer)
-  pub told : tells r ≡ tells (outcomeOf s m p out work .answer)
+  pub number : numberOf r ≡ answerNumber s m p out work
+  pub told : tells r ≡ answerTold s m p out work
   pub output : out′ ≡ outcomeOf s m p out work .output
   pub work-left : work′ ≡ outcomeOf s m p out work .work
   -- an accepted call: demand 3 of the bytes that the answer counts, as they now stand in the output
   pub demand : (c : Coded) → r ≡ Accepted c → Demand3 s m p (take (c .length) out′)
 
 -- ---- before the work slice is cleared
--- the unit does not fit the output, or a length of 32 bits
-abbrev pub tooLong : ℕ → ℕ → Bool
-tooLong len n = ltb len n || ltb 4294967295 n
-
 abbrev pub answerBy : Settings → Plan → Bool → Answer
 answerBy s a true = Refused 14
 answerBy s a false = Accepted (codedOf s a)

@@ -18,7 +18,7 @@ use Rattle.unit.specs.Three.{Three}
 use Rattle.unit.specs.Refusal.{refusalOf}
 use Rattle.unit.specs.Plan.{Plan}
 use Rattle.unit.specs.Unit.{planOf, lengthOf, unitOf}
-use Rattle.unit.specs.Outcome.{numberOf, tells, codedOf, Outcome, coded, outcomeOf}
+use Rattle.unit.specs.Outcome.{numberOf, tells, cutCount, scalerIn, codedOf, Outcome, coded, outcomeOf}
 use Rattle.unit.specs.PlannedLaws.{Component, Y, C1, C2, pick}
 use Rattle.unit.specs.DemandLaws.{Typed, accepted}
 use Rattle.picture.specs.Encoded.{Encodes, tooLong, answerBy, outputBy, Codes, clearedBy}
@@ -51,36 +51,6 @@ pub cleared-refused : (r : Answer) (n : ℕ) (out o : List ℕ) → r ≡ Refuse
 cleared-refused r n out o e f = f ∙ ap (λ (r : Answer). clearedBy r out) (sym e)
 
 module _ (s : Settings) (m : List ℕ) (p : Three (List ℕ)) (out : List ℕ) (work : List ℤ) where
-  -- answer, output and work slice are the outcome's
-  encodes : (out′ : List ℕ) (work′ : List ℤ) (r : Answer) → Typed s p → r ≡ outcomeOf s m p out work .answer → out′ ≡ outcomeOf s m p out work .output
-      → work′ ≡ outcomeOf s m p out work .work → Encodes s m p out work out′ work′ r
-  encodes out′ work′ r t a o w = record {
-    answer = a;
-    number = ap numberOf a;
-    told = ap tells a;
-    output = o;
-    work-left = w;
-    demand = λ c e. rw o (accepted s m p out work t c (sym a ∙ e));
-  }
-
-  -- the outcome by whether no refusal of 1 to 13 turns the call away
-  abbrev outcomeIf : Bool → Outcome
-  outcomeIf b =
-      elim b [ true ↦ coded s (planOf s m p) out work | false ↦ record { answer = Refused (refusalOf s m p work); output = out; work = work } ]
-
-  outcome-if : outcomeOf s m p out work ≡ outcomeIf (eqb (refusalOf s m p work) 0)
-  unfolding outcomeOf
-  outcome-if = refl
-
-  pub encodes-refused : (n : ℕ) → Typed s p → n ≡ refusalOf s m p work → (n ≡ 0 → ⊥) → Encodes s m p out work out work (Refused n)
-  encodes-refused n t e ne =
-      let f = outcome-if ∙ ap outcomeIf (ne-eqb (refusalOf s m p work) 0 (λ z. ne (e ∙ z))) in
-      encodes out work (Refused n) t (ap Refused e ∙ sym (ap (λ (o : Outcome). o .answer) f)) (sym (ap (λ (o : Outcome). o .output) f)) (sym (ap (λ (o : Outcome). o .work) f))
-
-  -- and behind coding
-  coded-outcome : refusalOf s m p work ≡ 0 → outcomeOf s m p out work ≡ coded s (planOf s m p) out work
-  coded-outcome e = outcome-if ∙ ap outcomeIf (eq-eqb (refusalOf s m p work) 0 e)
-
   abbrev a : Plan
   a = planOf s m p
 
@@ -91,6 +61,65 @@ module _ (s : Settings) (m : List ℕ) (p : Three (List ℕ)) (out : List ℕ) (
         | true ↦ record { answer = Refused 14; output = replicate (length out) 0; work = replicate (length work) (pos 0) }
         | false ↦ record { answer = Accepted (codedOf s a); output = unitOf s a ++ drop (lengthOf s a) out; work = replicate (length work) (pos 0) }
       ]
+
+  -- the outcome by whether no refusal of 1 to 13 turns the call away
+  abbrev outcomeIf : Bool → Outcome
+  outcomeIf b =
+      elim b [ true ↦ coded s (planOf s m p) out work | false ↦ record { answer = Refused (refusalOf s m p work); output = out; work = work } ]
+
+  outcome-if : outcomeOf s m p out work ≡ outcomeIf (eqb (refusalOf s m p work) 0)
+  unfolding outcomeOf
+  outcome-if = refl
+
+  -- its answer's number and what it tells, by whether a rule of 1 to 13 is broken and whether the unit is too long
+  number-by : (b t : Bool) → numberOf (elim b [ true ↦ codedBy t .answer | false ↦ Refused (refusalOf s m p work) ])
+      ≡ elim b [ true ↦ elim t [ true ↦ 14 | false ↦ 0 ] | false ↦ refusalOf s m p work ]
+  number-by true true = refl
+  number-by true false = refl
+  number-by false t = refl
+
+  told-by : (b t : Bool) → tells (elim b [ true ↦ codedBy t .answer | false ↦ Refused (refusalOf s m p work) ])
+      ≡ elim b [
+        | true ↦ elim t [
+          | true ↦ 14 ∷ []
+          | false ↦ 0 ∷ lengthOf s a ∷ cutCount (s .kind) a ∷ scalerIn (a .parameters .slice) (s .«slice_size_scaler») ∷ []
+        ]
+        | false ↦ refusalOf s m p work ∷ []
+      ]
+  unfolding codedOf
+  told-by true true = refl
+  told-by true false = refl
+  told-by false t = refl
+
+  -- the outcome's answer by the two
+  answer-if : outcomeOf s m p out work .answer
+      ≡ elim (eqb (refusalOf s m p work) 0) [ true ↦ codedBy (tooLong (length out) (lengthOf s a)) .answer | false ↦ Refused (refusalOf s m p work) ]
+  answer-if = ap (λ (o : Outcome). o .answer) outcome-if ∙ by (eqb (refusalOf s m p work) 0)
+    where
+      by : (b : Bool) → outcomeIf b .answer ≡ elim b [ true ↦ codedBy (tooLong (length out) (lengthOf s a)) .answer | false ↦ Refused (refusalOf s m p work) ]
+      by true = refl
+      by false = refl
+
+  -- answer, output and work slice are the outcome's
+  encodes : (out′ : List ℕ) (work′ : List ℤ) (r : Answer) → Typed s p → r ≡ outcomeOf s m p out work .answer → out′ ≡ outcomeOf s m p out work .output
+      → work′ ≡ outcomeOf s m p out work .work → Encodes s m p out work out′ work′ r
+  encodes out′ work′ r t e o w = record {
+    answer = e;
+    number = ap numberOf (e ∙ answer-if) ∙ number-by (eqb (refusalOf s m p work) 0) (tooLong (length out) (lengthOf s a));
+    told = ap tells (e ∙ answer-if) ∙ told-by (eqb (refusalOf s m p work) 0) (tooLong (length out) (lengthOf s a));
+    output = o;
+    work-left = w;
+    demand = λ c f. rw o (accepted s m p out work t c (sym e ∙ f));
+  }
+
+  pub encodes-refused : (n : ℕ) → Typed s p → n ≡ refusalOf s m p work → (n ≡ 0 → ⊥) → Encodes s m p out work out work (Refused n)
+  encodes-refused n t e ne =
+      let f = outcome-if ∙ ap outcomeIf (ne-eqb (refusalOf s m p work) 0 (λ z. ne (e ∙ z))) in
+      encodes out work (Refused n) t (ap Refused e ∙ sym (ap (λ (o : Outcome). o .answer) f)) (sym (ap (λ (o : Outcome). o .output) f)) (sym (ap (λ (o : Outcome). o .work) f))
+
+  -- and behind coding
+  coded-outcome : refusalOf s m p work ≡ 0 → outcomeOf s m p out work ≡ coded s (planOf s m p) out work
+  coded-outcome e = outcome-if ∙ ap outcomeIf (eq-eqb (refusalOf s m p work) 0 e)
 
   answer-by : (b : Bool) → answerBy s a b ≡ codedBy b .answer
   answer-by true = refl
