@@ -8,7 +8,7 @@ ghost use Rattle.codewords.specs.Code.{codeU, codeM, codeS};
 ghost use Rattle.codewords.specs.Writer.{Room, Wrote, Flushes, Aligns, padding};
 
 // One bit.
-pub fn put_bit(out: &mut [u8], w: &mut BitWriter, bit: bool)
+pub(crate) fn put_bit(out: &mut [u8], w: &mut BitWriter, bit: bool)
     requires { ⌜ Room (now out) (now w) 1 ⌝ }
     ensures { λ _. ⌜ Wrote (now (out .entry)) (now (w .entry)) (bit ∷ []) (now (out .exit)) (now (w .exit)) ⌝ }
 {
@@ -16,7 +16,7 @@ pub fn put_bit(out: &mut [u8], w: &mut BitWriter, bit: bool)
 }
 
 // The n low bits of v.
-pub fn put_nbits(out: &mut [u8], w: &mut BitWriter, v: u64, n: u32)
+pub(crate) fn put_nbits(out: &mut [u8], w: &mut BitWriter, v: u64, n: u32)
     requires { ⌜ Room (now out) (now w) n × (n ≤ 64) ⌝ }
     ensures { λ _. ⌜ Wrote (now (out .entry)) (now (w .entry)) (lit n v) (now (out .exit)) (now (w .exit)) ⌝ }
 {
@@ -24,7 +24,7 @@ pub fn put_nbits(out: &mut [u8], w: &mut BitWriter, v: u64, n: u32)
 }
 
 // The unsigned code word of v.
-pub fn put_uint(out: &mut [u8], w: &mut BitWriter, v: u32)
+pub(crate) fn put_uint(out: &mut [u8], w: &mut BitWriter, v: u32)
     requires { ⌜ Room (now out) (now w) (length (codeU v)) ⌝ }
     ensures { λ _. ⌜ Wrote (now (out .entry)) (now (w .entry)) (codeU v) (now (out .exit)) (now (w .exit)) ⌝ }
 {
@@ -32,7 +32,7 @@ pub fn put_uint(out: &mut [u8], w: &mut BitWriter, v: u32)
 }
 
 // The signed code word of v.
-pub fn put_sint(out: &mut [u8], w: &mut BitWriter, v: i64)
+pub(crate) fn put_sint(out: &mut [u8], w: &mut BitWriter, v: i64)
     requires { ⌜ Room (now out) (now w) (length (codeS v)) ⌝ }
     ensures { λ _. ⌜ Wrote (now (out .entry)) (now (w .entry)) (codeS v) (now (out .exit)) (now (w .exit)) ⌝ }
 {
@@ -40,7 +40,7 @@ pub fn put_sint(out: &mut [u8], w: &mut BitWriter, v: i64)
 }
 
 // The signed code word of the magnitude m, below 0 where minus is set.
-pub fn put_signed(out: &mut [u8], w: &mut BitWriter, m: u64, minus: bool)
+pub(crate) fn put_signed(out: &mut [u8], w: &mut BitWriter, m: u64, minus: bool)
     requires { ⌜ Room (now out) (now w) (length (codeM m minus)) × (m ≤ 2 ^ 63) ⌝ }
     ensures { λ _. ⌜ Wrote (now (out .entry)) (now (w .entry)) (codeM m minus) (now (out .exit)) (now (w .exit)) ⌝ }
 {
@@ -48,7 +48,7 @@ pub fn put_signed(out: &mut [u8], w: &mut BitWriter, m: u64, minus: bool)
 }
 
 // The whole bytes of the bits pending.
-pub fn flush(out: &mut [u8], w: &mut BitWriter)
+pub(crate) fn flush(out: &mut [u8], w: &mut BitWriter)
     requires { ⌜ Room (now out) (now w) 0 ⌝ }
     ensures { λ _. ⌜ Flushes (now (out .entry)) (now (w .entry)) (now (out .exit)) (now (w .exit)) ⌝ }
 {
@@ -56,7 +56,7 @@ pub fn flush(out: &mut [u8], w: &mut BitWriter)
 }
 
 // Zeros up to the end of the byte, and no bit pending.
-pub fn byte_align(out: &mut [u8], w: &mut BitWriter)
+pub(crate) fn byte_align(out: &mut [u8], w: &mut BitWriter)
     requires { ⌜ Room (now out) (now w) (padding (now w)) ⌝ }
     ensures { λ _. ⌜ Aligns (now (out .entry)) (now (w .entry)) (now (out .exit)) (now (w .exit)) ⌝ }
 {
@@ -64,7 +64,7 @@ pub fn byte_align(out: &mut [u8], w: &mut BitWriter)
 }
 
 // n ones.
-pub fn put_ones(out: &mut [u8], w: &mut BitWriter, n: u64)
+pub(crate) fn put_ones(out: &mut [u8], w: &mut BitWriter, n: u64)
     requires { ⌜ Room (now out) (now w) n ⌝ }
     ensures { λ _. ⌜ Wrote (now (out .entry)) (now (w .entry)) (ones n) (now (out .exit)) (now (w .exit)) ⌝ }
 {

@@ -1,6 +1,6 @@
 // Code words: their lengths, and the writer of bits. The port of bitio.rs.
 pub mod bitio;
-pub mod lent;
+mod lent;
 pub mod writer;
 
 ghost use mathlib.Core.Path.{_≡_};

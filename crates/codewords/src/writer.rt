@@ -19,7 +19,7 @@ pub struct BitWriter {
 }
 
 // A code word as the low bits of a number, and how many bits it has.
-pub struct Word {
+struct Word {
     pub bits: u64,
     pub len: u32,
 }
@@ -62,7 +62,7 @@ fn put_short(out: &mut [u8], w: BitWriter, v: u64, n: u32) -> BitWriter
 }
 
 // One bit.
-pub fn put_bit(out: &mut [u8], w: BitWriter, bit: bool) -> BitWriter
+pub(crate) fn put_bit(out: &mut [u8], w: BitWriter, bit: bool) -> BitWriter
     requires { ⌜ Room (now out) w 1 ⌝ }
     ensures { λ r. ⌜ Wrote (now (out .entry)) w (bit ∷ []) (now (out .exit)) r ⌝ }
 {
@@ -70,7 +70,7 @@ pub fn put_bit(out: &mut [u8], w: BitWriter, bit: bool) -> BitWriter
 }
 
 // The n low bits of v.
-pub fn put_nbits(out: &mut [u8], w: BitWriter, v: u64, n: u32) -> BitWriter
+pub(crate) fn put_nbits(out: &mut [u8], w: BitWriter, v: u64, n: u32) -> BitWriter
     requires { ⌜ Room (now out) w n × (n ≤ 64) ⌝ }
     ensures { λ r. ⌜ Wrote (now (out .entry)) w (lit n v) (now (out .exit)) r ⌝ }
 {
@@ -82,7 +82,7 @@ pub fn put_nbits(out: &mut [u8], w: BitWriter, v: u64, n: u32) -> BitWriter
 }
 
 // The whole bytes of the bits pending go to the output.
-pub fn flush(out: &mut [u8], w: BitWriter) -> BitWriter
+pub(crate) fn flush(out: &mut [u8], w: BitWriter) -> BitWriter
     requires { ⌜ Room (now out) w 0 ⌝ }
     ensures { λ r. ⌜ Flushes (now (out .entry)) w (now (out .exit)) r ⌝ }
 {
@@ -134,7 +134,7 @@ fn put_code(out: &mut [u8], w: BitWriter, x: u64) -> BitWriter
 }
 
 // The unsigned code word of v.
-pub fn put_uint(out: &mut [u8], w: BitWriter, v: u32) -> BitWriter
+pub(crate) fn put_uint(out: &mut [u8], w: BitWriter, v: u32) -> BitWriter
     requires { ⌜ Room (now out) w (length (codeU v)) ⌝ }
     ensures { λ r. ⌜ Wrote (now (out .entry)) w (codeU v) (now (out .exit)) r ⌝ }
 {
@@ -159,7 +159,7 @@ fn word_of(m: u64, minus: bool) -> Word
 }
 
 // The signed code word of the magnitude m, below 0 where minus is set.
-pub fn put_signed(out: &mut [u8], w: BitWriter, m: u64, minus: bool) -> BitWriter
+pub(crate) fn put_signed(out: &mut [u8], w: BitWriter, m: u64, minus: bool) -> BitWriter
     requires { ⌜ Room (now out) w (length (codeM m minus)) × (m ≤ 2 ^ 63) ⌝ }
     ensures { λ r. ⌜ Wrote (now (out .entry)) w (codeM m minus) (now (out .exit)) r ⌝ }
 {
@@ -172,7 +172,7 @@ pub fn put_signed(out: &mut [u8], w: BitWriter, m: u64, minus: bool) -> BitWrite
 }
 
 // The signed code word of v.
-pub fn put_sint(out: &mut [u8], w: BitWriter, v: i64) -> BitWriter
+pub(crate) fn put_sint(out: &mut [u8], w: BitWriter, v: i64) -> BitWriter
     requires { ⌜ Room (now out) w (length (codeS v)) ⌝ }
     ensures { λ r. ⌜ Wrote (now (out .entry)) w (codeS v) (now (out .exit)) r ⌝ }
 {
@@ -180,7 +180,7 @@ pub fn put_sint(out: &mut [u8], w: BitWriter, v: i64) -> BitWriter
 }
 
 // Zeros up to the end of the byte, and no bit pending.
-pub fn byte_align(out: &mut [u8], w: BitWriter) -> BitWriter
+pub(crate) fn byte_align(out: &mut [u8], w: BitWriter) -> BitWriter
     requires { ⌜ Room (now out) w (padding w) ⌝ }
     ensures { λ r. ⌜ Aligns (now (out .entry)) w (now (out .exit)) r ⌝ }
 {
@@ -189,7 +189,7 @@ pub fn byte_align(out: &mut [u8], w: BitWriter) -> BitWriter
 }
 
 // n ones.
-pub fn put_ones(out: &mut [u8], w: BitWriter, n: u64) -> BitWriter
+pub(crate) fn put_ones(out: &mut [u8], w: BitWriter, n: u64) -> BitWriter
     requires { ⌜ Room (now out) w n ⌝ }
     ensures { λ r. ⌜ Wrote (now (out .entry)) w (ones n) (now (out .exit)) r ⌝ }
 {

@@ -1,4 +1,4 @@
 // The job program's parts, for its main and for replay: a job's words taken apart, the call, and the text.
 pub mod encode;
-pub mod parse;
-pub mod print;
+mod parse;
+mod print;

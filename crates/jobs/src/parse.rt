@@ -10,7 +10,7 @@ ghost use Rattle.jobs.specs.Job.{wordsOf, kindOf, contentOf, isEnd, inOr
 ghost use Rattle.jobs.specs.Steps.{wordFrom, runEnd, endsOf, counted};
 
 // Where the words of each kind end: settings, matrix, luma and the two colours.
-pub struct Ends {
+pub(crate) struct Ends {
     pub settings: usize,
     pub matrix: usize,
     pub y: usize,
@@ -36,7 +36,7 @@ fn word_at(bytes: &[u8], i: usize) -> u32
 }
 
 // The whole words of bytes, and how many there are.
-pub fn unpack(bytes: &[u8], words: &mut [u32]) -> usize
+pub(crate) fn unpack(bytes: &[u8], words: &mut [u32]) -> usize
     requires { ⌜ length (now bytes) ≤ 4 * length (now words) ⌝ }
     ensures { λ r. ⌜ Lays (now (words .entry)) 0 (wordsOf (now (bytes .entry))) (now (words .exit)) r ⌝ }
 {
@@ -78,7 +78,7 @@ fn run_end(words: &[u32], from: usize, kind: u32) -> usize
 }
 
 // The words, kind after kind.
-pub fn ends_of(words: &[u32]) -> Ends
+pub(crate) fn ends_of(words: &[u32]) -> Ends
     ensures { λ r. ⌜ r ≡ endsOf (now (words .entry)) ⌝ }
 {
     let settings = run_end(words, 0, 0);
@@ -133,7 +133,7 @@ fn counted(rate: u32, number: u32, custom: u32, matrix: usize, samples: usize) -
 }
 
 // Whether the job is well formed.
-pub fn well_formed(words: &[u32], e: Ends) -> bool
+pub(crate) fn well_formed(words: &[u32], e: Ends) -> bool
     requires { ⌜ e ≡ endsOf (now words) ⌝ }
     ensures { λ r. ⌜ r ≡ inOrder (now (words .entry)) ⌝ }
 {
@@ -159,7 +159,7 @@ pub fn well_formed(words: &[u32], e: Ends) -> bool
 }
 
 // The contents of the words, laid from the front of matrix on.
-pub fn load_matrix(words: &[u32], matrix: &mut [u32])
+pub(crate) fn load_matrix(words: &[u32], matrix: &mut [u32])
     requires { ⌜ length (now words) ≤ length (now matrix) ⌝ }
     ensures { λ _. ⌜ Lays (now (matrix .entry)) 0 (map contentOf (now (words .entry))) (now (matrix .exit)) (length (now (words .entry))) ⌝ }
 {
@@ -172,7 +172,7 @@ pub fn load_matrix(words: &[u32], matrix: &mut [u32])
 }
 
 // The same for samples.
-pub fn load_samples(words: &[u32], samples: &mut [u16])
+pub(crate) fn load_samples(words: &[u32], samples: &mut [u16])
     requires { ⌜ (length (now words) ≤ length (now samples)) × (anyAbove 65535 (map contentOf (now words)) ≡ false) ⌝ }
     ensures { λ _. ⌜ Lays (now (samples .entry)) 0 (map contentOf (now (words .entry))) (now (samples .exit)) (length (now (words .entry))) ⌝ }
 {

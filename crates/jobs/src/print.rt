@@ -80,7 +80,7 @@ fn put_bytes(text: &mut [u8], at: usize, bytes: &[u8]) -> usize
     t
 }
 
-pub fn put_job(text: &mut [u8]) -> usize
+pub(crate) fn put_job(text: &mut [u8]) -> usize
     requires { ⌜ 4 ≤ length (now text) ⌝ }
     ensures { λ r. ⌜ Lays (now (text .entry)) 0 jobText (now (text .exit)) r ⌝ }
 {
@@ -102,7 +102,7 @@ fn put_coded(text: &mut [u8], c: Coded) -> usize
 }
 
 // The answer's line, and the unit that an accepted call has written to out.
-pub fn put_answer(text: &mut [u8], r: Answer, out: &[u8]) -> usize
+pub(crate) fn put_answer(text: &mut [u8], r: Answer, out: &[u8]) -> usize
     requires { ⌜ (lengthIn r ≤ length (now out)) × (44 + 3 * lengthIn r ≤ length (now text)) ⌝ }
     ensures { λ e. ⌜ Lays (now (text .entry)) 0 (lineOf (tells r) ++ bytesFrom 0 (unitIn r (now (out .entry)))) (now (text .exit)) e × (e ≤ length (now (text .exit))) ⌝ }
 {

@@ -61,7 +61,7 @@ fn component_at(z: Sides, coefs: usize, rebuilt: usize) -> Component
 }
 
 // Luma and the two colours one behind the other, rebuilt planes as well as coefficients.
-pub fn picture_of(s: Settings, matrix: &[u32]) -> Picture
+pub(crate) fn picture_of(s: Settings, matrix: &[u32]) -> Picture
     requires { ⌜ Called s (now matrix) ⌝ }
     ensures { λ r. ⌜ r ≡ pictureOf s (now (matrix .entry)) ⌝ }
 {
@@ -110,7 +110,7 @@ fn sides_of(z: Sides, q: Sides, excursion: u32) -> wavelet::component::Component
 }
 
 // Zeros.
-pub fn clear(a: &mut [i64])
+pub(crate) fn clear(a: &mut [i64])
     ensures { λ _. ⌜ now (a .exit) ≡ replicate (length (now (a .entry))) (pos 0) ⌝ }
 {
     let n = a.len();
@@ -122,7 +122,7 @@ pub fn clear(a: &mut [i64])
 }
 
 // The three components, padded and analysed behind a front of the sum of their areas, which is scratch and then cleared.
-pub fn analyse(work: &mut [i64], s: Settings, y: &[u16], c1: &[u16], c2: &[u16])
+pub(crate) fn analyse(work: &mut [i64], s: Settings, y: &[u16], c1: &[u16], c2: &[u16])
     requires { ⌜ Ready s (planes (now y) (now c1) (now c2)) (now work) ⌝ }
     ensures { λ _. ⌜ Analysed s (planes (now (y .entry)) (now (c1 .entry)) (now (c2 .entry))) (now (work .exit)) × (length (now (work .exit)) ≡ length (now (work .entry))) ⌝ }
 {

@@ -6,7 +6,7 @@ use crate::packed::Packed;
 use unit::RateControl;
 ghost use mathlib.Core.Path.{_≡_};
 ghost use mathlib.Core.Bool.{Bool, false};
-ghost use Prim.Native.Nat.{ℕ, _+_, _*_, _/_, _^_, _≤_, _<_, max};
+ghost use Prim.Native.Nat.{ℕ, _+_, _*_, _/_, _^_, _≤_, _<_, min, max};
 ghost use lib.IntN.{pos};
 ghost use lib.ListN.{length, set};
 ghost use Rattle.laws.specs.Rows.{at};
@@ -20,14 +20,14 @@ ghost use Rattle.picture.specs.Tally.{trimmedOf};
 ghost use Rattle.picture.specs.High.{fitsBy, indexIn, halfOf, choiceBy, choiceIn, sliceWords, wordsIn, wordsTo, sliceCount, wordsOf, needsBy, noteRun, noteIn, RunAt, FewBits, TermsIn, PlanIn, Notes};
 
 // The bytes that the components of a slice need.
-pub struct Needs {
+pub(crate) struct Needs {
     pub y: u64,
     pub c1: u64,
     pub c2: u64,
 }
 
 // What all slices share: the rate, prefix bytes, the scaler, and the bytes for all slices.
-pub struct Terms {
+pub(crate) struct Terms {
     pub rate: RateControl,
     pub prefix: u32,
     pub scaler: u32,
@@ -35,19 +35,19 @@ pub struct Terms {
 }
 
 // A range of indices.
-pub struct Range {
+pub(crate) struct Range {
     pub lo: u32,
     pub hi: u32,
 }
 
 // A component's run without its trailing zeros: how many numbers, and their bits.
-pub struct Trimmed {
+pub(crate) struct Trimmed {
     pub count: usize,
     pub bits: u64,
 }
 
 // A slice's index, and the runs of its components there, whose words stand one behind the other.
-pub struct Choice {
+pub(crate) struct Choice {
     pub index: u32,
     pub y: Packed,
     pub c1: Packed,
@@ -67,7 +67,7 @@ fn trimmed_run(work: &[i64], p: Picture, c: Component, k: u32, q: u32) -> Trimme
 }
 
 // The bytes that n bits need.
-pub fn need(n: u64) -> u64
+pub(crate) fn need(n: u64) -> u64
     requires { ⌜ n ≤ 2 ^ 33 ⌝ }
     ensures { λ r. ⌜ (r ≡ ceiling n 8) × (r ≤ 2 ^ 30) ⌝ }
 {
@@ -75,7 +75,7 @@ pub fn need(n: u64) -> u64
 }
 
 // The bytes that the components need, by their bits.
-pub fn needs_of(y: u64, c1: u64, c2: u64) -> Needs
+pub(crate) fn needs_of(y: u64, c1: u64, c2: u64) -> Needs
     requires { ⌜ (y ≤ 2 ^ 33) × ((c1 ≤ 2 ^ 33) × (c2 ≤ 2 ^ 33)) ⌝ }
     ensures { λ r. ⌜ (r ≡ needsBy y c1 c2) × ((r .y ≤ 2 ^ 30) × ((r .c1 ≤ 2 ^ 30) × (r .c2 ≤ 2 ^ 30))) ⌝ }
 {
@@ -87,7 +87,7 @@ pub fn needs_of(y: u64, c1: u64, c2: u64) -> Needs
 }
 
 // How many words a choice has.
-pub fn words_of(c: Choice) -> usize
+pub(crate) fn words_of(c: Choice) -> usize
     requires { ⌜ FewBits c ⌝ }
     ensures { λ r. ⌜ (r ≡ wordsOf c) × (r ≤ 2 ^ 35) ⌝ }
 {
@@ -105,14 +105,14 @@ fn larger(a: u64, b: u64) -> u64
 }
 
 // The largest need, or n where this is larger.
-pub fn largest(z: Needs, n: u64) -> u64
+pub(crate) fn largest(z: Needs, n: u64) -> u64
     ensures { λ r. ⌜ r ≡ max (max (z .y) (max (z .c1) (z .c2))) n ⌝ }
 {
     larger(larger(z.y, larger(z.c1, z.c2)), n)
 }
 
 // n over c, rounded up.
-pub fn scalers(n: u64, c: u32) -> u64
+pub(crate) fn scalers(n: u64, c: u32) -> u64
     requires { ⌜ (n ≤ 2 ^ 30) × ((1 ≤ c) × (c ≤ 2 ^ 24)) ⌝ }
     ensures { λ r. ⌜ (r ≡ ceiling n c) × (r * c ≤ 2 ^ 31) ⌝ }
 {
@@ -120,7 +120,7 @@ pub fn scalers(n: u64, c: u32) -> u64
 }
 
 // The size of a slice.
-pub fn slice_size(z: Needs, t: Terms) -> u64
+pub(crate) fn slice_size(z: Needs, t: Terms) -> u64
     requires { ⌜ ((z .y ≤ 2 ^ 30) × ((z .c1 ≤ 2 ^ 30) × (z .c2 ≤ 2 ^ 30))) × TermsIn t ⌝ }
     ensures { λ r. ⌜ (r ≡ 4 + t .prefix + (ceiling (z .y) (t .scaler) * t .scaler + ceiling (z .c1) (t .scaler) * t .scaler + ceiling (z .c2) (t .scaler) * t .scaler)) × (r ≤ 2 ^ 34) ⌝ }
 {
@@ -157,7 +157,7 @@ fn fits(work: &[i64], p: Picture, t: Terms, share: u64, k: u32, q: u32) -> bool
 }
 
 // A fit at mid sends the search to mid and below, and no fit above it.
-pub fn narrowed(r: Range, mid: u32, fits: bool) -> Range
+pub(crate) fn narrowed(r: Range, mid: u32, fits: bool) -> Range
     requires { ⌜ mid ≤ 255 ⌝ }
     ensures { λ n. ⌜ n ≡ halfOf r mid fits ⌝ }
 {
@@ -190,9 +190,9 @@ fn next_index(lo: u32, hi: u32, g: u32, step: u32) -> u32
 }
 
 // Twice the step, at most 256.
-pub fn wider(step: u32) -> u32
+pub(crate) fn wider(step: u32) -> u32
     requires { ⌜ (1 ≤ step) × (step ≤ 256) ⌝ }
-    ensures { λ r. ⌜ (1 ≤ r) × (r ≤ 256) ⌝ }
+    ensures { λ r. ⌜ (r ≡ min (2 * step) 256) × ((1 ≤ r) × (r ≤ 256)) ⌝ }
 {
     if step < 128 { 2 * step } else { 256 }
 }
@@ -272,7 +272,7 @@ fn pack_slice(work: &mut [i64], p: Picture, k: u32, q: u32, from: usize) -> Choi
 }
 
 // The choice of slice k, its runs packed from place from on.
-pub fn choice_of(work: &mut [i64], p: Picture, t: Terms, k: u32, g: u32, from: usize) -> Choice
+pub(crate) fn choice_of(work: &mut [i64], p: Picture, t: Terms, k: u32, g: u32, from: usize) -> Choice
     requires { ⌜ PlanIn p t (now work) × ((k < slicesIn p) × (from + sliceCount p k ≤ p .front)) ⌝ }
     ensures { λ r. ⌜ (r ≡ choiceIn (now (work .entry)) p t k)
         × ((now (work .exit) ≡ laid (now (work .entry)) from (wordsIn (now (work .entry)) p t k)) × Small (p .front) (p .end) (now (work .exit))) ⌝ }
@@ -301,7 +301,7 @@ fn note_run(work: &mut [i64], i: usize, r: Packed)
 }
 
 // A choice is noted in seven places from i on.
-pub fn note_choice(work: &mut [i64], i: usize, c: Choice)
+pub(crate) fn note_choice(work: &mut [i64], i: usize, c: Choice)
     requires { ⌜ (i < 2 ^ 39) × FewBits c ⌝ }
     ensures { λ _. ⌜ now (work .exit) ≡ noteIn (now (work .entry)) i c ⌝ }
 {
@@ -327,7 +327,7 @@ fn noted_run(work: &[i64], i: usize) -> Packed
 }
 
 // The choice of slice k as it was noted, or where the work slice does not reach so far chosen anew; its words stand from place from on.
-pub fn noted_choice(work: &mut [i64], p: Picture, t: Terms, k: u32, from: usize) -> Choice
+pub(crate) fn noted_choice(work: &mut [i64], p: Picture, t: Terms, k: u32, from: usize) -> Choice
     requires { ⌜ PlanIn p t (now work) × ((k < slicesIn p) × (Notes (now work) p t (slicesIn p) (now work) × (from ≡ length (wordsTo (now work) p t k)))) ⌝ }
     ensures { λ r. ⌜ (r ≡ choiceIn (now (work .entry)) p t k) × (now (work .exit) ≡ now (work .entry)) ⌝ }
 {

@@ -15,7 +15,7 @@ ghost use Rattle.picture.specs.Picture.{slicesIn};
 ghost use Rattle.picture.specs.High.{termsOf, isTarget, PlanIn, PlansTo, HighIn, Settles, Notes, Standing};
 
 // The scaler, and where the unit ends.
-pub struct Settled {
+pub(crate) struct Settled {
     pub scaler: u32,
     pub end: usize,
 }
@@ -51,7 +51,7 @@ fn plan_noted_slices(work: &mut [i64], p: Picture, t: Terms, at: usize) -> Slice
 }
 
 // The terms of a call with scaler c: the bytes for all slices are the target less overhead, or 0 below that.
-pub fn terms_of(s: Settings, matrix: &[u32], c: u32) -> Terms
+pub(crate) fn terms_of(s: Settings, matrix: &[u32], c: u32) -> Terms
     requires { ⌜ CanCarry s (now matrix) ⌝ }
     ensures { λ r. ⌜ r ≡ termsOf s (now (matrix .entry)) c ⌝ }
 {
@@ -120,7 +120,7 @@ fn plan_again(s: Settings, matrix: &[u32], work: &mut [i64], p: Picture, c: u32)
 
 // While a component needs more than 255 scalers the scaler becomes the largest need over 255, rounded up.
 // The words of the last pass are packed, and its choices noted.
-pub fn settle(s: Settings, matrix: &[u32], work: &mut [i64], p: Picture) -> Settled
+pub(crate) fn settle(s: Settings, matrix: &[u32], work: &mut [i64], p: Picture) -> Settled
     requires { ⌜ HighIn s p (now work) × CanCarry s (now matrix) ⌝ }
     ensures { λ r. ⌜ Settles (now (work .entry)) p s (now (matrix .entry)) r
         × Notes (now (work .entry)) p (termsOf s (now (matrix .entry)) (r .scaler)) (slicesIn p) (now (work .exit)) ⌝ }

@@ -70,7 +70,7 @@ fn put_components(
 }
 
 // The slice of choice c from place at on: where it ends.
-pub fn put_hq_slice(
+pub(crate) fn put_hq_slice(
     out: &mut [u8],
     at: usize,
     work: &[i64],
@@ -95,7 +95,7 @@ pub fn put_hq_slice(
 }
 
 // All slices from place at on, by the words and the choices that stand in the work slice.
-pub fn put_hq_slices(
+pub(crate) fn put_hq_slices(
     out: &mut [u8],
     at: usize,
     work: &mut [i64],

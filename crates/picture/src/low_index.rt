@@ -8,7 +8,7 @@ use crate::layout::Window;
 use crate::tally::Tally;
 ghost use mathlib.Core.Path.{_≡_};
 ghost use mathlib.Core.Bool.{_&&_};
-ghost use Prim.Native.Nat.{ℕ, _+_, _*_, _-_, _/_, _^_, _≤_, _<_};
+ghost use Prim.Native.Nat.{ℕ, _+_, _*_, _-_, _/_, _^_, _≤_, _<_, min};
 ghost use lib.Dec.{leb, ltb};
 ghost use Rattle.unit.specs.Elect.{elect};
 ghost use Rattle.unit.specs.LowDelay.{sliceBytes, lengthBits, roomOf};
@@ -21,51 +21,51 @@ ghost use Rattle.picture.specs.Low.{rebuiltIn, lumaIn, colourIn, lowFits
 ghost use Rattle.picture.specs.LowRest.{windowsOf, joinedOf, bitsWith, FirstOf, Known, Joins};
 
 // What a slice has of level 0: of luma, and of each colour.
-pub struct Windows {
+pub(crate) struct Windows {
     pub luma: Window,
     pub colour: Window,
 }
 
 // The tallies of a slice's level-0 numbers, of luma and of the two colours.
-pub struct First {
+pub(crate) struct First {
     pub luma: Tally,
     pub colour: Tally,
 }
 
 // A slice's runs of the subbands behind the first at an index, without trailing zeros: luma, and the two colours.
-pub struct Rest {
+pub(crate) struct Rest {
     pub index: u32,
     pub luma: Trimmed,
     pub colour: Trimmed,
 }
 
 // Whether a slice fits at an index, and its runs at two indices: as a rule low did not fit and high did. What is proved needs no such rule, and no order.
-pub struct Trial {
+struct Trial {
     pub fits: bool,
     pub low: Rest,
     pub high: Rest,
 }
 
 // Whether a slice fits at an index, and its runs there.
-pub struct Probe {
+struct Probe {
     pub fits: bool,
     pub rest: Rest,
 }
 
 // A slice's runs at two indices, as in a trial.
-pub struct Bracket {
+struct Bracket {
     pub low: Rest,
     pub high: Rest,
 }
 
 // The elected index, and the slice's runs at an index.
-pub struct Elected {
+pub(crate) struct Elected {
     pub index: u32,
     pub rest: Rest,
 }
 
 // How many slices there are.
-pub fn slice_count(p: Picture) -> u32
+pub(crate) fn slice_count(p: Picture) -> u32
     requires { ⌜ Arranged p ⌝ }
     ensures { λ r. ⌜ (r ≡ slicesIn p) × (r ≤ 1048576) ⌝ }
 {
@@ -74,7 +74,7 @@ pub fn slice_count(p: Picture) -> u32
 }
 
 // The bytes of slice k, by numerator n and denominator d.
-pub fn slice_bytes(n: u32, d: u32, k: u32) -> u64
+pub(crate) fn slice_bytes(n: u32, d: u32, k: u32) -> u64
     requires { ⌜ (1 ≤ d) × ((d ≤ n) × (k < d)) ⌝ }
     ensures { λ r. ⌜ (r ≡ sliceBytes n d k) × ((1 ≤ r) × (r ≤ n)) ⌝ }
 {
@@ -82,7 +82,7 @@ pub fn slice_bytes(n: u32, d: u32, k: u32) -> u64
 }
 
 // How many bits the luma length of a slice of n bytes has.
-pub fn length_bits(n: u64) -> u32
+pub(crate) fn length_bits(n: u64) -> u32
     requires { ⌜ (1 ≤ n) × (n ≤ 2 ^ 30) ⌝ }
     ensures { λ r. ⌜ (r ≡ lengthBits n) × (r ≤ 33) ⌝ }
 {
@@ -90,7 +90,7 @@ pub fn length_bits(n: u64) -> u32
 }
 
 // How many are left for numbers.
-pub fn room_of(n: u64) -> u64
+pub(crate) fn room_of(n: u64) -> u64
     requires { ⌜ (1 ≤ n) × (n ≤ 2 ^ 30) ⌝ }
     ensures { λ r. ⌜ (r ≡ roomOf n) × (r ≤ 2 ^ 33) ⌝ }
 {
@@ -98,14 +98,14 @@ pub fn room_of(n: u64) -> u64
 }
 
 // 1 where q is the last index.
-pub fn is_last(q: u32) -> u32
+pub(crate) fn is_last(q: u32) -> u32
     ensures { λ r. ⌜ r ≡ isLast q ⌝ }
 {
     if q == 127 { 1 } else { 0 }
 }
 
 // What slice k has of level 0. The trials hand it down, so that it is worked out once.
-pub fn windows_of(p: Picture, k: u32) -> Windows
+pub(crate) fn windows_of(p: Picture, k: u32) -> Windows
     requires { ⌜ Arranged p × (k < slicesIn p) ⌝ }
     ensures { λ r. ⌜ r ≡ windowsOf p k ⌝ }
 {
@@ -119,7 +119,7 @@ pub fn windows_of(p: Picture, k: u32) -> Windows
 }
 
 // Slice k's part of the three rebuilt planes, made at index q.
-pub fn rebuild_planes(work: &mut [i64], p: Picture, k: u32, q: u32, v: Windows)
+pub(crate) fn rebuild_planes(work: &mut [i64], p: Picture, k: u32, q: u32, v: Windows)
     requires { ⌜ SliceIn p (now work) k q × (v ≡ windowsOf p k) ⌝ }
     ensures { λ _. ⌜ (now (work .exit) ≡ rebuiltIn (now (work .entry)) p k q) × Small (p .front) (p .end) (now (work .exit)) ⌝ }
 {
@@ -135,7 +135,7 @@ pub fn rebuild_planes(work: &mut [i64], p: Picture, k: u32, q: u32, v: Windows)
 }
 
 // What luma costs, with room for a run.
-pub fn luma_cost(work: &[i64], p: Picture, k: u32, q: u32, room: u64) -> Cost
+pub(crate) fn luma_cost(work: &[i64], p: Picture, k: u32, q: u32, room: u64) -> Cost
     requires { ⌜ SliceIn p (now work) k q ⌝ }
     ensures { λ r. ⌜ r ≡ addAll (noCost room) (lumaIn (now (work .entry)) p k q) ⌝ }
 {
@@ -146,7 +146,7 @@ pub fn luma_cost(work: &[i64], p: Picture, k: u32, q: u32, room: u64) -> Cost
 }
 
 // What the two colours cost.
-pub fn colour_cost(work: &[i64], p: Picture, k: u32, q: u32, room: u64) -> Cost
+pub(crate) fn colour_cost(work: &[i64], p: Picture, k: u32, q: u32, room: u64) -> Cost
     requires { ⌜ SliceIn p (now work) k q ⌝ }
     ensures { λ r. ⌜ r ≡ addAll (noCost room) (colourIn (now (work .entry)) p k q) ⌝ }
 {
@@ -158,7 +158,7 @@ pub fn colour_cost(work: &[i64], p: Picture, k: u32, q: u32, room: u64) -> Cost
 }
 
 // The tallies of slice k's level-0 numbers at index q, where the planes are rebuilt.
-pub fn first_tallies(work: &[i64], p: Picture, k: u32, q: u32, v: Windows) -> First
+pub(crate) fn first_tallies(work: &[i64], p: Picture, k: u32, q: u32, v: Windows) -> First
     requires { ⌜ SliceIn p (now work) k q × (v ≡ windowsOf p k) ⌝ }
     ensures { λ r. ⌜ FirstOf (now (work .entry)) p k q r ⌝ }
 {
@@ -216,7 +216,7 @@ fn rest_of(work: &[i64], p: Picture, k: u32, q: u32, v: Windows) -> Rest
 }
 
 // The run of the numbers that are tallied in t and of the run r behind them, without trailing zeros.
-pub fn joined(t: Tally, r: Trimmed) -> Trimmed
+pub(crate) fn joined(t: Tally, r: Trimmed) -> Trimmed
     requires { ⌜ Joins t r ⌝ }
     ensures { λ z. ⌜ z ≡ joinedOf t r ⌝ }
 {
@@ -401,7 +401,7 @@ fn middle(r: Range) -> u32
 }
 
 // The election from 0 to 127: its index, and runs at an index. The bracket begins at the guess g. The last index that was tried need not be the elected one.
-pub fn elect_qindex(work: &mut [i64], p: Picture, room: u64, k: u32, g: u32, v: Windows) -> Elected
+pub(crate) fn elect_qindex(work: &mut [i64], p: Picture, room: u64, k: u32, g: u32, v: Windows) -> Elected
     requires { ⌜ SliceIn p (now work) k 0 × ((g ≤ 127) × (v ≡ windowsOf p k)) ⌝ }
     ensures { λ r. ⌜ (r .index ≡ elect 0 127 (lowFitsIn (now (work .entry)) p room k)) × ((r .index ≤ 127)
         × (Tried p k (now (work .entry)) (now (work .exit)) × Known (now (work .exit)) p k (r .rest))) ⌝ }
@@ -424,7 +424,7 @@ pub fn elect_qindex(work: &mut [i64], p: Picture, room: u64, k: u32, g: u32, v: 
 }
 
 // The runs at index q: those at hand, where they are of this index.
-pub fn rest_at(work: &[i64], p: Picture, k: u32, q: u32, v: Windows, r: Rest) -> Rest
+pub(crate) fn rest_at(work: &[i64], p: Picture, k: u32, q: u32, v: Windows, r: Rest) -> Rest
     requires { ⌜ SliceIn p (now work) k q × (Known (now work) p k r × (v ≡ windowsOf p k)) ⌝ }
     ensures { λ z. ⌜ Known (now (work .entry)) p k z × (z .index ≡ q) ⌝ }
 {
@@ -435,8 +435,8 @@ pub fn rest_at(work: &[i64], p: Picture, k: u32, q: u32, v: Windows, r: Rest) ->
 }
 
 // A guess that is an index of low delay.
-pub fn guess(index: u32) -> u32
-    ensures { λ r. ⌜ r ≤ 127 ⌝ }
+pub(crate) fn guess(index: u32) -> u32
+    ensures { λ r. ⌜ (r ≡ min index 127) × (r ≤ 127) ⌝ }
 {
     if index < 127 { index } else { 127 }
 }

@@ -19,7 +19,7 @@ ghost use Rattle.picture.specs.LowRest.{windowsOf, Known};
 ghost use Rattle.picture.specs.Low.{lumaIn, colourIn, runBits, lowBitsBy, lowRuns, workAt, cutsIn, KeptOf, LowIn, Shorter, CutIn};
 
 // How many numbers are written of luma and of the colours, and their bits.
-pub struct Kept {
+struct Kept {
     pub luma: usize,
     pub luma_bits: u64,
     pub colour: usize,
@@ -27,7 +27,7 @@ pub struct Kept {
 }
 
 // How many numbers, and their bits.
-pub struct Run {
+struct Run {
     pub count: usize,
     pub bits: u64,
 }
@@ -149,7 +149,7 @@ fn put_runs(
 }
 
 // Slice k of n bytes at index q from place at on: where it ends. rest has its runs behind level 0 at q or at another index.
-pub fn put_ld_slice(
+pub(crate) fn put_ld_slice(
     out: &mut [u8],
     at: usize,
     work: &[i64],
@@ -187,7 +187,7 @@ pub fn put_ld_slice(
 }
 
 // All slices from place at on; n is the numerator.
-pub fn put_ld_slices(out: &mut [u8], at: usize, work: &mut [i64], p: Picture, n: u32) -> SliceCoder
+pub(crate) fn put_ld_slices(out: &mut [u8], at: usize, work: &mut [i64], p: Picture, n: u32) -> SliceCoder
     requires { ⌜ LowIn p n (now work) × (at + n ≤ length (now out)) ⌝ }
     ensures { λ r. ⌜ Lays (now (out .entry)) at (lowRuns p n (now (work .entry)) (slicesIn p)) (now (out .exit)) (r .at)
         × ((r .«cut_slices» ≡ cutsIn p n (now (work .entry)) (slicesIn p)) × (now (work .exit) ≡ workAt p n (now (work .entry)) (slicesIn p))) ⌝ }

@@ -14,7 +14,7 @@ ghost use Rattle.picture.specs.Low.{isLast, lowIndexIn, lowBitsIn, lowWo
 
 // Where the next slice goes in the output, how many low-delay slices carry index 127, the largest need of a component, the index of the slice before,
 // from which the search in high quality and the bracket in low delay begin, and where the words of the next slice stand in the work slice.
-pub struct SliceCoder {
+pub(crate) struct SliceCoder {
     pub at: usize,
     pub cut_slices: u32,
     pub largest: u64,
@@ -24,8 +24,8 @@ pub struct SliceCoder {
 
 impl SliceCoder {
     // No slice yet; the first one goes to at.
-    pub fn new(at: usize) -> SliceCoder
-        ensures { λ r. ⌜ (r .at ≡ at) × ((r .«cut_slices» ≡ 0) × ((r .largest ≡ 0) × (r .words ≡ 0))) ⌝ }
+    pub(crate) fn new(at: usize) -> SliceCoder
+        ensures { λ r. ⌜ (r .at ≡ at) × ((r .«cut_slices» ≡ 0) × ((r .largest ≡ 0) × ((r .words ≡ 0) × (r .index ≡ 0)))) ⌝ }
     {
         SliceCoder {
             at,
@@ -55,7 +55,7 @@ impl SliceCoder {
     }
 
     // High-quality slice k, planned, its words packed and its choice noted.
-    pub fn plan_hq_slice(self, work: &mut [i64], p: Picture, t: Terms, k: u32) -> SliceCoder
+    pub(crate) fn plan_hq_slice(self, work: &mut [i64], p: Picture, t: Terms, k: u32) -> SliceCoder
         requires { ⌜ PlanIn p t (now work) × ((k < slicesIn p) × ((self .at < 2 ^ 60) × (self .words + sliceCount p k ≤ p .front))) ⌝ }
         ensures { λ r. ⌜ PlansOn (planIn (now (work .entry)) p t k) self r
             × ((now (work .exit) ≡ noteIn (laid (now (work .entry)) (self .words) (wordsIn (now (work .entry)) p t k)) (p .end + 7 * k) (choiceIn (now (work .entry)) p t k))
@@ -67,7 +67,7 @@ impl SliceCoder {
     }
 
     // High-quality slice k, planned by the choice noted.
-    pub fn plan_noted_slice(self, work: &mut [i64], p: Picture, t: Terms, k: u32) -> SliceCoder
+    pub(crate) fn plan_noted_slice(self, work: &mut [i64], p: Picture, t: Terms, k: u32) -> SliceCoder
         requires { ⌜ PlanIn p t (now work) × ((k < slicesIn p) × (Notes (now work) p t (slicesIn p) (now work)
             × ((self .at < 2 ^ 60) × (self .words ≡ length (wordsTo (now work) p t k))))) ⌝ }
         ensures { λ r. ⌜ PlansOn (planIn (now (work .entry)) p t k) self r × (now (work .exit) ≡ now (work .entry)) ⌝ }
@@ -77,7 +77,7 @@ impl SliceCoder {
     }
 
     // High-quality slice k, written.
-    pub fn code_hq_slice(
+    pub(crate) fn code_hq_slice(
         self,
         out: &mut [u8],
         work: &mut [i64],
@@ -102,7 +102,7 @@ impl SliceCoder {
     }
 
     // Low-delay slice k, written; n is the numerator.
-    pub fn code_ld_slice(
+    pub(crate) fn code_ld_slice(
         self,
         out: &mut [u8],
         work: &mut [i64],

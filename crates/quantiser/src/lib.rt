@@ -75,7 +75,7 @@ fn cap(n: u64) -> u64
 }
 
 // A quotient and its remainder.
-pub struct Quotient {
+struct Quotient {
     pub quotient: u64,
     pub remainder: u64,
 }

@@ -3,7 +3,7 @@ ghost use Prim.Native.Nat.{_+_, _*_, _≤_, _<_};
 ghost use lib.ListN.{length};
 ghost use mathlib.Core.Path.{_≡_};
 
-pub enum Verdict {
+pub(crate) enum Verdict {
     Same,
     Differs,
     Malformed,

@@ -3,7 +3,7 @@ use crate::case::Verdict;
 use libc::STDOUT_FILENO;
 ghost use Prim.Native.Nat.{_<_};
 
-pub struct Tally {
+pub(crate) struct Tally {
     pub done: bool,
     pub cases: u64,
     pub malformed: u64,

@@ -27,7 +27,7 @@ pub(crate) fn sint_len(w: &[u64]) -> Verdict {
 }
 
 // What a case puts behind the ones.
-pub enum Put {
+enum Put {
     Uint(u32),
     Sint(i64),
     Nbits(u32, u64),

@@ -1,11 +1,11 @@
 // The wavelet layer: the analysis of rows and planes (wavelet.rs, and the analysis of transform.rs).
 ghost use Rattle.wavelet.specs.RowCall.{Analysed};
 
-pub mod arith;
+mod arith;
 pub mod component;
-pub mod lift;
+mod lift;
 pub mod pad;
-pub mod plane;
+mod plane;
 
 // The analysis of a row by a wavelet index, in place: 0, or with the row unchanged 1 (no such index) or 15 (the row is too long). Open to the box.
 pub fn oned_analysis(row: &mut [i64], index: u32) -> u32

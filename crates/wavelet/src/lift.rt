@@ -13,7 +13,7 @@ use crate::arith;
 
 // A stage: to is 0 where it goes to the even places and 1 where it goes to the odd ones; the standard's D is ahead less back; the first count
 // of the taps are its own.
-pub struct LiftStage {
+pub(crate) struct LiftStage {
     pub to: usize,
     pub adds: bool,
     pub shift: u32,
@@ -179,7 +179,7 @@ const STAGES: [LiftStage; 16] = [
 ];
 
 // Stage j of the table. Public for the planes, as are the other public functions here.
-pub fn stage(j: usize) -> LiftStage
+pub(crate) fn stage(j: usize) -> LiftStage
     requires { ⌜ j < 16 ⌝ }
     ensures { λ r. ⌜ Staged j r ⌝ }
 {
@@ -207,7 +207,7 @@ fn place(s: LiftStage, len: usize, n: usize, k: usize) -> usize
 }
 
 // The places that the taps read for update n, each times w.
-pub fn places(s: LiftStage, len: usize, n: usize, w: usize) -> [usize; 8]
+pub(crate) fn places(s: LiftStage, len: usize, n: usize, w: usize) -> [usize; 8]
     requires { ⌜ Legal s × ((len ≤ 65536) × ((n < len / 2) × (w ≤ 65536))) ⌝ }
     ensures { λ r. ⌜ Placed (stageOf s) len n w r ⌝ }
 {
@@ -369,7 +369,7 @@ fn run_two(
 }
 
 // count updates, of the places p, p + step, .., whose taps read the places o, moved on likewise. No place is read after it is updated.
-pub fn run(
+pub(crate) fn run(
     a: &mut [i64],
     s: LiftStage,
     plus: bool,
@@ -417,7 +417,7 @@ fn lift(a: &mut [i64], s: LiftStage, plus: bool)
 }
 
 // How many stages a filter has.
-pub fn stage_count(index: usize) -> usize
+pub(crate) fn stage_count(index: usize) -> usize
     requires { ⌜ index ≤ 6 ⌝ }
     ensures { λ r. ⌜ r ≡ length (filterOf index .stages) ⌝ }
 {
@@ -425,7 +425,7 @@ pub fn stage_count(index: usize) -> usize
 }
 
 // The analysis of a row: every stage undone, the last one first.
-pub fn analyse(row: &mut [i64], index: usize)
+pub(crate) fn analyse(row: &mut [i64], index: usize)
     requires { ⌜ (index ≤ 6) × (length (now row) ≤ 65536) ⌝ }
     ensures { λ _. ⌜ now (row .exit) ≡ analysisBy wrap index (now (row .entry)) ⌝ }
 {

@@ -50,7 +50,7 @@ loop-again : tie.Need-loop-again Inv-loop μ-loop
 loop-again c =
     let v = c .before .before .before .before .before .before .loop in
     let n = c .before .before .before .next-index in
-    (search-turn _ (v .r) (v .inv .0) (n .result) (n .ensures .0) (n .ensures .1) (c .before .before .fits2 .result) _ (c .before .before .fits2 .ensures) (c .before .narrowed .ensures), c .wider .ensures)
+    (search-turn _ (v .r) (v .inv .0) (n .result) (n .ensures .0) (n .ensures .1) (c .before .before .fits2 .result) _ (c .before .before .fits2 .ensures) (c .before .narrowed .ensures), c .wider .ensures .1)
 
 returns : tie.Need-returns Inv-loop μ-loop
 returns c =

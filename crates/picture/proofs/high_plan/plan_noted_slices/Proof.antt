@@ -32,7 +32,7 @@ loop-holds : tie.Need-loop-holds Inv-loop μ-loop
 loop-holds c =
     let a = c .before .before .args in
     let n = c .new in
-    (omega arith, (plans-none (a .work .now) (a .p) (a .t) (a .at) (n .result) (n .ensures .0) (n .ensures .1 .0) (n .ensures .1 .1 .0) (n .ensures .1 .1 .1), refl))
+    (omega arith, (plans-none (a .work .now) (a .p) (a .t) (a .at) (n .result) (n .ensures .0) (n .ensures .1 .0) (n .ensures .1 .1 .0) (n .ensures .1 .1 .1 .0), refl))
 
 plan-noted-slice-requires : tie.Need-plan-noted-slice-requires Inv-loop μ-loop
 plan-noted-slice-requires c κs =

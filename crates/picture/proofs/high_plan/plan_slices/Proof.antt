@@ -30,7 +30,7 @@ loop-holds : tie.Need-loop-holds Inv-loop μ-loop
 loop-holds c =
     let a = c .before .before .args in
     let n = c .new in
-    (omega arith, (plans-none (a .work .now) (a .p) (a .t) (a .at) (n .result) (n .ensures .0) (n .ensures .1 .0) (n .ensures .1 .1 .0) (n .ensures .1 .1 .1), notes-none (c .before .before .pre .0 .small)))
+    (omega arith, (plans-none (a .work .now) (a .p) (a .t) (a .at) (n .result) (n .ensures .0) (n .ensures .1 .0) (n .ensures .1 .1 .0) (n .ensures .1 .1 .1 .0), notes-none (c .before .before .pre .0 .small)))
 
 plan-hq-slice-requires : tie.Need-plan-hq-slice-requires Inv-loop μ-loop
 plan-hq-slice-requires c κs =

@@ -39,7 +39,7 @@ loop-holds c =
       omega arith,
       (
         slices-none (a .work .now) (a .p) (a .t) (a .out .now) (a .at) (c .new .result .at) (n .0),
-        (n .1 .0, (rw (chunks-none (wordsIn (a .work .now) (a .p) (a .t))) (n .1 .1 .1), refl)),
+        (n .1 .0, (rw (chunks-none (wordsIn (a .work .now) (a .p) (a .t))) (n .1 .1 .1 .0), refl)),
       ),
     )
 
