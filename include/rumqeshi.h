@@ -113,8 +113,8 @@ uint32_t vc2_oned_analysis(int64_t *row, size_t row_count, uint32_t index);
  *  - VC2_SHORT_OUTPUT: refused. out and work are filled with zeros.
  *  - VC2_ACCEPTED: the unit stands at the start of out and the rest of out is as it was; work is
  *    filled with zeros.
- * *length (the unit's bytes), *cut_slices (low-delay slices that carry index 127; 0 in high
- * quality) and *slice_size_scaler (the final scaler; in low delay the setting's) are written only
+ * *written (the unit's length, in bytes), *cut_slices (low-delay slices that carry index 127; 0 in
+ * high quality) and *slice_size_scaler (the final scaler; in low delay the setting's) are set only
  * where VC2_ACCEPTED is answered. Otherwise they stay as they were.
  */
 uint32_t vc2_encode_picture(const uint32_t *settings, size_t settings_count,
@@ -124,7 +124,7 @@ uint32_t vc2_encode_picture(const uint32_t *settings, size_t settings_count,
                             const uint16_t *c2, size_t c2_count,
                             int64_t *work, size_t work_count,
                             uint8_t *out, size_t out_count,
-                            uint32_t *length, uint32_t *cut_slices, uint32_t *slice_size_scaler);
+                            uint32_t *written, uint32_t *cut_slices, uint32_t *slice_size_scaler);
 
 #ifdef __cplusplus
 }

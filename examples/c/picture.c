@@ -16,21 +16,21 @@ int main(void)
     const uint16_t y[1] = {130}, c1[1] = {128}, c2[1] = {125};
     int64_t work[9];
     uint8_t out[64];
-    uint32_t length, cut_slices, scaler;
+    uint32_t written, cut_slices, scaler;
 
     uint32_t answer = vc2_encode_picture(settings, VC2_SETTINGS, matrix, 0, y, 1, c1, 1, c2, 1, work, 9, out, sizeof out,
-                                         &length, &cut_slices, &scaler);
+                                         &written, &cut_slices, &scaler);
     if (answer != VC2_ACCEPTED) {
         printf("%" PRIu32 "\n", answer);
         return 1;
     }
-    printf("%" PRIu32 " %" PRIu32 " %" PRIu32 " %" PRIu32 "\n", answer, length, cut_slices, scaler);
-    for (uint32_t i = 0; i < length; i++)
-        printf("%02X%c", (unsigned)out[i], i % 16 == 15 || i + 1 == length ? '\n' : ' ');
+    printf("%" PRIu32 " %" PRIu32 " %" PRIu32 " %" PRIu32 "\n", answer, written, cut_slices, scaler);
+    for (uint32_t i = 0; i < written; i++)
+        printf("%02X%c", (unsigned)out[i], i % 16 == 15 || i + 1 == written ? '\n' : ' ');
 
     /* one byte too few for the unit */
-    answer = vc2_encode_picture(settings, VC2_SETTINGS, matrix, 0, y, 1, c1, 1, c2, 1, work, 9, out, length - 1,
-                                &length, &cut_slices, &scaler);
+    answer = vc2_encode_picture(settings, VC2_SETTINGS, matrix, 0, y, 1, c1, 1, c2, 1, work, 9, out, written - 1,
+                                &written, &cut_slices, &scaler);
     printf("%" PRIu32 "\n", answer);
     return answer == VC2_SHORT_OUTPUT ? 0 : 1;
 }

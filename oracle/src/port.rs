@@ -28,7 +28,7 @@ unsafe extern "C" {
         work_len: usize,
         out: *mut u8,
         out_len: usize,
-        length: *mut u32,
+        written: *mut u32,
         cut_slices: *mut u32,
         slice_size_scaler: *mut u32,
     ) -> u32;
@@ -93,7 +93,7 @@ pub fn picture(call: &Call, wanted: &Outcome, salt: u64) -> (Vec<String>, Durati
     let mut output = Lent::<u8>::filled(salt + 6, call.output);
     let mut values = [7, 8, 9].map(|i| Lent::<u32>::filled(salt + i, 1));
     let [y, c1, c2] = &mut planes;
-    let [length, cut, scaler] = &mut values;
+    let [written, cut, scaler] = &mut values;
     let begin = Instant::now();
     // SAFETY: each pointer is to so many elements, or to one, and nothing else refers to them.
     let answer = unsafe {
@@ -112,7 +112,7 @@ pub fn picture(call: &Call, wanted: &Outcome, salt: u64) -> (Vec<String>, Durati
             work.len(),
             output.start(),
             output.len(),
-            length.start(),
+            written.start(),
             cut.start(),
             scaler.start(),
         )
@@ -123,7 +123,7 @@ pub fn picture(call: &Call, wanted: &Outcome, salt: u64) -> (Vec<String>, Durati
     let accepted = wanted.answer == 0;
     let zeros = accepted || wanted.answer == 14;
     let told = [wanted.unit.len() as u64, wanted.cut, wanted.scaler].map(|v| v as u32);
-    for (i, name) in ["length", "cut slices", "scaler"].into_iter().enumerate() {
+    for (i, name) in ["written", "cut slices", "scaler"].into_iter().enumerate() {
         let value = &values[i];
         found.extend(value.unlike(name, |place| if accepted { told[i] } else { value.old(place) }));
     }

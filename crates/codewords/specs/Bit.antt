@@ -22,8 +22,10 @@ unfoldable pub value : ℕ → Bits → ℕ
 value a [] = a
 value a (b ∷ s) = value (a * 2 + val b) s
 
-abbrev pub ones : ℕ → Bits
-ones n = replicate n true
+-- n bits 1
+abbrev pub oneBits : ℕ → Bits
+oneBits n = replicate n true
 
-abbrev pub zeros : ℕ → Bits
-zeros n = replicate n false
+-- n bits 0
+abbrev pub zeroBits : ℕ → Bits
+zeroBits n = replicate n false

@@ -11,7 +11,7 @@ use lib.Dec.{eqb}
 use lib.ListN.{length, replicate, replicate-append-replicate}
 use lib.Pow.{pow-pos, pow-lt, shr-shr, high, low}
 use mir.Val.{boolByte}
-use Rattle.codewords.specs.Bit.{Bits, val, lit, value, ones, zeros}
+use Rattle.codewords.specs.Bit.{Bits, val, lit, value, oneBits, zeroBits}
 
 pub val-bit : (n : ℕ) → n < 2 → val (eqb n 1) ≡ n
 val-bit zero h = refl
@@ -142,16 +142,16 @@ value-top k m lo hi =
 pub repeat-more : (n : ℕ) (b : Bool) → replicate (n + 1) b ≡ replicate n b ++ (b ∷ [])
 repeat-more n b = sym (replicate-append-replicate n 1 b)
 
-pub lit-ones : (k m : ℕ) → k ≤ m → lit k (2 ^ m - 1) ≡ ones k
+pub lit-ones : (k m : ℕ) → k ≤ m → lit k (2 ^ m - 1) ≡ oneBits k
 lit-ones zero m h = lit-none (2 ^ m - 1)
 lit-ones (suc k) zero h = absurd (omega arith)
 lit-ones (suc k) (suc m) h =
     let p = pow-pos m in
     let e : 2 ^ suc m - 1 ≡ (2 ^ m - 1) * 2 + val true = omega (arith, pow-suc 2 m) in
     ap (lit (suc k)) e ∙ ap (λ (n : ℕ). lit n ((2 ^ m - 1) * 2 + val true)) (sym (add-one k)) ∙ lit-more k (2 ^ m - 1) true
-    ∙ ap (λ (s : Bits). s ++ (true ∷ [])) (lit-ones k m (omega arith)) ∙ sym (repeat-more k true) ∙ ap ones (add-one k)
+    ∙ ap (λ (s : Bits). s ++ (true ∷ [])) (lit-ones k m (omega arith)) ∙ sym (repeat-more k true) ∙ ap oneBits (add-one k)
 
-pub lit-zeros : (k : ℕ) → lit k 0 ≡ zeros k
+pub lit-zeros : (k : ℕ) → lit k 0 ≡ zeroBits k
 unfolding lit
 lit-zeros zero = refl
 lit-zeros (suc k) = ap₂ (λ (n : ℕ) (s : Bits). eqb (n % 2) 1 ∷ s) (zero-div (2 ^ k)) (lit-zeros k)

@@ -16,8 +16,9 @@ abbrev pub Parser : Type 0 → Type 0
 Parser A = Bits → Read A
 
 module _ {A : Type 0} where
-  unfoldable pub pure : A → Parser A
-  pure x = λ s. got x s
+  -- takes no bit, and gives x
+  unfoldable pub give : A → Parser A
+  give x = λ s. got x s
 
   -- a field: it stops where it began
   abbrev pub field : Bits → Option (A × Bits) → Read A

@@ -10,19 +10,19 @@ use lib.Dec.{T}
 use lib.IntN.{ℤ, pos, negsuc, natAbs}
 use lib.ListN.{length, length-append}
 use lib.Seq.{drop-at}
-use Rattle.codewords.specs.Bit.{Bits, val, lit, value, ones}
+use Rattle.codewords.specs.Bit.{Bits, val, lit, value, oneBits}
 use Rattle.codewords.specs.BitLaws.{length-lit, value-of-lit}
 use Rattle.codewords.specs.Code.{log2, interleaved, codeU, sign, codeS, codes, zeroFilled}
 use Rattle.codewords.specs.CodeLaws.{value-code}
-use Rattle.codewords.specs.Read.{got, stop, Parser, pure, field, checked, such, after, _>>=_, nbitsFrom, readNbits, readBool, uintFrom, readUint, signFrom, sintFrom, readSint, byteAlign, splitFrom, readBits, uintb, signb, sintb, sintsb}
+use Rattle.codewords.specs.Read.{got, stop, Parser, give, field, checked, such, after, _>>=_, nbitsFrom, readNbits, readBool, uintFrom, readUint, signFrom, sintFrom, readSint, byteAlign, splitFrom, readBits, uintb, signb, sintb, sintsb}
 use Rattle.codewords.specs.ByteLaws.{Full}
 
 -- p reads x from w, whatever follows, and stops where w ends
 pub record Reads {A : Type 0} (p : Parser A) (w : Bits) (x : A) : Type 0 where
   pub at : (rest : Bits) → p (w ++ rest) ≡ got x rest
 
-pub reads-pure : {A : Type 0} (x : A) → Reads (pure x) [] x
-unfolding pure
+pub reads-pure : {A : Type 0} (x : A) → Reads (give x) [] x
+unfolding give
 reads-pure x = record { at = λ rest. refl }
 
 pub reads-bind : {A B : Type 0} {p : Parser A} {w : Bits} {x : A} (f : A → Parser B) {v : Bits} {y : B}
@@ -154,12 +154,12 @@ sintb-code z rest =
     last (negsuc n) = refl
 
 -- a block that holds the codes of a run and then ones gives the run and then zeros, for any count asked
-pub block-codes : (n : ℕ) (ys : List ℤ) (j : ℕ) → sintsb n (codes ys ++ ones j) ≡ zeroFilled n ys
+pub block-codes : (n : ℕ) (ys : List ℤ) (j : ℕ) → sintsb n (codes ys ++ oneBits j) ≡ zeroFilled n ys
 unfolding sintsb codes zeroFilled sintb uintb
 block-codes zero ys j = refl
 block-codes (suc n) [] zero = ap (λ (r : List ℤ). pos zero ∷ r) (block-codes n [] zero)
 block-codes (suc n) [] (suc j) = ap (λ (r : List ℤ). pos zero ∷ r) (block-codes n [] j)
 block-codes (suc n) (y ∷ ys) j =
-    ap (λ (s : Bits). sintb s .0 ∷ sintsb n (sintb s .1)) (append-assoc (codeS y) (codes ys) (ones j))
-    ∙ ap (λ (r : ℤ × Bits). r .0 ∷ sintsb n (r .1)) (sintb-code y (codes ys ++ ones j))
+    ap (λ (s : Bits). sintb s .0 ∷ sintsb n (sintb s .1)) (append-assoc (codeS y) (codes ys) (oneBits j))
+    ∙ ap (λ (r : ℤ × Bits). r .0 ∷ sintsb n (r .1)) (sintb-code y (codes ys ++ oneBits j))
     ∙ ap (λ (r : List ℤ). y ∷ r) (block-codes n ys j)

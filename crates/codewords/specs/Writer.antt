@@ -5,7 +5,7 @@ use Prim.Native.Nat.{ℕ, _+_, _-_, _*_, _%_, _^_, _≤_, _<_}
 use lib.ListN.{length, take, drop}
 use Rattle.laws.specs.Laid.{laid}
 use Rattle.codewords.specs.declared.writer.BitWriter.{BitWriter}
-use Rattle.codewords.specs.Bit.{Bits, lit, zeros}
+use Rattle.codewords.specs.Bit.{Bits, lit, zeroBits}
 use Rattle.codewords.specs.Bytes.{toBytes}
 
 -- the bits pending
@@ -43,5 +43,5 @@ padding w = (8 - w .«pending_bits» % 8) % 8
 
 -- zeros were written up to the end of the byte, and no bit is pending
 pub record Aligns (o : List ℕ) (w : BitWriter) (o′ : List ℕ) (w′ : BitWriter) : Type 0 where
-  pub wrote : Wrote o w (zeros (padding w)) o′ w′
+  pub wrote : Wrote o w (zeroBits (padding w)) o′ w′
   pub whole : w′ .«pending_bits» ≡ 0

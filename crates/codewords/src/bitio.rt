@@ -3,7 +3,7 @@ use crate::writer::BitWriter;
 ghost use mathlib.Core.List.{[], _∷_};
 ghost use Prim.Native.Nat.{_≤_, _^_};
 ghost use lib.ListN.{length};
-ghost use Rattle.codewords.specs.Bit.{lit, ones};
+ghost use Rattle.codewords.specs.Bit.{lit, oneBits};
 ghost use Rattle.codewords.specs.Code.{codeU, codeM, codeS};
 ghost use Rattle.codewords.specs.Writer.{Room, Wrote, Flushes, Aligns, padding};
 
@@ -80,7 +80,7 @@ pub fn byte_align(out: &mut [u8], w: BitWriter) -> BitWriter
 // n ones.
 pub fn put_ones(out: &mut [u8], w: BitWriter, n: u64) -> BitWriter
     requires { ⌜ Room (now out) w n ⌝ }
-    ensures { λ r. ⌜ Wrote (now (out .entry)) w (ones n) (now (out .exit)) r ⌝ }
+    ensures { λ r. ⌜ Wrote (now (out .entry)) w (oneBits n) (now (out .exit)) r ⌝ }
 {
     let mut s = w;
     crate::lent::put_ones(out, &mut s, n);

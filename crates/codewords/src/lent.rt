@@ -3,7 +3,7 @@ use crate::writer::BitWriter;
 ghost use mathlib.Core.List.{[], _∷_};
 ghost use Prim.Native.Nat.{_≤_, _^_};
 ghost use lib.ListN.{length};
-ghost use Rattle.codewords.specs.Bit.{lit, ones};
+ghost use Rattle.codewords.specs.Bit.{lit, oneBits};
 ghost use Rattle.codewords.specs.Code.{codeU, codeM, codeS};
 ghost use Rattle.codewords.specs.Writer.{Room, Wrote, Flushes, Aligns, padding};
 
@@ -66,7 +66,7 @@ pub(crate) fn byte_align(out: &mut [u8], w: &mut BitWriter)
 // n ones.
 pub(crate) fn put_ones(out: &mut [u8], w: &mut BitWriter, n: u64)
     requires { ⌜ Room (now out) (now w) n ⌝ }
-    ensures { λ _. ⌜ Wrote (now (out .entry)) (now (w .entry)) (ones n) (now (out .exit)) (now (w .exit)) ⌝ }
+    ensures { λ _. ⌜ Wrote (now (out .entry)) (now (w .entry)) (oneBits n) (now (out .exit)) (now (w .exit)) ⌝ }
 {
     *w = crate::writer::put_ones(out, *w, n);
 }

@@ -5,7 +5,7 @@ ghost use mathlib.Core.Bool.{true};
 ghost use mathlib.Core.List.{[], _∷_, _++_};
 ghost use lib.ListN.{length};
 ghost use Rattle.laws.specs.Laid.{laid};
-ghost use Rattle.codewords.specs.Bit.{lit, ones};
+ghost use Rattle.codewords.specs.Bit.{lit, oneBits};
 ghost use Rattle.codewords.specs.Bytes.{toBytes};
 ghost use Rattle.codewords.specs.Code.{interleaved, codeU, codeM, codeS};
 ghost use Rattle.codewords.specs.Spread.{spreadBits};
@@ -191,7 +191,7 @@ pub(crate) fn byte_align(out: &mut [u8], w: BitWriter) -> BitWriter
 // n ones.
 pub(crate) fn put_ones(out: &mut [u8], w: BitWriter, n: u64) -> BitWriter
     requires { ⌜ Room (now out) w n ⌝ }
-    ensures { λ r. ⌜ Wrote (now (out .entry)) w (ones n) (now (out .exit)) r ⌝ }
+    ensures { λ r. ⌜ Wrote (now (out .entry)) w (oneBits n) (now (out .exit)) r ⌝ }
 {
     let mut left = n;
     let mut s = w;

@@ -20,13 +20,13 @@ pub record Gives (i : ℕ) (z before after : ℤ) (r : ℕ) : Type 0 where
 
 -- length, cut slices and scaler behind three references
 pub record Values : Type 0 where
-  pub length : ℕ
+  pub written : ℕ
   pub cut : ℕ
   pub scaler : ℕ
 
 -- an accepted call's; a refused one leaves what stood there
 abbrev pub valuesOf : Answer → Values → Values
-valuesOf (Accepted c) v = record { length = c .length; cut = c .«cut_slices»; scaler = c .«slice_size_scaler» }
+valuesOf (Accepted c) v = record { written = c .written; cut = c .«cut_slices»; scaler = c .«slice_size_scaler» }
 valuesOf (Refused n) v = v
 
 -- everything that a picture call leaves
@@ -49,4 +49,4 @@ leftOf ws m p out work v =
 pub record Picture (ws m : List ℕ) (p : Three (List ℕ)) (out : List ℕ) (work : List ℤ) (v : Values) (after : Left) : Type 0 where
   pub is : after ≡ leftOf ws m p out work v
   -- an accepted call: demand 3 of the bytes that its length counts
-  pub demand : after .number ≡ 0 → Demand3 (settingsOf ws) m p (take (after .values .length) (after .output))
+  pub demand : after .number ≡ 0 → Demand3 (settingsOf ws) m p (take (after .values .written) (after .output))

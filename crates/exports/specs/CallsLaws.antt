@@ -96,7 +96,7 @@ module _ (s : Settings) (m : List ℕ) (p : Three (List ℕ)) (out : List ℕ) (
 
   -- demand 3 of an answer of number 0
   demand-zero : (out′ : List ℕ) (work′ : List ℤ) (v : Values) (r : Answer) → Encodes s m p out work out′ work′ r → numberOf r ≡ 0
-      → Demand3 s m p (take (valuesOf r v .length) out′)
+      → Demand3 s m p (take (valuesOf r v .written) out′)
   demand-zero out′ work′ v (Accepted c) h e = h .demand c refl
   demand-zero out′ work′ v (Refused n) h e = no-truth (sym (ap isAccepted (h .answer) ∙ zero-accepted (sym (ap numberOf (h .answer)) ∙ e)))
 
@@ -140,7 +140,7 @@ module _ (ws m : List ℕ) (p : Three (List ℕ)) (out : List ℕ) (work : List 
 
     -- an accepted call
     pub picture-accepted : (c : Coded) → r ≡ Accepted c
-        → Picture ws m p out work v (record { number = 0; output = out′; work = work′; values = record { length = c .length; cut = c .«cut_slices»; scaler = c .«slice_size_scaler» } })
+        → Picture ws m p out work v (record { number = 0; output = out′; work = work′; values = record { written = c .written; cut = c .«cut_slices»; scaler = c .«slice_size_scaler» } })
     picture-accepted c g = encoded out′ work′ (Accepted c) e (encodes-as (Accepted c) g)
 
     -- a refused one

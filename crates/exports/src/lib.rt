@@ -102,18 +102,18 @@ pub extern "C" fn vc2_encode_picture(
     c2: &[u16],
     work: &mut [i64],
     out: &mut [u8],
-    length: &mut u32,
+    written: &mut u32,
     cut_slices: &mut u32,
     slice_size_scaler: &mut u32,
 ) -> u32
     ensures { λ r. ⌜ Picture (now (settings .entry)) (now (matrix .entry)) (planes (now (y .entry)) (now (c1 .entry)) (now (c2 .entry)))
         (now (out .entry)) (now (work .entry))
-        (record { length = now (length .entry); cut = now («cut_slices» .entry); scaler = now («slice_size_scaler» .entry) })
+        (record { written = now (written .entry); cut = now («cut_slices» .entry); scaler = now («slice_size_scaler» .entry) })
         (record {
           number = r;
           output = now (out .exit);
           work = now (work .exit);
-          values = record { length = now (length .exit); cut = now («cut_slices» .exit); scaler = now («slice_size_scaler» .exit) };
+          values = record { written = now (written .exit); cut = now («cut_slices» .exit); scaler = now («slice_size_scaler» .exit) };
         }) ⌝ }
 {
     if !picture::words::known(settings) {
@@ -123,7 +123,7 @@ pub extern "C" fn vc2_encode_picture(
     let r = picture::encoder::encode_picture(s, matrix, y, c1, c2, work, out);
     match r {
         Answer::Accepted(c) => {
-            *length = c.length;
+            *written = c.written;
             *cut_slices = c.cut_slices;
             *slice_size_scaler = c.slice_size_scaler;
             0

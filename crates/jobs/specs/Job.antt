@@ -111,7 +111,7 @@ bytesFrom i (b ∷ bs) = hexDigit (b / 16) ∷ hexDigit (b % 16) ∷ separator i
 
 -- the bytes that are printed: an accepted call's unit
 abbrev pub unitIn : Answer → List ℕ → List ℕ
-unitIn (Accepted c) out = take (c .length) out
+unitIn (Accepted c) out = take (c .written) out
 unitIn (Refused n) out = []
 
 unfoldable pub textOf : Outcome → List ℕ

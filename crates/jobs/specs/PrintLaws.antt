@@ -100,13 +100,13 @@ unfolding lineOf
 line-one n = refl
 
 -- an accepted call's line, number after number
-pub line-laid : {t t₁ t₂ t₃ t′ : List ℕ} {i j k r : ℕ} (c : Coded) → Lays t 0 (decimal 0 ++ (32 ∷ [])) t₁ i → Lays t₁ i (decimal (c .length) ++ (32 ∷ [])) t₂ j
+pub line-laid : {t t₁ t₂ t₃ t′ : List ℕ} {i j k r : ℕ} (c : Coded) → Lays t 0 (decimal 0 ++ (32 ∷ [])) t₁ i → Lays t₁ i (decimal (c .written) ++ (32 ∷ [])) t₂ j
     → Lays t₂ j (decimal (c .«cut_slices») ++ (32 ∷ [])) t₃ k → Lays t₃ k (decimal (c .«slice_size_scaler») ++ (10 ∷ [])) t′ r → Lays t 0 (lineOf (tells (Accepted c))) t′ r
 line-laid c p q s u =
     let v = lays-same (sym (line-one (c .«slice_size_scaler»))) u in
     let w = lays-same (line-more (c .«cut_slices») (c .«slice_size_scaler») []) (lays-on s v) in
-    let x = lays-same (line-more (c .length) (c .«cut_slices») (c .«slice_size_scaler» ∷ [])) (lays-on q w) in
-    lays-same (line-more 0 (c .length) (c .«cut_slices» ∷ c .«slice_size_scaler» ∷ [])) (lays-on p x)
+    let x = lays-same (line-more (c .written) (c .«cut_slices») (c .«slice_size_scaler» ∷ [])) (lays-on q w) in
+    lays-same (line-more 0 (c .written) (c .«cut_slices» ∷ c .«slice_size_scaler» ∷ [])) (lays-on p x)
 
 -- ---- bytes
 -- three elements, one after the other
@@ -176,9 +176,9 @@ unfolding lineOf bytesFrom
 refused-laid n out q p = rw q (lays-same (sym (append-nil (decimal n ++ (10 ∷ [])))) p)
 
 pub accepted-laid : {r : Answer} {t t₁ t′ : List ℕ} {i e : ℕ} (c : Coded) (out : List ℕ) → r ≡ Accepted c → Lays t 0 (lineOf (tells (Accepted c))) t₁ i
-    → Lays t₁ i (bytesFrom 0 (take (c .length) out)) t′ e → Lays t 0 (lineOf (tells r) ++ bytesFrom 0 (unitIn r out)) t′ e
+    → Lays t₁ i (bytesFrom 0 (take (c .written) out)) t′ e → Lays t 0 (lineOf (tells r) ++ bytesFrom 0 (unitIn r out)) t′ e
 accepted-laid c out h p q = rw h (lays-on p q)
 
 -- the room that an accepted call's unit needs
-pub accepted-room : {r : Answer} (c : Coded) (m n : ℕ) → r ≡ Accepted c → (lengthIn r ≤ m) × (44 + 3 * lengthIn r ≤ n) → (c .length ≤ m) × (44 + 3 * c .length ≤ n)
+pub accepted-room : {r : Answer} (c : Coded) (m n : ℕ) → r ≡ Accepted c → (lengthIn r ≤ m) × (44 + 3 * lengthIn r ≤ n) → (c .written ≤ m) × (44 + 3 * c .written ≤ n)
 accepted-room c m n q h = rw q at h

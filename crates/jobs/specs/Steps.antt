@@ -42,7 +42,7 @@ chunk b last = hexDigit (b / 16) ∷ hexDigit (b % 16) ∷ cond last 10 32 ∷ [
 
 -- the bytes of an accepted call's unit
 abbrev pub lengthIn : Answer → ℕ
-lengthIn (Accepted c) = c .length
+lengthIn (Accepted c) = c .written
 lengthIn (Refused n) = 0
 
 -- ---- the job

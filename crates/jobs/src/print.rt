@@ -96,7 +96,7 @@ fn put_coded(text: &mut [u8], c: Coded) -> usize
     ensures { λ r. ⌜ Lays (now (text .entry)) 0 (lineOf (tells (Accepted c))) (now (text .exit)) r × (r ≤ 44) ⌝ }
 {
     let a = put_value(text, 0, 0, 32);
-    let b = put_value(text, a, c.length, 32);
+    let b = put_value(text, a, c.written, 32);
     let d = put_value(text, b, c.cut_slices, 32);
     put_value(text, d, c.slice_size_scaler, 10)
 }
@@ -110,7 +110,7 @@ pub(crate) fn put_answer(text: &mut [u8], r: Answer, out: &[u8]) -> usize
         Answer::Refused(n) => put_value(text, 0, n, 10),
         Answer::Accepted(c) => {
             let at = put_coded(text, c);
-            let n = c.length as usize;
+            let n = c.written as usize;
             put_bytes(text, at, &out[..n])
         }
     }

@@ -23,7 +23,7 @@ use Rattle.unit.specs.declared.Coded.{Coded}
 use Rattle.unit.specs.declared.Answer.the-variants.{Accepted, Refused}
 use Rattle.unit.specs.Three.{Three}
 use Rattle.unit.specs.Sizes.{Size, lumaSize, colourSize, depthsOf, offsetOf}
-use Rattle.unit.specs.Slices.{count}
+use Rattle.unit.specs.Slices.{sliceCount}
 use Rattle.unit.specs.Subbands.{paddedSize, subbandCount}
 use Rattle.unit.specs.Matrix.{defaultOf, orNone, matrixValues}
 use Rattle.unit.specs.MatrixLaws.{MatrixIf, default-matrix}
@@ -156,7 +156,7 @@ module _ {s : Settings} {m : List ℕ} (c : Called s m) where
     values = places-many;
   }
 
-  pub count-few : count (gridOf s) ≤ 1048576
+  pub count-few : sliceCount (gridOf s) ≤ 1048576
   count-few = omega (arith, c .slices, mul-comm (s .«slices_x») (s .«slices_y»))
 
   slices-few : slicesIn (pictureOf s m) ≤ 1048576
@@ -222,8 +222,8 @@ module _ (s : Settings) (m : List ℕ) where
   unfolding pictureOf layoutOf
   grid-is = refl
 
-  pub slices-are : slicesIn (pictureOf s m) ≡ count (gridOf s)
-  slices-are = ap count grid-is
+  pub slices-are : slicesIn (pictureOf s m) ≡ sliceCount (gridOf s)
+  slices-are = ap sliceCount grid-is
 
   -- the matrix's values, of the picture's layout
   pub values-in : Called s m → (n : ℕ) → n < bandCount (pictureOf s m .layout) → getD (pictureOf s m .layout .values) n 0 ≡ getD (matrixValues s m) n 0

@@ -10,7 +10,7 @@ use lib.Arith.{digits-div, digits-mod}
 use lib.IntN.{ℤ}
 use lib.ListN.{length, length-append}
 use Rattle.unit.specs.Sizes.{Size, area}
-use Rattle.unit.specs.Slices.{bound, count, partSize}
+use Rattle.unit.specs.Slices.{bound, sliceCount, partSize}
 use Rattle.unit.specs.SliceLaws.{bound-rises, bound-most}
 use Rattle.picture.specs.declared.layout.Component.{Component}
 use Rattle.picture.specs.declared.layout.Layout.{Layout}
@@ -77,7 +77,7 @@ module _ {l : Layout} (h : LayoutIn l) (z : Size) where
           omega (arith, column-next i j, row-most i (suc j) m, before-is (suc k) (suc i) 0 (h .across .0) (omega (arith, div-add-mod' k (l .across), m, suc-mul i (l .across))))
 
   -- and within the subband
-  part-within : (k : ℕ) → k < count (gridIn l) → before k + partSize (gridIn l) z k ≤ area z
+  part-within : (k : ℕ) → k < sliceCount (gridIn l) → before k + partSize (gridIn l) z k ≤ area z
   part-within k b =
       let i : ℕ = k / l .across in
       let m = mul-le-mul-right (z .width) (bound-most (l .down) (z .height) (suc i) (row-of h b)) in
@@ -100,7 +100,7 @@ module _ {l : Layout} (h : LayoutIn l) (c : Component) where
   ahead-next k zero = omega arith
   ahead-next k (suc n) = omega (arith, ahead-next k n, part-next h (bandSize l c n) k)
 
-  ahead-within : (k n : ℕ) → k < count (gridIn l) → ahead k n + bandNumbersOf l c k n ≤ startOf l c n
+  ahead-within : (k n : ℕ) → k < sliceCount (gridIn l) → ahead k n + bandNumbersOf l c k n ≤ startOf l c n
   unfolding ahead bandNumbersOf
   ahead-within k zero b = omega arith
   ahead-within k (suc n) b = omega (arith, ahead-within k n b, part-within h (bandSize l c n) k b, start-next l c n)
@@ -111,7 +111,7 @@ module _ {l : Layout} (h : LayoutIn l) (c : Component) where
   count-ahead (suc k) = omega (arith, count-ahead k, ahead-next k (bandCount l))
 
 -- the numbers of a component up to slice k's are no more than its coefficients
-pub count-within : (l : Layout) (c : Component) (k : ℕ) → LayoutIn l → k < count (gridIn l) → countTo l c k + countOf l c k ≤ c .width * c .height
+pub count-within : (l : Layout) (c : Component) (k : ℕ) → LayoutIn l → k < sliceCount (gridIn l) → countTo l c k + countOf l c k ≤ c .width * c .height
 count-within l c k h b =
     let n : ℕ = l .«depth_ho» + 3 * l .depth in
     let e : bandCount l ≡ suc n = omega arith in

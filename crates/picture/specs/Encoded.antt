@@ -40,7 +40,7 @@ answerTold s m p out work =
     elim (eqb (refusalOf s m p work) 0) [
       | true ↦ elim (tooLong (length out) (lengthOf s a)) [
         | true ↦ 14 ∷ []
-        | false ↦ 0 ∷ lengthOf s a ∷ cutCount (s .kind) a ∷ scalerIn (a .parameters .slice) (s .«slice_size_scaler») ∷ []
+        | false ↦ 0 ∷ lengthOf s a ∷ cutCount (s .kind) a ∷ scalerIn (a .parameters .sliceParameters) (s .«slice_size_scaler») ∷ []
       ]
       | false ↦ refusalOf s m p work ∷ []
     ]
@@ -53,7 +53,7 @@ pub record Encodes (s : Settings) (m : List ℕ) (p : Three (List ℕ)) (out : L
   pub output : out′ ≡ outcomeOf s m p out work .output
   pub work-left : work′ ≡ outcomeOf s m p out work .work
   -- an accepted call: demand 3 of the bytes that the answer counts, as they now stand in the output
-  pub demand : (c : Coded) → r ≡ Accepted c → Demand3 s m p (take (c .length) out′)
+  pub demand : (c : Coded) → r ≡ Accepted c → Demand3 s m p (take (c .written) out′)
 
 -- ---- before the work slice is cleared
 abbrev pub answerBy : Settings → Plan → Bool → Answer

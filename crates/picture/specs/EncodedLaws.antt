@@ -82,7 +82,7 @@ module _ (s : Settings) (m : List ℕ) (p : Three (List ℕ)) (out : List ℕ) (
       ≡ elim b [
         | true ↦ elim t [
           | true ↦ 14 ∷ []
-          | false ↦ 0 ∷ lengthOf s a ∷ cutCount (s .kind) a ∷ scalerIn (a .parameters .slice) (s .«slice_size_scaler») ∷ []
+          | false ↦ 0 ∷ lengthOf s a ∷ cutCount (s .kind) a ∷ scalerIn (a .parameters .sliceParameters) (s .«slice_size_scaler») ∷ []
         ]
         | false ↦ refusalOf s m p work ∷ []
       ]

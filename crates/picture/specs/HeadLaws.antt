@@ -12,7 +12,7 @@ use lib.Dec.{T, eqb, leb}
 use lib.ListN.{length, take, drop, getD, length-append, length-replicate}
 use lib.Seq.{take-suc}
 use Rattle.laws.specs.Laid.{laid-is}
-use Rattle.codewords.specs.Bit.{Bits, lit, zeros}
+use Rattle.codewords.specs.Bit.{Bits, lit, zeroBits}
 use Rattle.codewords.specs.BitLaws.{length-lit}
 use Rattle.codewords.specs.Bytes.{toBytes}
 use Rattle.codewords.specs.ByteLaws.{length-toBytes}
@@ -23,7 +23,7 @@ use Rattle.codewords.specs.Code.{codeU}
 use Rattle.codewords.specs.CodeLaws.{length-codeU, leading-log2}
 use Rattle.unit.specs.declared.Settings.{Settings}
 use Rattle.unit.specs.declared.PictureKind.{PictureKind}
-use Rattle.unit.specs.Slices.{count}
+use Rattle.unit.specs.Slices.{sliceCount}
 use Rattle.unit.specs.Parameters.{SliceParameters, flagged, extendedBits, sliceParameterBits, codesU, matrixBits, parameterBits, parameterBytes, Parameters, fill}
 use Rattle.unit.specs.Matrix.{carriedMatrix}
 use Rattle.unit.specs.LowDelay.{numeratorBy, numerator}
@@ -47,7 +47,7 @@ infoOf k n prev = lit 32 0x42424344 ++ (lit 8 (parseCode k) ++ (lit 32 n ++ lit 
 
 -- the numerator where the parameters that are taken off the target have numerator n
 abbrev pub numeratorAfter : Settings → List ℕ → ℕ → ℕ
-numeratorAfter s m n = numeratorBy (majorVersion s) (targetOf (s .rate)) (count (gridOf s)) (lowParameters s m) n
+numeratorAfter s m n = numeratorBy (majorVersion s) (targetOf (s .rate)) (sliceCount (gridOf s)) (lowParameters s m) n
 
 -- ---- the major version, by its three flags
 version-three : (a b c : Bool) (k : PictureKind) → (a ≡ true) ⊎ ((b ≡ true) ⊎ (c ≡ true)) → 3 ≡ versionBy (a || (b || c)) k
@@ -222,9 +222,9 @@ module _ {o o₁ : List ℕ} {w₁ : BitWriter} (h b : Bits) (e : length h ≡ 1
 
     pub head-bytes : o₂ ≡ toBytes ((h ++ b) ++ fill (length b)) ++ drop (w₂ .at) o
     head-bytes =
-        let bits : Bits = (h ++ b) ++ zeros (padding w₁) in
+        let bits : Bits = (h ++ b) ++ zeroBits (padding w₁) in
         let k : 0 + length (toBytes bits) ≡ w₂ .at =
-        omega (arith, length-toBytes bits, length-append (h ++ b) (zeros (padding w₁)), length-append h b, length-replicate (padding w₁) false, fills, head-end) in
+        omega (arith, length-toBytes bits, length-append (h ++ b) (zeroBits (padding w₁)), length-append h b, length-replicate (padding w₁) false, fills, head-end) in
         bytes-laid start-sound (wrote-then start-sound p (q .wrote)) refl (omega (arith, q .whole))
         ∙ laid-is o 0 (toBytes bits) (omega (arith, k, head-end, fits))
-        ∙ ap₂ (λ (j z : ℕ). toBytes ((h ++ b) ++ zeros z) ++ drop j o) k fills
+        ∙ ap₂ (λ (j z : ℕ). toBytes ((h ++ b) ++ zeroBits z) ++ drop j o) k fills

@@ -99,8 +99,8 @@ abbrev pub wordsTo : List ℤ → Picture → Terms → ℕ → List ℤ
 wordsTo w p t n = chunks (wordsIn w p t) n
 
 -- how many numbers slice k has
-abbrev pub sliceCount : Picture → ℕ → ℕ
-sliceCount p k = countOf (p .layout) (p .y) k + (countOf (p .layout) (p .c1) k + countOf (p .layout) (p .c2) k)
+abbrev pub sliceNumberCount : Picture → ℕ → ℕ
+sliceNumberCount p k = countOf (p .layout) (p .y) k + (countOf (p .layout) (p .c1) k + countOf (p .layout) (p .c2) k)
 
 -- the bytes that the components need, by their bits
 abbrev pub needsBy : ℕ → ℕ → ℕ → Needs

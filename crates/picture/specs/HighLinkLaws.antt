@@ -19,7 +19,7 @@ use Rattle.unit.specs.declared.RateControl.the-variants.{Lossless, FixedQuantIn
 use Rattle.unit.specs.declared.Answer.the-variants.{Accepted, Refused}
 use Rattle.unit.specs.Three.{Three}
 use Rattle.unit.specs.Sizes.{lumaSize}
-use Rattle.unit.specs.Slices.{Grid, count}
+use Rattle.unit.specs.Slices.{Grid, sliceCount}
 use Rattle.unit.specs.Matrix.{matrixValues}
 use Rattle.unit.specs.Refusal.{paddedArea}
 use Rattle.unit.specs.Parameters.{parameterBytes}
@@ -50,7 +50,7 @@ three : {A : Type 0} {t u : Three A} → t .y ≡ u .y → t .c1 ≡ u .c1 → t
 three p q r = λ i. record { y = p i; c1 = q i; c2 = r i }
 
 index-by : (g : Grid) (v : List ℕ) (b : Three (List Band)) (x : ℕ) (r : RateControl) (c n k : ℕ)
-    → indexBy r x c (shareOf n (count g) k) (highNumbers g v b x k) ≡ highIndex g v b x r c n k
+    → indexBy r x c (shareOf n (sliceCount g) k) (highNumbers g v b x k) ≡ highIndex g v b x r c n k
 unfolding indexBy highIndex
 index-by g v b x Lossless c n k = refl
 index-by g v b x (FixedQuantIndex q) c n k = refl
@@ -61,7 +61,7 @@ unfolding highPlan
 plan-by g v b x c k q = refl
 
 -- a picture with as many slices as the grid, and with its numbers
-plan-of : (w : List ℤ) (p : Picture) (t : Terms) (g : Grid) (v : List ℕ) (b : Three (List Band)) (k : ℕ) → slicesIn p ≡ count g
+plan-of : (w : List ℤ) (p : Picture) (t : Terms) (g : Grid) (v : List ℕ) (b : Three (List Band)) (k : ℕ) → slicesIn p ≡ sliceCount g
     → numbersIn w p k ≡ highNumbers g v b (t .prefix) k
     → planIn w p t k ≡ highPlan g v b (t .prefix) (t .scaler) k (highIndex g v b (t .prefix) (t .rate) (t .scaler) (t .bytes) k)
 unfolding planIn indexIn
@@ -144,11 +144,11 @@ module _ (w : List ℤ) (p : Picture) (s : Settings) (m : List ℕ) where
       ∙ sym (length-parts s (codePlan w p s m (r .scaler)))
 
   coded-is : (c n cut : ℕ) → s .kind ≡ HighQuality → n ≡ lengthOf s (codePlan w p s m c) → cut ≡ 0
-      → record { length = n; «cut_slices» = cut; «slice_size_scaler» = c } ≡ codedOf s (codePlan w p s m c)
+      → record { written = n; «cut_slices» = cut; «slice_size_scaler» = c } ≡ codedOf s (codePlan w p s m c)
   unfolding codedOf cutCount
   coded-is c n cut e f g =
-      ap₂ (λ (n k : ℕ). record { length = n; «cut_slices» = k; «slice_size_scaler» = c }) f g
-      ∙ ap (λ (k : PictureKind). record { length = lengthOf s (codePlan w p s m c); «cut_slices» = cutCount k (codePlan w p s m c); «slice_size_scaler» = c }) (sym e)
+      ap₂ (λ (n k : ℕ). record { written = n; «cut_slices» = k; «slice_size_scaler» = c }) f g
+      ∙ ap (λ (k : PictureKind). record { written = lengthOf s (codePlan w p s m c); «cut_slices» = cutCount k (codePlan w p s m c); «slice_size_scaler» = c }) (sym e)
 
 -- ---- answer and output
 module _ {w : List ℤ} {p : Picture} {s : Settings} {m : List ℕ} (k : Coding s m HighQuality p w) {r : Settled} (z : Settles w p s m r) (out : List ℕ) where
@@ -171,11 +171,11 @@ module _ {w : List ℤ} {p : Picture} {s : Settings} {m : List ℕ} (k : Coding 
   pub high-written : tooLong (length out) (r .end) ≡ false → (t : Terms) (n at end cut : ℕ) (o o′ : List ℕ) → t ≡ termsOf s m (r .scaler) → n ≡ r .end
       → at ≡ 17 + parameterBytes (majorVersion s) (highParameters s m (r .scaler)) → o ≡ toBytes (headBits s n (highParameters s m (r .scaler))) ++ drop at out
       → Lays o at (highRuns w p t (slicesIn p)) o′ end → cut ≡ 0
-      → CodesAny s m w out o′ (Accepted (record { length = n; «cut_slices» = cut; «slice_size_scaler» = r .scaler }))
+      → CodesAny s m w out o′ (Accepted (record { written = n; «cut_slices» = cut; «slice_size_scaler» = r .scaler }))
   high-written e t n at end cut o o′ et en ea eo l ec =
       let c = r .scaler in
       let f : n ≡ lengthOf s (codePlan w p s m c) = en ∙ length-is w p s m r z in
-      any-plan o′ (codes-written s (codePlan w p s m c) out n at end o o′ (record { length = n; «cut_slices» = cut; «slice_size_scaler» = c }) (test-is false e) f ea eo
+      any-plan o′ (codes-written s (codePlan w p s m c) out n at end o o′ (record { written = n; «cut_slices» = cut; «slice_size_scaler» = c }) (test-is false e) f ea eo
       (subst (λ (b : List ℕ). Lays o at b o′ end) (ap (λ (t : Terms). highRuns w p t (slicesIn p)) et ∙ runs-are w p s m c) l) (coded-is w p s m c n cut (k .same) f ec))
 
 -- ---- what the calls ask

@@ -10,7 +10,7 @@ use lib.ListN.{length, take, drop, length-append, length-replicate, replicate-ap
 use lib.Seq.{drop-drop}
 use Rattle.laws.specs.Chunks.{chunks, chunks-none, chunks-more}
 use Rattle.laws.specs.Laid.{Lays, lays-start, lays-on}
-use Rattle.codewords.specs.Bit.{Bits, lit, ones, zeros}
+use Rattle.codewords.specs.Bit.{Bits, lit, oneBits, zeroBits}
 use Rattle.codewords.specs.BitLaws.{length-lit, lit-zeros}
 use Rattle.codewords.specs.Bytes.{toBytes}
 use Rattle.codewords.specs.ByteLaws.{length-toBytes}
@@ -60,14 +60,14 @@ module _ {c : ℕ} {xs : List ℤ} {b n : ℕ} (h : Counted c xs b n) where
   kept-held = rw (bits-are, scalers-are) (cost-held c xs (h .some))
 
   -- as the code puts it together
-  component-parts : componentBits c xs ≡ lit 8 n ++ (codes xs ++ ones (fillOf c n b))
+  component-parts : componentBits c xs ≡ lit 8 n ++ (codes xs ++ oneBits (fillOf c n b))
   unfolding componentBits
   component-parts =
-      sym (ap₂ (λ (n b : ℕ). lit 8 n ++ (codes xs ++ ones (8 * (n * c) - b))) scalers-are bits-are
-      ∙ ap (λ (ys : List ℤ). lit 8 (scalersOf c xs) ++ (codes ys ++ ones (8 * (scalersOf c xs * c) - trimmedCost xs))) (sym (h .trim)))
+      sym (ap₂ (λ (n b : ℕ). lit 8 n ++ (codes xs ++ oneBits (8 * (n * c) - b))) scalers-are bits-are
+      ∙ ap (λ (ys : List ℤ). lit 8 (scalersOf c xs) ++ (codes ys ++ oneBits (8 * (scalersOf c xs * c) - trimmedCost xs))) (sym (h .trim)))
 
   module _ {o : List ℕ} {w : BitWriter} (room : Room o w (length (componentBits c xs))) where
-    parts-room : Room o w (length (lit 8 n ++ (codes xs ++ ones (fillOf c n b))))
+    parts-room : Room o w (length (lit 8 n ++ (codes xs ++ oneBits (fillOf c n b))))
     parts-room = rw component-parts at room
 
     -- room for the byte, the numbers and the ones
@@ -75,38 +75,38 @@ module _ {c : ℕ} {xs : List ℤ} {b n : ℕ} (h : Counted c xs b n) where
     byte-room = room-less 8 room (omega (arith, length-component c xs (h .some)))
 
     module _ {o₁ : List ℕ} {w₁ : BitWriter} (a : Wrote o w (lit 8 n) o₁ w₁) where
-      behind-room : Room o₁ w₁ (length (codes xs ++ ones (fillOf c n b)))
-      behind-room = room-rest (lit 8 n) (codes xs ++ ones (fillOf c n b)) parts-room a
+      behind-room : Room o₁ w₁ (length (codes xs ++ oneBits (fillOf c n b)))
+      behind-room = room-rest (lit 8 n) (codes xs ++ oneBits (fillOf c n b)) parts-room a
 
       pub kept-room : Room o₁ w₁ (bitsOf xs)
-      kept-room = room-first (codes xs) (ones (fillOf c n b)) behind-room
+      kept-room = room-first (codes xs) (oneBits (fillOf c n b)) behind-room
 
       module _ {o₂ : List ℕ} {w₂ : BitWriter} (d : Wrote o₁ w₁ (codes xs) o₂ w₂) where
         pub ones-room : Room o₂ w₂ (fillOf c n b)
         ones-room =
             let m : ℕ = fillOf c n b in
-            rw (length-replicate m true) at (room-rest (codes xs) (ones m) behind-room d)
+            rw (length-replicate m true) at (room-rest (codes xs) (oneBits m) behind-room d)
 
-        pub component-wrote : {o₃ : List ℕ} {w₃ : BitWriter} → Wrote o₂ w₂ (ones (fillOf c n b)) o₃ w₃ → Wrote o w (componentBits c xs) o₃ w₃
+        pub component-wrote : {o₃ : List ℕ} {w₃ : BitWriter} → Wrote o₂ w₂ (oneBits (fillOf c n b)) o₃ w₃ → Wrote o w (componentBits c xs) o₃ w₃
         component-wrote f = rw component-parts (wrote-then (room .sound) a (wrote-then (a .sound) d f))
 
 -- ---- the prefix
 -- one byte more
-prefix-more : (i : ℕ) → zeros (8 * (i + 1)) ≡ zeros (8 * i) ++ lit 8 0
+prefix-more : (i : ℕ) → zeroBits (8 * (i + 1)) ≡ zeroBits (8 * i) ++ lit 8 0
 prefix-more i =
     let e : 8 * (i + 1) ≡ 8 * i + 8 = omega arith in
-    ap zeros e ∙ sym (replicate-append-replicate (8 * i) 8 false) ∙ ap (λ (s : Bits). zeros (8 * i) ++ s) (sym (lit-zeros 8))
+    ap zeroBits e ∙ sym (replicate-append-replicate (8 * i) 8 false) ∙ ap (λ (s : Bits). zeroBits (8 * i) ++ s) (sym (lit-zeros 8))
 
-pub prefix-turn : {o o′ o″ : List ℕ} {w w′ w″ : BitWriter} (i : ℕ) → Sound w → Wrote o w (zeros (8 * i)) o′ w′ → Wrote o′ w′ (lit 8 0) o″ w″
-    → Wrote o w (zeros (8 * (i + 1))) o″ w″
+pub prefix-turn : {o o′ o″ : List ℕ} {w w′ w″ : BitWriter} (i : ℕ) → Sound w → Wrote o w (zeroBits (8 * i)) o′ w′ → Wrote o′ w′ (lit 8 0) o″ w″
+    → Wrote o w (zeroBits (8 * (i + 1))) o″ w″
 prefix-turn i s a b = rw (prefix-more i) (wrote-then s a b)
 
 -- room for it
-pub prefix-next : {o o′ : List ℕ} {w w′ : BitWriter} (n i : ℕ) → i < n → Room o w (8 * n) → Wrote o w (zeros (8 * i)) o′ w′ → Room o′ w′ 8
+pub prefix-next : {o o′ : List ℕ} {w w′ : BitWriter} (n i : ℕ) → i < n → Room o w (8 * n) → Wrote o w (zeroBits (8 * i)) o′ w′ → Room o′ w′ 8
 prefix-next n i h r a = room-after 8 r a (omega (arith, length-replicate (8 * i) false))
 
 -- all n
-pub prefix-all : {o o′ : List ℕ} {w w′ : BitWriter} (i n : ℕ) → i ≡ n → Wrote o w (zeros (8 * i)) o′ w′ → Wrote o w (zeros (8 * n)) o′ w′
+pub prefix-all : {o o′ : List ℕ} {w w′ : BitWriter} (i n : ℕ) → i ≡ n → Wrote o w (zeroBits (8 * i)) o′ w′ → Wrote o w (zeroBits (8 * n)) o′ w′
 prefix-all i n e a = rw e at a
 
 -- ---- the three components
@@ -136,24 +136,24 @@ startAt at = record { at = at; pending = 0; «pending_bits» = 0 }
 start-sound : (at : ℕ) → Sound (startAt at)
 start-sound at = record { part = omega arith; small = omega arith }
 
-high-parts : (p c q : ℕ) (z : Three (List ℤ)) → highBits p c q z ≡ zeros (8 * p) ++ (lit 8 q ++ threeBits c z)
+high-parts : (p c q : ℕ) (z : Three (List ℤ)) → highBits p c q z ≡ zeroBits (8 * p) ++ (lit 8 q ++ threeBits c z)
 unfolding highBits
 high-parts p c q z = refl
 
 -- prefix p, scaler c, index q and numbers z, from place at on
 module _ (p c q : ℕ) (z : Three (List ℤ)) {o : List ℕ} (at : ℕ) (some : 1 ≤ c) (fits : at + length (toBytes (highBits p c q z)) ≤ length o) where
-  slice-room : Room o (startAt at) (length (zeros (8 * p) ++ (lit 8 q ++ threeBits c z)))
+  slice-room : Room o (startAt at) (length (zeroBits (8 * p) ++ (lit 8 q ++ threeBits c z)))
   slice-room =
       let bits : Bits = highBits p c q z in
       let all : Room o (startAt at) (length bits) = record { sound = start-sound at; room = omega (arith, length-toBytes bits, length-high p c q z some) } in
       rw (high-parts p c q z) at all
 
   pub prefix-room : Room o (startAt at) (8 * p)
-  prefix-room = rw (length-replicate (8 * p) false) at (room-first (zeros (8 * p)) (lit 8 q ++ threeBits c z) slice-room)
+  prefix-room = rw (length-replicate (8 * p) false) at (room-first (zeroBits (8 * p)) (lit 8 q ++ threeBits c z) slice-room)
 
-  module _ {o₁ : List ℕ} {w₁ : BitWriter} (a : Wrote o (startAt at) (zeros (8 * p)) o₁ w₁) where
+  module _ {o₁ : List ℕ} {w₁ : BitWriter} (a : Wrote o (startAt at) (zeroBits (8 * p)) o₁ w₁) where
     index-behind : Room o₁ w₁ (length (lit 8 q ++ threeBits c z))
-    index-behind = room-rest (zeros (8 * p)) (lit 8 q ++ threeBits c z) slice-room a
+    index-behind = room-rest (zeroBits (8 * p)) (lit 8 q ++ threeBits c z) slice-room a
 
     pub index-room : Room o₁ w₁ 8
     index-room = rw (length-lit 8 q) at (room-first (lit 8 q) (threeBits c z) index-behind)
@@ -228,7 +228,7 @@ module _ (w : List ℤ) (i q : ℕ) (z : Three (List ℤ)) (e : wordsAt w i (len
       let y = ap (componentBits c) (run-stands w i (z .y) (b .0) y-stands) ∙ component-trimmed c (z .y) in
       let c1 = ap (componentBits c) (run-stands w (i + length (packed 0 (z .y))) (z .c1) (b .1 .0) (colours-stand .0)) ∙ component-trimmed c (z .c1) in
       let c2 = ap (componentBits c) (run-stands w (i + length (packed 0 (z .y)) + length (packed 0 (z .c1))) (z .c2) (b .1 .1) (colours-stand .1)) ∙ component-trimmed c (z .c2) in
-      ap₂ (λ (a b : Bits). zeros (8 * p) ++ (lit 8 q ++ (a ++ b))) y (ap₂ _++_ c1 c2)
+      ap₂ (λ (a b : Bits). zeroBits (8 * p) ++ (lit 8 q ++ (a ++ b))) y (ap₂ _++_ c1 c2)
 
 -- slice k's numbers are their own words
 numbers-below : {p : Picture} {t : Terms} {w : List ℤ} {k q : ℕ} → PlanIn p t w → k < slicesIn p → q ≤ 255

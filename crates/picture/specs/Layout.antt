@@ -8,7 +8,7 @@ use lib.IntN.{ℤ}
 use lib.ListN.{length, getD}
 use Rattle.quantiser.specs.Quant.{quantFactor, quantOffset, bandIndex}
 use Rattle.unit.specs.Sizes.{Size, area}
-use Rattle.unit.specs.Slices.{Grid, count, top, bottom, left, right}
+use Rattle.unit.specs.Slices.{Grid, sliceCount, top, bottom, left, right}
 use Rattle.picture.specs.declared.strip.Strip.{Strip}
 use Rattle.picture.specs.declared.layout.Component.{Component}
 use Rattle.picture.specs.declared.layout.Layout.{Layout}
@@ -105,7 +105,7 @@ pub record WindowIn (l : Layout) (c : Component) (n k : ℕ) : Type 0 where
   pub layout : LayoutIn l
   pub first : ComponentIn c
   pub band : n < bandCount l
-  pub slice : k < count (gridIn l)
+  pub slice : k < sliceCount (gridIn l)
 
 pub record StripIn (l : Layout) (c second : Component) (n from k q : ℕ) : Type 0 where
   pub layout : LayoutIn l
@@ -113,7 +113,7 @@ pub record StripIn (l : Layout) (c second : Component) (n from k q : ℕ) : Type
   pub other : ComponentIn second
   pub band : n < bandCount l
   pub start : from ≤ 2 ^ 32
-  pub slice : k < count (gridIn l)
+  pub slice : k < sliceCount (gridIn l)
   pub index : q ≤ 255
 
 -- components that lie in the work slice w: rebuilt planes in its first a numbers, coefficients behind them up to e; the two are alike
@@ -121,7 +121,7 @@ pub record RunIn (l : Layout) (c second : Component) (a e k q : ℕ) (w : List �
   pub layout : LayoutIn l
   pub first : ComponentIn c
   pub other : ComponentIn second
-  pub slice : k < count (gridIn l)
+  pub slice : k < sliceCount (gridIn l)
   pub index : q ≤ 255
   pub small : Small a e w
   pub coefs : (a ≤ c .coefs) × (c .coefs + c .width * c .height ≤ e)

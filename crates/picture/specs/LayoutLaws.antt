@@ -16,7 +16,7 @@ use Rattle.laws.specs.Chunks.{chunks}
 use Rattle.quantiser.specs.Quant.{quantFactor, quantOffset, bandIndex}
 use Rattle.codewords.specs.Writer.{Sound, Room}
 use Rattle.unit.specs.Sizes.{Size, area}
-use Rattle.unit.specs.Slices.{bound, count, partSize}
+use Rattle.unit.specs.Slices.{bound, sliceCount, partSize}
 use Rattle.unit.specs.SubbandLaws.{half, quarter}
 use Rattle.unit.specs.SliceLaws.{bound-rises, bound-most, partSize-most}
 use Rattle.unit.specs.TrimLaws.{small-append}
@@ -155,7 +155,7 @@ module _ (l : Layout) (c : Component) where
       omega (arith, start-next n, start-rises m (suc n), ap (startOf l c) e, deep-start (l .depth) (omega arith), f)
 
 -- ---- slices
-module _ {l : Layout} {k : ℕ} (i : LayoutIn l) (h : k < count (gridIn l)) where
+module _ {l : Layout} {k : ℕ} (i : LayoutIn l) (h : k < sliceCount (gridIn l)) where
   pub row-of : k / l .across < l .down
   row-of = div-lt-iff-lt-mul {k = l .across} {x = k} {y = l .down} (i .across .0) .1 h
 

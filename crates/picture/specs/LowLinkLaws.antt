@@ -18,7 +18,7 @@ use Rattle.quantiser.specs.Quant.{bandIndex}
 use Rattle.wavelet.specs.Planes.{Band, bandAt}
 use Rattle.unit.specs.Three.{Three}
 use Rattle.unit.specs.Sizes.{Size}
-use Rattle.unit.specs.Slices.{Grid, count}
+use Rattle.unit.specs.Slices.{Grid, sliceCount}
 use Rattle.unit.specs.SliceLaws.{bound-rises}
 use Rattle.unit.specs.Trim.{trimmedCost}
 use Rattle.unit.specs.Elect.{elect}
@@ -222,16 +222,16 @@ module _ (p : Picture) (m : List ℕ) (b : Three (List Band)) (h : Linked p m b)
         ap₂ (λ (y c : List ℤ). lowBits n q (keptRuns (roomOf n) y c .luma) (keptRuns (roomOf n) y c .colour)) (luma-is q) (colour-is q)
 
     module _ (n : ℕ) where
-      pub index-is : lowIndexIn p n w k ≡ lowIndex g m b (sliceBytes n (count g) k) r k
+      pub index-is : lowIndexIn p n w k ≡ lowIndex g m b (sliceBytes n (sliceCount g) k) r k
       unfolding lowIndexIn lowIndex
       index-is = ap (elect 0 127) (fits-are (roomOf (bytesAt p n k)))
 
-      pub slice-is : lowBitsIn p n w k ≡ lowPlan g m b (sliceBytes n (count g) k) r k (lowIndex g m b (sliceBytes n (count g) k) r k) .bits
+      pub slice-is : lowBitsIn p n w k ≡ lowPlan g m b (sliceBytes n (sliceCount g) k) r k (lowIndex g m b (sliceBytes n (sliceCount g) k) r k) .bits
       slice-is =
           bits-are (bytesAt p n k) (lowIndexIn p n w k)
-          ∙ ap (λ (q : ℕ). lowPlan g m b (sliceBytes n (count g) k) r k q .bits) index-is
+          ∙ ap (λ (q : ℕ). lowPlan g m b (sliceBytes n (sliceCount g) k) r k q .bits) index-is
 
-      pub follows-next : Follows p b (lowLeft g m b r k (lowIndex g m b (sliceBytes n (count g) k) r k)) (lowWorkIn p n w k)
+      pub follows-next : Follows p b (lowLeft g m b r k (lowIndex g m b (sliceBytes n (sliceCount g) k) r k)) (lowWorkIn p n w k)
       follows-next = rw (← index-is) (follows-rebuilt (lowIndexIn p n w k))
 
   -- ---- the start
@@ -308,25 +308,25 @@ unfolding numerator
 numerator-most version target slices t n a b = omega arith
 
 abbrev codedBy : ℕ → ℕ → ℕ → Coded
-codedBy l c z = record { length = l; «cut_slices» = c; «slice_size_scaler» = z }
+codedBy l c z = record { written = l; «cut_slices» = c; «slice_size_scaler» = z }
 
 module _ {s : Settings} {m : List ℕ} (called : Called s m) (low : s .kind ≡ LowDelay) where
   predicted-in : pictureOf s m .layout .predicted ≡ true
   unfolding pictureOf layoutOf
   predicted-in = ap isLow low
 
-  slices-some : 1 ≤ count (gridOf s)
+  slices-some : 1 ≤ sliceCount (gridOf s)
   slices-some = mul-pos {m = s .«slices_y»} {n = s .«slices_x»} (called .down .some) (called .across .some)
 
-  numerator-some : count (gridOf s) ≤ numeratorOf s m
+  numerator-some : sliceCount (gridOf s) ≤ numeratorOf s m
   unfolding numeratorOf
-  numerator-some = numerator-least (majorVersion s) (targetOf (s .rate)) (count (gridOf s)) (lowParameters s m)
+  numerator-some = numerator-least (majorVersion s) (targetOf (s .rate)) (sliceCount (gridOf s)) (lowParameters s m)
 
   pub numerator-few : numeratorOf s m ≤ 1073741824
   unfolding numeratorOf
   numerator-few =
       let f : RateFits LowDelay (s .rate) = subst (λ (k : PictureKind). RateFits k (s .rate)) low (called .rate) in
-      numerator-most (majorVersion s) (targetOf (s .rate)) (count (gridOf s)) (lowParameters s m) 1073741824 (target-few (s .rate) f) (omega (arith, count-few called))
+      numerator-most (majorVersion s) (targetOf (s .rate)) (sliceCount (gridOf s)) (lowParameters s m) 1073741824 (target-few (s .rate) f) (omega (arith, count-few called))
 
   pub low-in : (w : List ℤ) → Small (frontOf s) (frontOf s + frontOf s) w → LowIn (pictureOf s m) (numeratorOf s m) w
   low-in w h = record {
@@ -358,8 +358,8 @@ module _ {s : Settings} {m : List ℕ} (called : Called s m) (low : s .kind ≡ 
     parameters-are = ap (λ (a : Plan). a .parameters) (sym plan-is)
 
     -- in low delay the setting's scaler
-    scaler-is : s .«slice_size_scaler» ≡ scalerIn (planOf s m pl .parameters .slice) (s .«slice_size_scaler»)
-    scaler-is = ap (λ (a : Plan). scalerIn (a .parameters .slice) (s .«slice_size_scaler»)) (sym plan-is)
+    scaler-is : s .«slice_size_scaler» ≡ scalerIn (planOf s m pl .parameters .sliceParameters) (s .«slice_size_scaler»)
+    scaler-is = ap (λ (a : Plan). scalerIn (a .parameters .sliceParameters) (s .«slice_size_scaler»)) (sym plan-is)
 
     coded-is : {l c : ℕ} → l ≡ lengthOf s (planOf s m pl) → c ≡ cutCount (s .kind) (planOf s m pl) → codedBy l c (s .«slice_size_scaler») ≡ codedOf s (planOf s m pl)
     unfolding codedOf
@@ -374,7 +374,7 @@ module _ {s : Settings} {m : List ℕ} (called : Called s m) (low : s .kind ≡ 
         let g = gridOf s in
         let o : ℕ = 17 + parameterBytes (majorVersion s) (lowParameters s m n) in
         ap (lengthOf s) plan-is ∙ length-is s (planBy s m LowDelay bands)
-        ∙ ap (λ (k : ℕ). o + k) (ap total (low-bytes g (matrixValues s m) bands n zeroPlanes 0 (count g) slices-some numerator-some) ∙ bytes-all n (count g) slices-some)
+        ∙ ap (λ (k : ℕ). o + k) (ap total (low-bytes g (matrixValues s m) bands n zeroPlanes 0 (sliceCount g) slices-some numerator-some) ∙ bytes-all n (sliceCount g) slices-some)
 
     module _ (w : List ℤ) (an : Analysed s pl w) where
       front-room : pictureOf s m .front ≤ length w
@@ -391,14 +391,14 @@ module _ {s : Settings} {m : List ℕ} (called : Called s m) (low : s .kind ≡ 
       runs-are : lowRuns (pictureOf s m) (numeratorOf s m) w (slicesIn (pictureOf s m)) ≡ joined (sliceRuns (planOf s m pl .slices))
       runs-are =
           low-runs (pictureOf s m) (matrixValues s m) bands linked (numeratorOf s m) w start
-          ∙ ap (λ (g : Grid). joined (sliceRuns (lowSlices g (matrixValues s m) bands (numeratorOf s m) zeroPlanes 0 (count g)))) (grid-is s m)
+          ∙ ap (λ (g : Grid). joined (sliceRuns (lowSlices g (matrixValues s m) bands (numeratorOf s m) zeroPlanes 0 (sliceCount g)))) (grid-is s m)
           ∙ ap (λ (a : Plan). joined (sliceRuns (a .slices))) (sym plan-is)
 
       cuts-are : cutsIn (pictureOf s m) (numeratorOf s m) w (slicesIn (pictureOf s m)) ≡ cutCount (s .kind) (planOf s m pl)
       unfolding cutCount
       cuts-are =
           low-cuts (pictureOf s m) (matrixValues s m) bands linked (numeratorOf s m) w start
-          ∙ ap (λ (g : Grid). lastIndices (lowSlices g (matrixValues s m) bands (numeratorOf s m) zeroPlanes 0 (count g))) (grid-is s m)
+          ∙ ap (λ (g : Grid). lastIndices (lowSlices g (matrixValues s m) bands (numeratorOf s m) zeroPlanes 0 (sliceCount g))) (grid-is s m)
           ∙ sym (ap₂ cutCount low plan-is)
 
 -- what is worked out before the output is written: numerator n, d slices, and the unit's length l
@@ -436,7 +436,7 @@ module _ {s : Settings} {m : List ℕ} {p : Picture} {w : List ℤ} {n d l : ℕ
   -- the head at the output's start, and the slices behind it
   pub low-written : (out o o′ : List ℕ) (at r c : ℕ) → tooLong (length out) l ≡ false → at ≡ 17 + parameterBytes (majorVersion s) (parametersBy s m (lowDelay n d))
       → o ≡ toBytes (headBits s l (parametersBy s m (lowDelay n d))) ++ drop at out → Lays o at (lowRuns p n w (slicesIn p)) o′ r → c ≡ cutsIn p n w (slicesIn p)
-      → CodesAny s m w out o′ (Accepted (record { length = l; «cut_slices» = c; «slice_size_scaler» = s .«slice_size_scaler» }))
+      → CodesAny s m w out o′ (Accepted (record { written = l; «cut_slices» = c; «slice_size_scaler» = s .«slice_size_scaler» }))
   low-written out o o′ at r c e ea eo lays ec = record {
     codes = λ pl an.
         let et = same-parameters ∙ parameters-are called low pl in

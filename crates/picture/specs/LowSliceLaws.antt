@@ -13,7 +13,7 @@ use lib.IntN.{ℤ}
 use lib.ListN.{length, take, length-append, length-replicate}
 use Rattle.laws.specs.Laid.{Lays, lays-start, lays-on}
 use Rattle.laws.specs.Chunks.{chunks}
-use Rattle.codewords.specs.Bit.{Bits, lit, ones}
+use Rattle.codewords.specs.Bit.{Bits, lit, oneBits}
 use Rattle.codewords.specs.BitLaws.{length-lit}
 use Rattle.codewords.specs.Bytes.{toBytes}
 use Rattle.codewords.specs.ByteLaws.{length-toBytes}
@@ -150,9 +150,9 @@ module _ {o : List ℕ} (i n : ℕ) (a b c d : Bits) (long : length (a ++ (b ++ 
         parts-laid s f = flush-lays (writer-sound i) (wrote-then (writer-sound i) p (wrote-then (p .sound) q (wrote-then (q .sound) r s))) f refl
 
 parts-of : (n q m room : ℕ) (ys cs : List ℤ) (a b : ℕ) → m ≡ lengthBits n → room ≡ roomOf n → a ≡ bitsOf ys → b ≡ bitsOf cs
-    → lit 7 q ++ (lit m a ++ ((codes ys ++ codes cs) ++ ones (room - a - b))) ≡ lowBits n q ys cs
+    → lit 7 q ++ (lit m a ++ ((codes ys ++ codes cs) ++ oneBits (room - a - b))) ≡ lowBits n q ys cs
 unfolding lowBits
-parts-of n q m room ys cs a b em er ea eb = rw (em, er, ea, eb, append-assoc (codes ys) (codes cs) (ones (roomOf n - bitsOf ys - bitsOf cs)))
+parts-of n q m room ys cs a b em er ea eb = rw (em, er, ea, eb, append-assoc (codes ys) (codes cs) (oneBits (roomOf n - bitsOf ys - bitsOf cs)))
 
 module _ (v : List ℤ) (p : Picture) (n k q : ℕ) where
   slice-long : 1 ≤ n → length (lowBitsBy v p n k q) ≡ 8 * n
@@ -167,14 +167,14 @@ module _ (v : List ℤ) (p : Picture) (n k q : ℕ) where
 
   -- its parts as the code writes them
   pub slice-parts : (room m : ℕ) (r : code.Kept) → room ≡ roomOf n → m ≡ lengthBits n → KeptOf room (lumaIn v p k q) (colourIn v p k q) r
-      → lit 7 q ++ (lit m (r .«luma_bits») ++ (runBits v p k q r ++ ones (room - r .«luma_bits» - r .«colour_bits»))) ≡ lowBitsBy v p n k q
+      → lit 7 q ++ (lit m (r .«luma_bits») ++ (runBits v p k q r ++ oneBits (room - r .«luma_bits» - r .«colour_bits»))) ≡ lowBitsBy v p n k q
   unfolding lowBitsBy
   slice-parts room m r er em h =
       let ys = lumaIn v p k q in
       let cs = colourIn v p k q in
       let g : KeptOf (roomOf n) ys cs r = rw er at h in
       let u = keptRuns (roomOf n) ys cs in
-      ap₂ (λ (x z : List ℤ). lit 7 q ++ (lit m (r .«luma_bits») ++ ((codes x ++ codes z) ++ ones (room - r .«luma_bits» - r .«colour_bits»))))
+      ap₂ (λ (x z : List ℤ). lit 7 q ++ (lit m (r .«luma_bits») ++ ((codes x ++ codes z) ++ oneBits (room - r .«luma_bits» - r .«colour_bits»))))
       (sym (g .luma)) (sym (g .colour))
       ∙ parts-of n q m room (u .luma) (u .colour) (r .«luma_bits») (r .«colour_bits») em er (g .luma-bits) (g .colour-bits)
 
@@ -186,33 +186,33 @@ module _
   abbrev left : ℕ
   left = room - r .«luma_bits» - r .«colour_bits»
 
-  long : length (lit 7 q ++ (lit m (r .«luma_bits») ++ (runBits v p k q r ++ ones left))) ≡ 8 * n
+  long : length (lit 7 q ++ (lit m (r .«luma_bits») ++ (runBits v p k q r ++ oneBits left))) ≡ 8 * n
   long = ap length (slice-parts v p n k q room m r er em h) ∙ slice-long v p n k q some
 
   module _ {o₁ : List ℕ} {w₁ : BitWriter} (a : Wrote o (writerAt i) (lit 7 q) o₁ w₁) where
     pub length-room : Room o₁ w₁ m
     length-room =
         rw (length-lit m (r .«luma_bits»)) at
-        (second-room i n (lit 7 q) (lit m (r .«luma_bits»)) (runBits v p k q r) (ones left) long fits a)
+        (second-room i n (lit 7 q) (lit m (r .«luma_bits»)) (runBits v p k q r) (oneBits left) long fits a)
 
     module _ {o₂ : List ℕ} {w₂ : BitWriter} (b : Wrote o₁ w₁ (lit m (r .«luma_bits»)) o₂ w₂) where
       pub runs-room : Room o₂ w₂ (length (runBits v p k q r))
-      runs-room = third-room i n (lit 7 q) (lit m (r .«luma_bits»)) (runBits v p k q r) (ones left) long fits a b
+      runs-room = third-room i n (lit 7 q) (lit m (r .«luma_bits»)) (runBits v p k q r) (oneBits left) long fits a b
 
       module _ {o₃ : List ℕ} {w₃ : BitWriter} (c : Wrote o₂ w₂ (runBits v p k q r) o₃ w₃) where
         pub ones-room : Room o₃ w₃ left
         ones-room =
             rw (length-replicate left true) at
-            (fourth-room i n (lit 7 q) (lit m (r .«luma_bits»)) (runBits v p k q r) (ones left) long fits a b c)
+            (fourth-room i n (lit 7 q) (lit m (r .«luma_bits»)) (runBits v p k q r) (oneBits left) long fits a b c)
 
-        module _ {o₄ : List ℕ} {w₄ : BitWriter} (d : Wrote o₃ w₃ (ones left) o₄ w₄) where
+        module _ {o₄ : List ℕ} {w₄ : BitWriter} (d : Wrote o₃ w₃ (oneBits left) o₄ w₄) where
           pub flush-room : Room o₄ w₄ 0
           flush-room = room-after 0 ones-room d (omega (arith, length-replicate left true))
 
           pub slice-laid : {o₅ : List ℕ} {w₅ : BitWriter} → Flushes o₄ w₄ o₅ w₅ → Lays o i (toBytes (lowBitsBy v p n k q)) o₅ (w₅ .at)
           slice-laid f =
               rw (← slice-parts v p n k q room m r er em h)
-              (parts-laid i n (lit 7 q) (lit m (r .«luma_bits»)) (runBits v p k q r) (ones left) long fits a b c d f)
+              (parts-laid i n (lit 7 q) (lit m (r .«luma_bits»)) (runBits v p k q r) (oneBits left) long fits a b c d f)
 
 -- ---- a slice's index, and the work slice behind it
 bit-small : (b : Bool) → cond b 1 0 ≤ 1

@@ -39,7 +39,7 @@ use Rattle.picture.specs.UnpackedLaws.{packed-few}
 use Rattle.picture.specs.PackedLaws.{laid-behind, run-alike}
 use Rattle.picture.specs.Picture.{slicesIn, runOf, numbersIn, Arranged, SliceIn}
 use Rattle.picture.specs.PictureLaws.{run-y, run-c1, run-c2}
-use Rattle.picture.specs.High.{indexBy, indexIn, planBy, planIn, plansIn, highRuns, choiceBy, choiceIn, sliceWords, wordsIn, wordsTo, sliceCount, noteRun, noteIn, isTarget, FewBits, RunAt, ChoiceAt, PlanIn, PlansOn, PlansTo, HighIn, Settles, Notes, termsOf, slicesBy}
+use Rattle.picture.specs.High.{indexBy, indexIn, planBy, planIn, plansIn, highRuns, choiceBy, choiceIn, sliceWords, wordsIn, wordsTo, sliceNumberCount, noteRun, noteIn, isTarget, FewBits, RunAt, ChoiceAt, PlanIn, PlansOn, PlansTo, HighIn, Settles, Notes, termsOf, slicesBy}
 use Rattle.picture.specs.HighIndexLaws.{index-stands}
 
 -- ---- a picture's numbers, indices, plans and words
@@ -97,7 +97,7 @@ module _ (p : Picture) (w v : List ℤ) (h : WorkIn p w) (same : (i : ℕ) → p
 pub run-words : (w : List ℤ) (p : Picture) (c : Component) (k q : ℕ) → length (packed 0 (runOf w p c k q)) ≤ countOf (p .layout) c k
 run-words w p c k q = omega (arith, packed-few (runOf w p c k q), run-count w (p .layout) c k q)
 
-pub words-most : (w : List ℤ) (p : Picture) (k q : ℕ) → length (sliceWords (numbersIn w p k q)) ≤ sliceCount p k
+pub words-most : (w : List ℤ) (p : Picture) (k q : ℕ) → length (sliceWords (numbersIn w p k q)) ≤ sliceNumberCount p k
 unfolding numbersIn
 words-most w p k q =
     let y = packed 0 (runOf w p (p .y) k q) in
@@ -112,7 +112,7 @@ module _ (w : List ℤ) (p : Picture) (t : Terms) where
   words-before (suc k) = omega (arith, words-before k, length-append (wordsTo w p t k) (wordsIn w p t k), words-most w p k (indexIn w p t k))
 
   -- before the coefficients, behind those of the slices before
-  pub words-room : (k : ℕ) → Arranged p → k < slicesIn p → length (wordsTo w p t k) + sliceCount p k ≤ p .front
+  pub words-room : (k : ℕ) → Arranged p → k < slicesIn p → length (wordsTo w p t k) + sliceNumberCount p k ≤ p .front
   words-room k a b =
       let within : (c : Component) → countTo (p .layout) c k + countOf (p .layout) c k ≤ c .width * c .height = λ c. count-within (p .layout) c k (a .layout) b in
       omega (arith, words-before k, within (p .y), within (p .c1), within (p .c2), a .behind-y, a .behind-c1, a .c2 .rebuilt)

@@ -20,7 +20,7 @@ use Rattle.wavelet.specs.Planes.{Band, coefficients, dwt, bandAt}
 use Rattle.wavelet.specs.PlaneLaws.{length-dwt}
 use Rattle.wavelet.specs.Bands.{halvings, Sides, offsetOf, low-sides, high-sides, coefficient-at}
 use Rattle.unit.specs.Sizes.{Size, area}
-use Rattle.unit.specs.Slices.{Grid, count, top, bottom, left, right, part, region}
+use Rattle.unit.specs.Slices.{Grid, sliceCount, top, bottom, left, right, part, region}
 use Rattle.unit.specs.Predict.{predict}
 use Rattle.unit.specs.Quantised.{sizeOf, numbersFrom, numbersHQ, numberAt, rebuilt, numbersLD, leftLD}
 use Rattle.unit.specs.LowDelay.{alternated}
@@ -154,7 +154,7 @@ coefficient-is w l c bs bands has n y x hn hy hx =
     ∙ held w (c .coefs) bs has n y x (omega (arith, bands .many)) hy' hx'
 
 -- a window lies in its subband
-module _ (g : Grid) (z : Size) (k : ℕ) (h : k < count g) where
+module _ (g : Grid) (z : Size) (k : ℕ) (h : k < sliceCount g) where
   pub bottom-most : bottom g z k ≤ z .height
   bottom-most = bound-most (g .down) (z .height) (suc (k / g .across)) (row-lt (g .down) (g .across) k h)
 
@@ -189,7 +189,7 @@ number-plain w s b i y x f p e =
     (ap₂ (λ (u v : ℤ). u -ℤ v) e (sym (prediction-no w s (s .rebuilt) y x p)) ∙ +ℤ-idr (b .plane y x))
 
 module _ (w : List ℤ) (l : Layout) (c second : Component) (m : List ℕ) (bs : List Band) (k q : ℕ) (bands : Bands l c bs) (has : Holds w (c .coefs) bs)
-    (slice : k < count (gridIn l)) (values : (n : ℕ) → n < bandCount l → getD (l .values) n 0 ≡ getD m n 0) where
+    (slice : k < sliceCount (gridIn l)) (values : (n : ℕ) → n < bandCount l → getD (l .values) n 0 ≡ getD m n 0) where
   pub band-plain : (n : ℕ) → n < bandCount l → (l .predicted && eqb n 0) ≡ false
       → stripNumbers w (stripOf l c second false n (startOf l c n) k q) ≡ bandPart (gridIn l) m bs q k 0 n
   unfolding stripOf
@@ -322,7 +322,7 @@ holds-rebuilt w s base bs fits h has = record {
 }
 
 module _ (w : List ℤ) (l : Layout) (c second : Component) (m : List ℕ) (bs : List Band) (k q : ℕ) (bands : Bands l c bs) (has : Holds w (c .coefs) bs)
-    (slice : k < count (gridIn l)) (values : (n : ℕ) → n < bandCount l → getD (l .values) n 0 ≡ getD m n 0) (predicted : l .predicted ≡ true) where
+    (slice : k < sliceCount (gridIn l)) (values : (n : ℕ) → n < bandCount l → getD (l .values) n 0 ≡ getD m n 0) (predicted : l .predicted ≡ true) where
   -- slice k's strip of level 0, its band and its index
   abbrev pub strip0 : Strip
   strip0 = stripOf l c second false 0 0 k q

@@ -21,7 +21,7 @@ use Rattle.picture.specs.PackedLaws.{laid-behind, run-alike, packingAt}
 use Rattle.picture.specs.UnpackedLaws.{packed-cost}
 use Rattle.picture.specs.Picture.{runOf, numbersIn, SliceIn}
 use Rattle.picture.specs.PictureLaws.{run-y, run-c1, run-c2}
-use Rattle.picture.specs.High.{packedOf, choiceBy, sliceWords, sliceCount}
+use Rattle.picture.specs.High.{packedOf, choiceBy, sliceWords, sliceNumberCount}
 use Rattle.picture.specs.HighIndexLaws.{choice-is}
 use Rattle.picture.specs.NotedLaws.{run-words}
 
@@ -36,7 +36,7 @@ module _ {w v : List ℤ} {i : ℕ} {r : Packing} {xs : List ℤ} (h : Packs w (
   pub run-after : i ≤ r .at
   run-after = omega (arith, h .at)
 
-module _ (p : Picture) (k q from : ℕ) {w : List ℤ} (s : SliceIn p w k q) (plain : p .layout .predicted ≡ false) (room : from + sliceCount p k ≤ p .front) where
+module _ (p : Picture) (k q from : ℕ) {w : List ℤ} (s : SliceIn p w k q) (plain : p .layout .predicted ≡ false) (room : from + sliceNumberCount p k ≤ p .front) where
   abbrev count : Component → ℕ
   count c = countOf (p .layout) c k
 

@@ -5,7 +5,7 @@ use mathlib.Core.List.{List}
 use Prim.Native.Nat.{ℕ, _+_, _*_, _≤_, _<_}
 use lib.IntN.{ℤ}
 use Rattle.unit.specs.Three.{Three}
-use Rattle.unit.specs.Slices.{count}
+use Rattle.unit.specs.Slices.{sliceCount}
 use Rattle.picture.specs.declared.layout.Component.{Component}
 use Rattle.picture.specs.declared.layout.Picture.{Picture}
 use Rattle.picture.specs.Run.{Small}
@@ -13,7 +13,7 @@ use Rattle.picture.specs.Layout.{bandCount, gridIn, runNumbers, LayoutIn
 
 -- how many slices there are
 abbrev pub slicesIn : Picture → ℕ
-slicesIn p = count (gridIn (p .layout))
+slicesIn p = sliceCount (gridIn (p .layout))
 
 -- slice k's numbers of a component at index q
 abbrev pub runOf : List ℤ → Picture → Component → ℕ → ℕ → List ℤ

@@ -13,7 +13,7 @@ use lib.ListN.{length, take, drop, replicate, length-append, length-drop, length
 use lib.Seq.{take-suc, take-add, getD-drop}
 use Rattle.laws.specs.Integer.{up, var, _⊟_, by-parts}
 use Rattle.laws.specs.Rows.{at}
-use Rattle.codewords.specs.Bit.{ones}
+use Rattle.codewords.specs.Bit.{oneBits}
 use Rattle.codewords.specs.Code.{codeS, codes}
 use Rattle.codewords.specs.CodeLaws.{code-signed, codeM-zero, codes-one, codes-append, codes-none}
 use Rattle.codewords.specs.Writer.{Sound, Room, Wrote}
@@ -24,12 +24,12 @@ use Rattle.picture.specs.Packed.{mark, wordNumbers, unpacked, wordsAt}
 use Rattle.picture.specs.UnpackedLaws.{unpacked-append, word-more, own-word}
 
 -- ---- the bits of a word
-zeros-codes : (n : ℕ) → codes (replicate n (pos 0)) ≡ ones n
+zeros-codes : (n : ℕ) → codes (replicate n (pos 0)) ≡ oneBits n
 unfolding codes
 zeros-codes zero = refl
 zeros-codes (suc n) = ap₂ _++_ (code-signed (pos 0) ∙ codeM-zero _) (zeros-codes n)
 
-pub zeros-word : (z : ℤ) → mark ≤ up z → codes (wordNumbers z) ≡ ones (up z - mark)
+pub zeros-word : (z : ℤ) → mark ≤ up z → codes (wordNumbers z) ≡ oneBits (up z - mark)
 unfolding wordNumbers
 zeros-word (pos n) h = ap codes (word-more mark n (n - mark) h refl) ∙ zeros-codes (n - mark)
 zeros-word (negsuc n) h = absurd (omega arith)

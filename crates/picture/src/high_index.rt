@@ -17,7 +17,7 @@ ghost use Rattle.picture.specs.Run.{Small};
 ghost use Rattle.picture.specs.Layout.{RunIn};
 ghost use Rattle.picture.specs.Picture.{slicesIn, runOf, numbersIn, SliceIn};
 ghost use Rattle.picture.specs.Tally.{trimmedOf};
-ghost use Rattle.picture.specs.High.{fitsBy, indexIn, halfOf, choiceBy, choiceIn, sliceWords, wordsIn, wordsTo, sliceCount, wordsOf, needsBy, noteRun, noteIn, RunAt, FewBits, TermsIn, PlanIn, Notes};
+ghost use Rattle.picture.specs.High.{fitsBy, indexIn, halfOf, choiceBy, choiceIn, sliceWords, wordsIn, wordsTo, sliceNumberCount, wordsOf, needsBy, noteRun, noteIn, RunAt, FewBits, TermsIn, PlanIn, Notes};
 
 // The bytes that the components of a slice need.
 pub(crate) struct Needs {
@@ -243,7 +243,7 @@ fn index_of(work: &[i64], p: Picture, t: Terms, k: u32, g: u32) -> u32
 
 // Slice k's choice of index q, its runs packed from place from on.
 fn pack_slice(work: &mut [i64], p: Picture, k: u32, q: u32, from: usize) -> Choice
-    requires { ⌜ SliceIn p (now work) k q × ((p .layout .predicted ≡ false) × (from + sliceCount p k ≤ p .front)) ⌝ }
+    requires { ⌜ SliceIn p (now work) k q × ((p .layout .predicted ≡ false) × (from + sliceNumberCount p k ≤ p .front)) ⌝ }
     ensures { λ r. ⌜ (r ≡ choiceBy (numbersIn (now (work .entry)) p k) q)
         × ((now (work .exit) ≡ laid (now (work .entry)) from (sliceWords (numbersIn (now (work .entry)) p k q))) × Small (p .front) (p .end) (now (work .exit))) ⌝ }
 {
@@ -273,7 +273,7 @@ fn pack_slice(work: &mut [i64], p: Picture, k: u32, q: u32, from: usize) -> Choi
 
 // The choice of slice k, its runs packed from place from on.
 pub(crate) fn choice_of(work: &mut [i64], p: Picture, t: Terms, k: u32, g: u32, from: usize) -> Choice
-    requires { ⌜ PlanIn p t (now work) × ((k < slicesIn p) × (from + sliceCount p k ≤ p .front)) ⌝ }
+    requires { ⌜ PlanIn p t (now work) × ((k < slicesIn p) × (from + sliceNumberCount p k ≤ p .front)) ⌝ }
     ensures { λ r. ⌜ (r ≡ choiceIn (now (work .entry)) p t k)
         × ((now (work .exit) ≡ laid (now (work .entry)) from (wordsIn (now (work .entry)) p t k)) × Small (p .front) (p .end) (now (work .exit))) ⌝ }
 {

@@ -9,7 +9,7 @@ ghost use mathlib.Core.Path.{_≡_};
 ghost use Prim.Native.Nat.{ℕ, _+_, _*_, _^_, _≤_, _<_};
 ghost use lib.ListN.{length};
 ghost use Rattle.laws.specs.Laid.{Lays};
-ghost use Rattle.codewords.specs.Bit.{zeros};
+ghost use Rattle.codewords.specs.Bit.{zeroBits};
 ghost use Rattle.codewords.specs.Bytes.{toBytes};
 ghost use Rattle.codewords.specs.Writer.{Room, Wrote};
 ghost use Rattle.unit.specs.HighQuality.{componentBits, highBits};
@@ -37,7 +37,7 @@ fn put_component(
 // n prefix bytes, which are zeros.
 fn put_prefix(out: &mut [u8], w: BitWriter, n: u32) -> BitWriter
     requires { ⌜ Room (now out) w (8 * n) × (n ≤ 255) ⌝ }
-    ensures { λ r. ⌜ Wrote (now (out .entry)) w (zeros (8 * n)) (now (out .exit)) r ⌝ }
+    ensures { λ r. ⌜ Wrote (now (out .entry)) w (zeroBits (8 * n)) (now (out .exit)) r ⌝ }
 {
     let mut s = w;
     let mut i = 0;

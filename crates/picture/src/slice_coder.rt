@@ -9,7 +9,7 @@ ghost use Rattle.laws.specs.Laid.{laid, Lays};
 ghost use Rattle.codewords.specs.Bytes.{toBytes};
 ghost use Rattle.picture.specs.Run.{Small};
 ghost use Rattle.picture.specs.Picture.{slicesIn};
-ghost use Rattle.picture.specs.High.{planIn, choiceIn, wordsIn, wordsTo, sliceCount, noteIn, plannedBy, FewBits, TermsIn, PlanIn, PlansOn, Notes};
+ghost use Rattle.picture.specs.High.{planIn, choiceIn, wordsIn, wordsTo, sliceNumberCount, noteIn, plannedBy, FewBits, TermsIn, PlanIn, PlansOn, Notes};
 ghost use Rattle.picture.specs.Low.{isLast, lowIndexIn, lowBitsIn, lowWorkIn, LowIn};
 
 // Where the next slice goes in the output, how many low-delay slices carry index 127, the largest need of a component, the index of the slice before,
@@ -56,7 +56,7 @@ impl SliceCoder {
 
     // High-quality slice k, planned, its words packed and its choice noted.
     pub(crate) fn plan_hq_slice(self, work: &mut [i64], p: Picture, t: Terms, k: u32) -> SliceCoder
-        requires { ⌜ PlanIn p t (now work) × ((k < slicesIn p) × ((self .at < 2 ^ 60) × (self .words + sliceCount p k ≤ p .front))) ⌝ }
+        requires { ⌜ PlanIn p t (now work) × ((k < slicesIn p) × ((self .at < 2 ^ 60) × (self .words + sliceNumberCount p k ≤ p .front))) ⌝ }
         ensures { λ r. ⌜ PlansOn (planIn (now (work .entry)) p t k) self r
             × ((now (work .exit) ≡ noteIn (laid (now (work .entry)) (self .words) (wordsIn (now (work .entry)) p t k)) (p .end + 7 * k) (choiceIn (now (work .entry)) p t k))
             × Small (p .front) (p .end) (now (work .exit))) ⌝ }

@@ -3,8 +3,9 @@
 use mathlib.Core.Bool.{Bool, cond, _&&_}
 use mathlib.Core.List.{List, [], _∷_}
 use mathlib.Core.Option.{Option, none, some}
-use Prim.Native.Nat.{ℕ, zero, suc}
+use Prim.Native.Nat.{ℕ}
 use lib.Dec.{eqb}
+use lib.ListN.{getElem?}
 
 abbrev pub Table : Type 0
 Table = List (List (List ℕ))
@@ -193,13 +194,6 @@ tableD8 =
     ((2 ∷ 0 ∷ 3 ∷ 6 ∷ 8 ∷ [])
     ∷ (2 ∷ 0 ∷ 3 ∷ 6 ∷ 8 ∷ 11 ∷ 9 ∷ 7 ∷ []) ∷ []) ∷ []
 
-module _ {A : Type 0} where
-  -- the element at n, if there is one
-  abbrev pub nth : List A → ℕ → Option A
-  nth [] n = none
-  nth (x ∷ xs) zero = some x
-  nth (x ∷ xs) (suc n) = nth xs n
-
 abbrev pub andThen : {A B : Type 0} → Option A → (A → Option B) → Option B
 andThen none f = none
 andThen (some x) f = f x
@@ -209,8 +203,8 @@ tables = tableD1 ∷ tableD2 ∷ tableD3 ∷ tableD4 ∷ tableD5 ∷ tableD6 ∷
 
 -- the table of a wavelet down and one across: one and the same, or Haar with no shift (3) with LeGall (1)
 abbrev pub tableOf : ℕ → ℕ → Option Table
-tableOf w h = cond (eqb w h) (nth tables w) (cond (eqb w 3 && eqb h 1) (some tableD8) none)
+tableOf w h = cond (eqb w h) (getElem? tables w) (cond (eqb w 3 && eqb h 1) (some tableD8) none)
 
 -- wavelet, horizontal-only wavelet, depth, horizontal-only depth
 unfoldable pub defaultMatrix : ℕ → ℕ → ℕ → ℕ → Option (List ℕ)
-defaultMatrix w h d k = andThen (tableOf w h) (λ t. andThen (nth t k) (λ b. nth b d))
+defaultMatrix w h d k = andThen (tableOf w h) (λ t. andThen (getElem? t k) (λ b. getElem? b d))

@@ -8,35 +8,35 @@ use native.Mathlib.Nat.{zero-add, suc-add, add-assoc, le-of-suc-le-suc, not-suc-
 use native.Mathlib.Numerals.{add-one}
 use native.Mathlib.Omega.{arith}
 use native.Mathlib.Decide.{decLt, ℕ-discrete}
-use lib.ListN.{length, getD, take, drop, set, replicate, length-append, length-drop, getD-replicate, take-append-drop, List·getD-map}
+use lib.ListN.{length, getD, getElem?, take, drop, set, replicate, length-append, length-drop, getD-replicate, take-append-drop, List·getD-map}
 use lib.Seq.{paste, paste-suc, take-all}
 use borrow.Author.Tests.{lt-ltb, le-ltb, eq-eqb, ne-eqb}
 use Rattle.laws.specs.Rows.{span, total}
 use Rattle.quantiser.specs.TableLaws.{table}
-use Rattle.quantiser.specs.AnnexD.{Table, tables, tableD8, nth, andThen, tableOf, defaultMatrix}
+use Rattle.quantiser.specs.AnnexD.{Table, tables, tableD8, andThen, tableOf, defaultMatrix}
 use Rattle.quantiser.specs.Default.{places, handed, defaultOf}
 use Rattle.quantiser.specs.Cells.{allTables, shape, startOf, cellOf, tableAt, matrixAt}
 
 -- ---- lists
 module _ {A : Type 0} where
-  pub nth-in : (xs : List A) (n : ℕ) (d : A) → n < length xs → nth xs n ≡ some (getD xs n d)
-  nth-in [] n d h = absurd (not-suc-le-zero h)
-  nth-in (x ∷ xs) zero d h = refl
-  nth-in (x ∷ xs) (suc n) d h = nth-in xs n d (le-of-suc-le-suc h)
+  pub getElem?-in : (xs : List A) (n : ℕ) (d : A) → n < length xs → getElem? xs n ≡ some (getD xs n d)
+  getElem?-in [] n d h = absurd (not-suc-le-zero h)
+  getElem?-in (x ∷ xs) zero d h = refl
+  getElem?-in (x ∷ xs) (suc n) d h = getElem?-in xs n d (le-of-suc-le-suc h)
 
-  pub nth-out : (xs : List A) (n : ℕ) → length xs ≤ n → nth xs n ≡ none
-  nth-out [] n h = refl
-  nth-out (x ∷ xs) zero h = absurd (not-suc-le-zero h)
-  nth-out (x ∷ xs) (suc n) h = nth-out xs n (le-of-suc-le-suc h)
+  pub getElem?-out : (xs : List A) (n : ℕ) → length xs ≤ n → getElem? xs n ≡ none
+  getElem?-out [] n h = refl
+  getElem?-out (x ∷ xs) zero h = absurd (not-suc-le-zero h)
+  getElem?-out (x ∷ xs) (suc n) h = getElem?-out xs n (le-of-suc-le-suc h)
 
-  nth-left : (xs ys : List A) (n : ℕ) → n < length xs → nth (xs ++ ys) n ≡ nth xs n
-  nth-left [] ys n h = absurd (not-suc-le-zero h)
-  nth-left (x ∷ xs) ys zero h = refl
-  nth-left (x ∷ xs) ys (suc n) h = nth-left xs ys n (le-of-suc-le-suc h)
+  getElem?-left : (xs ys : List A) (n : ℕ) → n < length xs → getElem? (xs ++ ys) n ≡ getElem? xs n
+  getElem?-left [] ys n h = absurd (not-suc-le-zero h)
+  getElem?-left (x ∷ xs) ys zero h = refl
+  getElem?-left (x ∷ xs) ys (suc n) h = getElem?-left xs ys n (le-of-suc-le-suc h)
 
-  nth-right : (xs ys : List A) (n : ℕ) → nth (xs ++ ys) (length xs + n) ≡ nth ys n
-  nth-right [] ys n = ap (nth ys) (zero-add n)
-  nth-right (x ∷ xs) ys n = ap (nth (x ∷ (xs ++ ys))) (suc-add (length xs) n) ∙ nth-right xs ys n
+  getElem?-right : (xs ys : List A) (n : ℕ) → getElem? (xs ++ ys) (length xs + n) ≡ getElem? ys n
+  getElem?-right [] ys n = ap (getElem? ys) (zero-add n)
+  getElem?-right (x ∷ xs) ys n = ap (getElem? (x ∷ (xs ++ ys))) (suc-add (length xs) n) ∙ getElem?-right xs ys n
 
   length-flatten : (t : List (List A)) → length (flatten t) ≡ total (map length t)
   unfolding flatten
@@ -45,20 +45,20 @@ module _ {A : Type 0} where
 
   -- element d of block k, if there is one, stands d places behind the blocks before it
   block-in : (t : List (List A)) (k d : ℕ) → startOf (map length t) k + d < startOf (map length t) (suc k)
-      → nth (flatten t) (startOf (map length t) k + d) ≡ andThen (nth t k) (λ b. nth b d)
+      → getElem? (flatten t) (startOf (map length t) k + d) ≡ andThen (getElem? t k) (λ b. getElem? b d)
   unfolding flatten
   block-in [] zero d h = absurd (not-suc-le-zero h)
   block-in [] (suc k) d h = absurd (not-suc-le-zero h)
-  block-in (b ∷ t) zero d h = ap (nth (b ++ flatten t)) (zero-add d) ∙ nth-left b (flatten t) d (omega arith)
+  block-in (b ∷ t) zero d h = ap (getElem? (b ++ flatten t)) (zero-add d) ∙ getElem?-left b (flatten t) d (omega arith)
   block-in (b ∷ t) (suc k) d h =
-      ap (nth (b ++ flatten t)) (add-assoc (length b) (startOf (map length t) k) d)
-      ∙ nth-right b (flatten t) (startOf (map length t) k + d)
+      ap (getElem? (b ++ flatten t)) (add-assoc (length b) (startOf (map length t) k) d)
+      ∙ getElem?-right b (flatten t) (startOf (map length t) k + d)
       ∙ block-in t k d (omega arith)
 
   block-out : (t : List (List A)) (k d : ℕ) → startOf (map length t) (suc k) ≤ startOf (map length t) k + d
-      → andThen (nth t k) (λ b. nth b d) ≡ none
+      → andThen (getElem? t k) (λ b. getElem? b d) ≡ none
   block-out [] k d h = refl
-  block-out (b ∷ t) zero d h = nth-out b d (omega arith)
+  block-out (b ∷ t) zero d h = getElem?-out b d (omega arith)
   block-out (b ∷ t) (suc k) d h = block-out t k d (omega arith)
 
 -- ---- zeros behind a list leave its values as they are
@@ -73,19 +73,19 @@ getD-behind (v ∷ vs) n zero = refl
 getD-behind (v ∷ vs) n (suc i) = getD-behind vs n i
 
 -- ---- the number of a table
-pub same-table : (w h : ℕ) → w ≡ h → w < 7 → nth allTables w ≡ tableOf w h
+pub same-table : (w h : ℕ) → w ≡ h → w < 7 → getElem? allTables w ≡ tableOf w h
 unfolding allTables
-same-table w h e l = rw (eq-eqb w h e) (nth-left tables (tableD8 ∷ []) w l)
+same-table w h e l = rw (eq-eqb w h e) (getElem?-left tables (tableD8 ∷ []) w l)
 
-pub same-none : (w h : ℕ) → w ≡ h → 7 ≤ w → nth allTables 8 ≡ tableOf w h
+pub same-none : (w h : ℕ) → w ≡ h → 7 ≤ w → getElem? allTables 8 ≡ tableOf w h
 unfolding allTables
-same-none w h e l = rw (eq-eqb w h e) (sym (nth-out tables w l))
+same-none w h e l = rw (eq-eqb w h e) (sym (getElem?-out tables w l))
 
-pub mixed-table : (w h : ℕ) → w ≡ 3 → h ≡ 1 → nth allTables 7 ≡ tableOf w h
+pub mixed-table : (w h : ℕ) → w ≡ 3 → h ≡ 1 → getElem? allTables 7 ≡ tableOf w h
 unfolding allTables
 mixed-table w h p q = rw (p, q) refl
 
-pub mixed-none : (w h : ℕ) → (w ≡ h → ⊥) → (w ≡ 3 → h ≡ 1 → ⊥) → nth allTables 8 ≡ tableOf w h
+pub mixed-none : (w h : ℕ) → (w ≡ h → ⊥) → (w ≡ 3 → h ≡ 1 → ⊥) → getElem? allTables 8 ≡ tableOf w h
 unfolding allTables
 mixed-none w h p q = by (ℕ-discrete w 3)
   where
@@ -144,15 +144,15 @@ place d k h =
     })
 
 -- what stands there in a table of that shape
-cell-finds : (t : Table) (d k : ℕ) → map length t ≡ shape → nth (flatten t) (cellOf d k) ≡ andThen (nth t k) (λ b. nth b d)
+cell-finds : (t : Table) (d k : ℕ) → map length t ≡ shape → getElem? (flatten t) (cellOf d k) ≡ andThen (getElem? t k) (λ b. getElem? b d)
 cell-finds t d k e = by (decLt (startOf shape k + d) (startOf shape (suc k)))
   where
-    by : Dec (startOf shape k + d < startOf shape (suc k)) → nth (flatten t) (cellOf d k) ≡ andThen (nth t k) (λ b. nth b d)
+    by : Dec (startOf shape k + d < startOf shape (suc k)) → getElem? (flatten t) (cellOf d k) ≡ andThen (getElem? t k) (λ b. getElem? b d)
     by (yes l) = rw (← cell-in d k l, ← e) (block-in t k d (rw e l))
     by (no l) =
         let g : startOf shape (suc k) ≤ startOf shape k + d = omega arith in
         rw (← cell-out d k g)
-        (nth-out (flatten t) 19 (omega (arith, length-flatten t, ap total e)) ∙ sym (block-out t k d (rw e g)))
+        (getElem?-out (flatten t) 19 (omega (arith, length-flatten t, ap total e)) ∙ sym (block-out t k d (rw e g)))
 
 -- ---- what antt computes of the eight tables: how many, their shape, and that no matrix has more than 14 values
 eight : length allTables ≡ 8
@@ -209,22 +209,22 @@ module _ (t c : ℕ) (ht : t < 8) (hc : c < 19) where
       ∙ take-append-drop 14 (places (matrixAt t c))
 
 -- ---- the default, by a table's number t and a matrix's place c
-module _ (w h d k t : ℕ) (table-is : nth allTables t ≡ tableOf w h) where
+module _ (w h d k t : ℕ) (table-is : getElem? allTables t ≡ tableOf w h) where
   pub no-table : 8 ≤ t → handed none ≡ defaultOf w h d k
   unfolding defaultOf defaultMatrix
-  no-table l = rw (← table-is, nth-out allTables t (omega (arith, eight))) refl
+  no-table l = rw (← table-is, getElem?-out allTables t (omega (arith, eight))) refl
 
   module _ (c : ℕ) (cell-is : c ≡ cellOf d k) (l : t < 8) where
-    by-place : defaultOf w h d k ≡ handed (nth (flatten (tableAt t)) c)
+    by-place : defaultOf w h d k ≡ handed (getElem? (flatten (tableAt t)) c)
     unfolding defaultOf defaultMatrix
-    by-place = rw (← table-is, nth-in allTables t [] (omega (arith, eight)), cell-is, cell-finds (tableAt t) d k (shape-at t l)) refl
+    by-place = rw (← table-is, getElem?-in allTables t [] (omega (arith, eight)), cell-is, cell-finds (tableAt t) d k (shape-at t l)) refl
 
     pub no-matrix : 19 ≤ c → handed none ≡ defaultOf w h d k
-    no-matrix m = sym (by-place ∙ ap handed (nth-out (flatten (tableAt t)) c (omega (arith, count t l))))
+    no-matrix m = sym (by-place ∙ ap handed (getElem?-out (flatten (tableAt t)) c (omega (arith, count t l))))
 
     pub is-matrix : c < 19 → (vs : List ℕ) → vs ≡ places (matrixAt t c) → record { found = true; values = vs } ≡ defaultOf w h d k
     unfolding matrixAt
-    is-matrix m vs e = rw e (sym (by-place ∙ ap handed (nth-in (flatten (tableAt t)) c [] (omega (arith, count t l)))))
+    is-matrix m vs e = rw e (sym (by-place ∙ ap handed (getElem?-in (flatten (tableAt t)) c [] (omega (arith, count t l)))))
 
 -- ---- the code's numbers, a list for each table
 unfoldable pub numbersAt : ℕ → List ℕ

@@ -1,8 +1,8 @@
 // The default matrices of Annex D: a table by the wavelets, a matrix in it by the depths.
 ghost use mathlib.Core.Path.{_≡_};
 ghost use Prim.Native.Nat.{_<_};
-ghost use lib.ListN.{getD};
-ghost use Rattle.quantiser.specs.AnnexD.{nth, tableOf};
+ghost use lib.ListN.{getD, getElem?};
+ghost use Rattle.quantiser.specs.AnnexD.{tableOf};
 ghost use Rattle.quantiser.specs.Default.{places, defaultOf};
 ghost use Rattle.quantiser.specs.Cells.{allTables, cellOf, matrixAt};
 
@@ -223,7 +223,7 @@ pub fn default_quant_matrix(
 
 // The number of a table, from 0; 8 where there is none.
 fn table_of(wavelet: u32, wavelet_ho: u32) -> u32
-    ensures { λ r. ⌜ nth allTables r ≡ tableOf wavelet «wavelet_ho» ⌝ }
+    ensures { λ r. ⌜ getElem? allTables r ≡ tableOf wavelet «wavelet_ho» ⌝ }
 {
     if wavelet == wavelet_ho {
         return if wavelet < 7 { wavelet } else { 8 };

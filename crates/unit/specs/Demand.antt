@@ -14,7 +14,7 @@ use Rattle.unit.specs.declared.PictureKind.{PictureKind}
 use Rattle.unit.specs.declared.PictureKind.the-variants.{LowDelay, HighQuality}
 use Rattle.unit.specs.Three.{Three}
 use Rattle.unit.specs.Sizes.{Size, sizesOf, depthsOf}
-use Rattle.unit.specs.Slices.{Grid, count, sliceOf}
+use Rattle.unit.specs.Slices.{Grid, sliceCount, sliceOf}
 use Rattle.unit.specs.Matrix.{matrixValues}
 use Rattle.unit.specs.Parameters.{SliceParameters, lowDelay, highQuality, Parameters, parameterBytes}
 use Rattle.unit.specs.LowDelay.{sliceBytes, roomOf, alternated}
@@ -36,7 +36,7 @@ bytesOf a = length (a .bits) / 8
 pub record SameSlice (a : SlicePlan) (r : SliceRead) : Type 0 where
   pub index : r .index ≡ a .index
   pub numbers : r .numbers ≡ a .kept
-  pub bytes : r .length ≡ bytesOf a
+  pub bytes : r .byteCount ≡ bytesOf a
 
 abbrev pub SameSlices : List SlicePlan → List SliceRead → Type 0
 SameSlices [] [] = Unit {0}
@@ -47,12 +47,12 @@ SameSlices (a ∷ more) (r ∷ rs) = SameSlice a r × SameSlices more rs
 -- each slice begins where the last one ended, the first at n, and the last one ends at e
 abbrev pub Follow : ℕ → List SliceRead → ℕ → Type 0
 Follow n [] e = n ≡ e
-Follow n (r ∷ rs) e = (r .offset ≡ n) × Follow (n + r .length) rs e
+Follow n (r ∷ rs) e = (r .offset ≡ n) × Follow (n + r .byteCount) rs e
 
 -- low delay: each slice takes exactly its slice bytes, and they sum to the numerator
 abbrev pub Bytes : SliceParameters → List SliceRead → Type 0
 Bytes (highQuality p c) ss = Unit {0}
-Bytes (lowDelay n d) ss = (map (λ (r : SliceRead). r .length) ss ≡ span (sliceBytes n d) 0 (length ss)) × (total (map (λ (r : SliceRead). r .length) ss) ≡ n)
+Bytes (lowDelay n d) ss = (map (λ (r : SliceRead). r .byteCount) ss ≡ span (sliceBytes n d) 0 (length ss)) × (total (map (λ (r : SliceRead). r .byteCount) ss) ≡ n)
 
 -- no slice has dropped a number that is not 0
 abbrev pub Undropped : Plan → Type 0
@@ -109,7 +109,7 @@ pub record Demand3 (s : Settings) (m : List ℕ) (p : Three (List ℕ)) (unit : 
   -- what is kept of a slice's numbers is all of them, unless it is of low delay, carries index 127 and does not fit
   pub drops : All (Drops (s .kind)) (planOf s m p .slices)
   pub places : Follow (17 + parameterBytes (majorVersion s) (reading .parameters)) (reading .slices) (length unit)
-  pub bytes : Bytes (reading .parameters .slice) (reading .slices)
+  pub bytes : Bytes (reading .parameters .sliceParameters) (reading .slices)
   pub near : Undropped (planOf s m p)
       → let b = coefficientsOf s p in let r = readBands (sizesOf s) reading in let i = planIndex (planOf s m p) in let v = matrixValues s m in
       NearBands (gridOf s) v i 0 (b .y) (r .y) × NearBands (gridOf s) v i 0 (b .c1) (r .c1) × NearBands (gridOf s) v i 0 (b .c2) (r .c2)

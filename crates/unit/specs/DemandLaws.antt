@@ -27,7 +27,7 @@ use Rattle.unit.specs.declared.PictureKind.the-variants.{LowDelay, HighQ
 use Rattle.unit.specs.Three.{Three}
 use Rattle.unit.specs.Sizes.{Size, sizesOf, depthsOf, offsetOf}
 use Rattle.unit.specs.Subbands.{paddedSize}
-use Rattle.unit.specs.Slices.{Grid, count}
+use Rattle.unit.specs.Slices.{Grid, sliceCount}
 use Rattle.unit.specs.Matrix.{defaultOf, orNone, matrixValues, carriedMatrix}
 use Rattle.unit.specs.Refusal.{refusalOf}
 use Rattle.unit.specs.Parameters.{SliceParameters, Parameters, parameterBytes}
@@ -60,11 +60,11 @@ pub record Typed (s : Settings) (p : Three (List ℕ)) : Type 0 where
 
 -- ---- the parameters that are read
 parameters-by : (s : Settings) (m : List ℕ) (kind : PictureKind) (b : Three (List Band))
-    → planBy s m kind b .parameters ≡ parametersBy s m (planBy s m kind b .parameters .slice)
+    → planBy s m kind b .parameters ≡ parametersBy s m (planBy s m kind b .parameters .sliceParameters)
 parameters-by s m LowDelay b = refl
 parameters-by s m HighQuality b = refl
 
-parameters-of : (s : Settings) (m : List ℕ) (p : Three (List ℕ)) → planOf s m p .parameters ≡ parametersBy s m (planOf s m p .parameters .slice)
+parameters-of : (s : Settings) (m : List ℕ) (p : Three (List ℕ)) → planOf s m p .parameters ≡ parametersBy s m (planOf s m p .parameters .sliceParameters)
 unfolding planOf
 parameters-of s m p = parameters-by s m (s .kind) (coefficientsOf s p)
 
@@ -87,7 +87,7 @@ band-sizes s m p t C2 = sym (sizes-of s _ _ (p .c2))
 read-as : (s : Settings) (m : List ℕ) (p : Three (List ℕ)) → ReadAs (s .kind) (gridOf s) (matrixValues s m) (coefficientsOf s p) (sizesOf s) (readingOf s (planOf s m p))
 unfolding readingOf
 read-as s m p =
-    let t = planOf s m p .parameters .slice in
+    let t = planOf s m p .parameters .sliceParameters in
     let e = parameters-of s m p in
     record {
       same-kind = refl;
@@ -149,7 +149,7 @@ module _ (s : Settings) (m : List ℕ) (p : Three (List ℕ)) (work : List ℤ) 
       (v .wavelet-ho) (v .wavelet) (rw (bands-pick s p c) at e)
 
   -- by the parameters that are read
-  samples-by : (c : Component) (bs : List Band) (q : Parameters) → q ≡ parametersBy s m (q .slice) → EqualBands (pick c (coefficientsOf s p)) bs
+  samples-by : (c : Component) (bs : List Band) (q : Parameters) → q ≡ parametersBy s m (q .sliceParameters) → EqualBands (pick c (coefficientsOf s p)) bs
       → SameSamples (pick c (sizesOf s)) (pick c p) (λ y x. idwt (q .waveletHo) (q .wavelet) bs (q .depthHo) (q .depth) y x +ℤ pos (offsetOf (pick c (depthsOf s))))
   samples-by c bs q e b = rw e (samples-back c bs b)
 
@@ -217,7 +217,7 @@ isAccepted (Accepted c) = true
 isAccepted (Refused n) = false
 
 abbrev lengthIn : Answer → ℕ
-lengthIn (Accepted c) = c .length
+lengthIn (Accepted c) = c .written
 lengthIn (Refused n) = 0
 
 module _ (s : Settings) (m : List ℕ) (p : Three (List ℕ)) (out : List ℕ) (work : List ℤ) where
@@ -239,20 +239,20 @@ module _ (s : Settings) (m : List ℕ) (p : Three (List ℕ)) (out : List ℕ) (
   outcomeIf b = elim b [ true ↦ codedIf tooLong | false ↦ record { answer = Refused (refusalOf s m p work); output = out; work = work } ]
 
   module _ (t : Typed s p) (c : Coded) where
-    coded-by : (b : Bool) → tooLong ≡ b → refusalOf s m p work ≡ 0 → codedIf b .answer ≡ Accepted c → Demand3 s m p (take (c .length) (codedIf b .output))
+    coded-by : (b : Bool) → tooLong ≡ b → refusalOf s m p work ≡ 0 → codedIf b .answer ≡ Accepted c → Demand3 s m p (take (c .written) (codedIf b .output))
     unfolding codedOf
     coded-by true e r a = no-truth (sym (ap isAccepted a))
     coded-by false e r a =
         let h = or-none (ltb (length out) n) (ltb 4294967295 n) .0 e in
         let long : n < 2 ^ 32 = omega (arith, ltb-false 4294967295 n (h .1)) in
-        let q : n ≡ c .length = ap lengthIn a in
+        let q : n ≡ c .written = ap lengthIn a in
         rw (← q, take-at (unitOf s (planOf s m p)) (drop n out) n (length-unit s (planOf s m p))) (demand s m p work t r long)
 
-    outcome-by : (b : Bool) → eqb (refusalOf s m p work) 0 ≡ b → outcomeIf b .answer ≡ Accepted c → Demand3 s m p (take (c .length) (outcomeIf b .output))
+    outcome-by : (b : Bool) → eqb (refusalOf s m p work) 0 ≡ b → outcomeIf b .answer ≡ Accepted c → Demand3 s m p (take (c .written) (outcomeIf b .output))
     outcome-by true e a = coded-by tooLong refl (eqb-true (refusalOf s m p work) 0 e) a
     outcome-by false e a = no-truth (sym (ap isAccepted a))
 
     -- of an accepted call demand 3 holds, for the bytes of the output that its answer counts
-    pub accepted : outcomeOf s m p out work .answer ≡ Accepted c → Demand3 s m p (take (c .length) (outcomeOf s m p out work .output))
+    pub accepted : outcomeOf s m p out work .answer ≡ Accepted c → Demand3 s m p (take (c .written) (outcomeOf s m p out work .output))
     unfolding outcomeOf
     accepted a = outcome-by (eqb (refusalOf s m p work) 0) refl a

@@ -13,7 +13,7 @@ use Rattle.unit.specs.declared.PictureKind.{PictureKind}
 use Rattle.unit.specs.declared.PictureKind.the-variants.{LowDelay, HighQuality}
 use Rattle.unit.specs.Three.{Three}
 use Rattle.unit.specs.Sizes.{Size}
-use Rattle.unit.specs.Slices.{Grid, count}
+use Rattle.unit.specs.Slices.{Grid, sliceCount}
 use Rattle.unit.specs.Matrix.{matrixValues}
 use Rattle.unit.specs.Coefficients.{coefficientsOf}
 use Rattle.unit.specs.Quantised.{sizeOf}
@@ -31,15 +31,15 @@ use Rattle.unit.specs.LowDelayLaws.{bytes-some, low-length, low-whole, l
 use Rattle.unit.specs.SoundLaws.{numerator-some}
 use Rattle.unit.specs.ValidLaws.{slice-count}
 
-module _ (g : Grid) (m : List ℕ) (b : Three (List Band)) (alike : map sizeOf (b .c1) ≡ map sizeOf (b .c2)) (n : ℕ) (a : 1 ≤ count g) (h : count g ≤ n) where
+module _ (g : Grid) (m : List ℕ) (b : Three (List Band)) (alike : map sizeOf (b .c1) ≡ map sizeOf (b .c2)) (n : ℕ) (a : 1 ≤ sliceCount g) (h : sliceCount g ≤ n) where
   -- slice k at its own index
-  low-drop : (r : Three Plane) (k : ℕ) → let z = sliceBytes n (count g) k in LowDrops (lowPlan g m b z r k (lowIndex g m b z r k))
+  low-drop : (r : Three Plane) (k : ℕ) → let z = sliceBytes n (sliceCount g) k in LowDrops (lowPlan g m b z r k (lowIndex g m b z r k))
   unfolding lowPlan
   low-drop r k =
-      let z = sliceBytes n (count g) k in
+      let z = sliceBytes n (sliceCount g) k in
       let q = lowIndex g m b z r k in
       let x = lowNumbers g m b r k q in
-      let e : bytesOf (lowPlanOf g m b z q x) ≡ z = ap (λ (x : ℕ). x / 8) (low-length g m b z q x (bytes-some n (count g) k a h)) ∙ omega arith in
+      let e : bytesOf (lowPlanOf g m b z q x) ≡ z = ap (λ (x : ℕ). x / 8) (low-length g m b z q x (bytes-some n (sliceCount g) k a h)) ∙ omega arith in
       let l : length (x .c1) ≡ length (x .c2) =
       counted-low g m (b .c1) (r .c1) q k .many ∙ ap (λ (zs : List Size). numberCount g zs k) alike ∙ sym (counted-low g m (b .c2) (r .c2) q k .many) in
       record {
@@ -51,7 +51,7 @@ module _ (g : Grid) (m : List ℕ) (b : Three (List Band)) (alike : map sizeOf (
   unfolding lowSlices
   low-drops r k zero = tt
   low-drops r k (suc j) =
-      (low-drop r k, low-drops (lowLeft g m b r k (lowIndex g m b (sliceBytes n (count g) k) r k)) (suc k) j)
+      (low-drop r k, low-drops (lowLeft g m b r k (lowIndex g m b (sliceBytes n (sliceCount g) k) r k)) (suc k) j)
 
 high-drops : (f : ℕ → SlicePlan) → ((k : ℕ) → f k .kept ≡ f k .numbers) → (k j : ℕ) → All (λ (s : SlicePlan). s .kept ≡ s .numbers) (span f k j)
 high-drops f e k zero = tt
@@ -65,8 +65,8 @@ module _ (s : Settings) (m : List ℕ) (p : Three (List ℕ)) (work : List ℤ) 
   drops-by : (kind : PictureKind) → All (Drops kind) (planBy s m kind (coefficientsOf s p) .slices)
   unfolding highPlan
   drops-by LowDelay =
-      low-drops (gridOf s) (matrixValues s m) (coefficientsOf s p) alike-of (numeratorOf s m) (slice-count v .some) (numerator-some s m p work v) zeroPlanes 0 (count (gridOf s))
-  drops-by HighQuality = high-drops _ (λ k. refl) 0 (count (gridOf s))
+      low-drops (gridOf s) (matrixValues s m) (coefficientsOf s p) alike-of (numeratorOf s m) (slice-count v .some) (numerator-some s m p work v) zeroPlanes 0 (sliceCount (gridOf s))
+  drops-by HighQuality = high-drops _ (λ k. refl) 0 (sliceCount (gridOf s))
 
   pub drops-of : All (Drops (s .kind)) (planOf s m p .slices)
   unfolding planOf

@@ -5,14 +5,14 @@ use Prim.Native.Nat.{ℕ, zero, suc, _+_, _*_, _-_, _/_, _%_, max}
 use lib.Dec.{leb, ltb}
 use lib.IntN.{ℤ}
 use lib.ListN.{length}
-use Rattle.codewords.specs.Bit.{Bits, lit, ones, zeros}
+use Rattle.codewords.specs.Bit.{Bits, lit, oneBits, zeroBits}
 use Rattle.codewords.specs.Code.{codes}
 use Rattle.laws.specs.Rows.{span}
 use Rattle.wavelet.specs.Planes.{Band}
 use Rattle.unit.specs.declared.RateControl.{RateControl}
 use Rattle.unit.specs.declared.RateControl.the-variants.{Lossless, FixedQuantIndex, PictureBytes}
 use Rattle.unit.specs.Three.{Three, map3}
-use Rattle.unit.specs.Slices.{Grid, count}
+use Rattle.unit.specs.Slices.{Grid, sliceCount}
 use Rattle.unit.specs.Parameters.{Parameters, parameterBytes}
 use Rattle.unit.specs.Trim.{trimmed, bitsOf, trimmedCost}
 use Rattle.unit.specs.Elect.{elect}
@@ -32,11 +32,11 @@ scalersOf c xs = ceiling (needOf xs) c
 
 -- a byte that counts scalers, the numbers without trailing zeros, and ones
 unfoldable pub componentBits : ℕ → List ℤ → Bits
-componentBits c xs = lit 8 (scalersOf c xs) ++ (codes (trimmed xs) ++ ones (8 * (scalersOf c xs * c) - trimmedCost xs))
+componentBits c xs = lit 8 (scalersOf c xs) ++ (codes (trimmed xs) ++ oneBits (8 * (scalersOf c xs * c) - trimmedCost xs))
 
 -- p prefix bytes, which are zeros, the index and the components
 unfoldable pub highBits : ℕ → ℕ → ℕ → Three (List ℤ) → Bits
-highBits p c q z = zeros (8 * p) ++ (lit 8 q ++ (componentBits c (z .y) ++ (componentBits c (z .c1) ++ componentBits c (z .c2))))
+highBits p c q z = zeroBits (8 * p) ++ (lit 8 q ++ (componentBits c (z .y) ++ (componentBits c (z .c1) ++ componentBits c (z .c2))))
 
 -- a slice's size: 4, prefix and components, each rounded up to whole scalers
 unfoldable pub sliceSize : ℕ → ℕ → Three (List ℤ) → ℕ
@@ -58,13 +58,13 @@ module _ (g : Grid) (m : List ℕ) (b : Three (List Band)) (p : ℕ) where
   unfoldable pub highIndex : RateControl → ℕ → ℕ → ℕ → ℕ
   highIndex Lossless c n k = 0
   highIndex (FixedQuantIndex q) c n k = q
-  highIndex (PictureBytes t) c n k = elect 0 255 (λ q. leb (sliceSize p c (highNumbers k q)) (shareOf n (count g) k))
+  highIndex (PictureBytes t) c n k = elect 0 255 (λ q. leb (sliceSize p c (highNumbers k q)) (shareOf n (sliceCount g) k))
 
   unfoldable pub highPlan : ℕ → ℕ → ℕ → SlicePlan
   highPlan c k q = let z = highNumbers k q in record { index = q; numbers = z; kept = z; bits = highBits p c q z }
 
   abbrev pub highSlices : RateControl → ℕ → ℕ → List SlicePlan
-  highSlices r c n = span (λ k. highPlan c k (highIndex r c n k)) 0 (count g)
+  highSlices r c n = span (λ k. highPlan c k (highIndex r c n k)) 0 (sliceCount g)
 
 -- the largest need of a component
 unfoldable pub largestNeed : List SlicePlan → ℕ

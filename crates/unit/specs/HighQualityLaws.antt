@@ -10,7 +10,7 @@ use lib.Dec.{leb, ltb}
 use lib.IntN.{ℤ}
 use lib.ListN.{length, length-append, length-replicate}
 use Rattle.laws.specs.Rows.{span, length-span, map-span, span-ext, total}
-use Rattle.codewords.specs.Bit.{Bits, lit, ones, zeros}
+use Rattle.codewords.specs.Bit.{Bits, lit, oneBits, zeroBits}
 use Rattle.codewords.specs.BitLaws.{length-lit}
 use Rattle.codewords.specs.Code.{codes}
 use Rattle.codewords.specs.Read.{sintsb}
@@ -21,7 +21,7 @@ use Rattle.unit.specs.declared.PictureKind.the-variants.{HighQuality}
 use Rattle.unit.specs.declared.RateControl.{RateControl}
 use Rattle.unit.specs.declared.RateControl.the-variants.{Lossless, FixedQuantIndex, PictureBytes}
 use Rattle.unit.specs.Three.{Three, map3}
-use Rattle.unit.specs.Slices.{Grid, count}
+use Rattle.unit.specs.Slices.{Grid, sliceCount}
 use Rattle.unit.specs.Trim.{trimmed, trimmedCost}
 use Rattle.unit.specs.Plan.{SlicePlan}
 use Rattle.unit.specs.Quantised.{sizeOf, numbersHQ}
@@ -44,7 +44,7 @@ module _ (n m : ℕ) (some : 1 ≤ m) where
 
 -- a component behind its length
 unfoldable block : ℕ → List ℤ → Bits
-block c xs = codes (trimmed xs) ++ ones (8 * (scalersOf c xs * c) - trimmedCost xs)
+block c xs = codes (trimmed xs) ++ oneBits (8 * (scalersOf c xs * c) - trimmedCost xs)
 
 module _ (c : ℕ) (xs : List ℤ) (some : 1 ≤ c) where
   -- the scalers hold the numbers
@@ -59,7 +59,7 @@ module _ (c : ℕ) (xs : List ℤ) (some : 1 ≤ c) where
   unfolding block trimmedCost
   length-block =
       let r : ℕ = 8 * (scalersOf c xs * c) - trimmedCost xs in
-      length-append (codes (trimmed xs)) (ones r) ∙ rw (length-replicate r true) (omega (arith, cost-held))
+      length-append (codes (trimmed xs)) (oneBits r) ∙ rw (length-replicate r true) (omega (arith, cost-held))
 
   pub length-component : length (componentBits c xs) ≡ 8 + 8 * (scalersOf c xs * c)
   unfolding componentBits block
@@ -94,7 +94,7 @@ module _ (p c q : ℕ) (z : Three (List ℤ)) (some : 1 ≤ c) where
   pub reads-high : q < 256 → Needs (255 * c) z → Reads (readHigh p c (map3 length z)) (highBits p c q z) (record { index = q; numbers = z })
   unfolding readHigh highBits
   reads-high h f =
-      reads-bind _ (reads-bits (8 * p) (zeros (8 * p)) (length-replicate (8 * p) false)) (reads-bind _ (reads-nbits 8 q h)
+      reads-bind _ (reads-bits (8 * p) (zeroBits (8 * p)) (length-replicate (8 * p) false)) (reads-bind _ (reads-nbits 8 q h)
       (reads-bind _ (reads-component c (z .y) some (scalers-few c (z .y) some (f .y)))
       (reads-bind _ (reads-component c (z .c1) some (scalers-few c (z .c1) some (f .c1)))
       (reads-last _ (reads-component c (z .c2) some (scalers-few c (z .c2) some (f .c2))) (reads-pure _)))))
@@ -127,7 +127,7 @@ module _ (g : Grid) (m : List ℕ) where
   pub needs-most : (b : Three (List Band)) (p : ℕ) (r : RateControl) (c n most : ℕ) → Within most b → largestNeed (highSlices g m b p r c n) ≤ 16 * most
   unfolding highPlan highNumbers
   needs-most b p r c n most w =
-      needs-span _ 0 (count g) (16 * most)
+      needs-span _ 0 (sliceCount g) (16 * most)
       (λ k. record { y = need-most (b .y) _ k most (w .y); c1 = need-most (b .c1) _ k most (w .c1); c2 = need-most (b .c2) _ k most (w .c2) })
 
 -- ---- the scaler
@@ -210,20 +210,20 @@ module _ (g : Grid) (m : List ℕ) (b : Three (List Band)) (p : ℕ) (r : RateCo
   abbrev pub takes : ℕ → ℕ
   takes k = sliceSize p c (highNumbers g m b p k (highIndex g m b p r c n k))
 
-  pub high-many : length (highSlices g m b p r c n) ≡ count g
-  high-many = length-span _ 0 (count g)
+  pub high-many : length (highSlices g m b p r c n) ≡ sliceCount g
+  high-many = length-span _ 0 (sliceCount g)
 
   -- each takes its size
-  pub high-bytes : 1 ≤ c → map bytesOf (highSlices g m b p r c n) ≡ span takes 0 (count g)
+  pub high-bytes : 1 ≤ c → map bytesOf (highSlices g m b p r c n) ≡ span takes 0 (sliceCount g)
   unfolding highPlan
   high-bytes h =
-      map-span bytesOf _ 0 (count g)
-      ∙ span-ext _ takes 0 (count g)
+      map-span bytesOf _ 0 (sliceCount g)
+      ∙ span-ext _ takes 0 (sliceCount g)
       (λ k a e. ap (λ (x : ℕ). x / 8) (length-high p c (highIndex g m b p r c n k) (highNumbers g m b p k (highIndex g m b p r c n k)) h) ∙ omega arith)
 
 -- whether slice k fits its share at index q
 abbrev fitsShare : Grid → List ℕ → Three (List Band) → ℕ → ℕ → ℕ → ℕ → ℕ → Bool
-fitsShare g m b p c n k q = leb (sliceSize p c (highNumbers g m b p k q)) (shareOf n (count g) k)
+fitsShare g m b p c n k q = leb (sliceSize p c (highNumbers g m b p k q)) (shareOf n (sliceCount g) k)
 
 -- a slice's index is a byte
 pub high-index : (g : Grid) (m : List ℕ) (b : Three (List Band)) (p : ℕ) (r : RateControl) → RateFits HighQuality r

@@ -5,13 +5,13 @@ use Prim.Native.Nat.{ℕ, zero, suc, _+_, _*_, _-_, _/_, max}
 use lib.Dec.{leb}
 use lib.IntN.{ℤ, pos}
 use lib.ListN.{length}
-use Rattle.codewords.specs.Bit.{Bits, lit, ones}
+use Rattle.codewords.specs.Bit.{Bits, lit, oneBits}
 use Rattle.codewords.specs.Code.{codes, zeroFilled}
 use Rattle.laws.specs.Plane.{Plane}
 use Rattle.wavelet.specs.Planes.{Band}
 use Rattle.unit.specs.Three.{Three}
 use Rattle.unit.specs.Sizes.{intlog2}
-use Rattle.unit.specs.Slices.{Grid, count}
+use Rattle.unit.specs.Slices.{Grid, sliceCount}
 use Rattle.unit.specs.Parameters.{SliceParameters, lowDelay, Parameters, parameterBytes}
 use Rattle.unit.specs.Trim.{trimmed, bitsOf, trimmedCost, fitPrefix}
 use Rattle.unit.specs.Elect.{elect}
@@ -57,7 +57,7 @@ odds (x ∷ y ∷ s) = y ∷ odds s
 -- a slice of n bytes with these runs
 unfoldable pub lowBits : ℕ → ℕ → List ℤ → List ℤ → Bits
 lowBits n q ys cs =
-    lit 7 q ++ (lit (lengthBits n) (bitsOf ys) ++ (codes ys ++ (codes cs ++ ones (roomOf n - bitsOf ys - bitsOf cs))))
+    lit 7 q ++ (lit (lengthBits n) (bitsOf ys) ++ (codes ys ++ (codes cs ++ oneBits (roomOf n - bitsOf ys - bitsOf cs))))
 
 -- the runs that are written
 pub record Runs : Type 0 where
@@ -113,7 +113,7 @@ module _ (g : Grid) (m : List ℕ) (b : Three (List Band)) where
   unfoldable pub lowSlices : ℕ → Three Plane → ℕ → ℕ → List SlicePlan
   lowSlices n r k zero = []
   lowSlices n r k (suc j) =
-      let z = sliceBytes n (count g) k in
+      let z = sliceBytes n (sliceCount g) k in
       let q = lowIndex z r k in
       lowPlan z r k q ∷ lowSlices n (lowLeft r k q) (suc k) j
 

@@ -11,7 +11,7 @@ use lib.IntN.{ℤ}
 use lib.ListN.{length, length-append, length-replicate, replicate-append-replicate}
 use Rattle.laws.specs.Rows.{span, total}
 use Rattle.laws.specs.Plane.{Plane}
-use Rattle.codewords.specs.Bit.{Bits, lit, ones}
+use Rattle.codewords.specs.Bit.{Bits, lit, oneBits}
 use Rattle.codewords.specs.BitLaws.{length-lit, lit-none}
 use Rattle.codewords.specs.Code.{codes, zeroFilled}
 use Rattle.codewords.specs.CodeLaws.{codes-none}
@@ -20,7 +20,7 @@ use Rattle.codewords.specs.ReadLaws.{Reads, reads-pure, reads-bind, reads-last,
 use Rattle.codewords.specs.ByteLaws.{Full, full-length}
 use Rattle.wavelet.specs.Planes.{Band}
 use Rattle.unit.specs.Three.{Three, map3}
-use Rattle.unit.specs.Slices.{Grid, count}
+use Rattle.unit.specs.Slices.{Grid, sliceCount}
 use Rattle.unit.specs.Sizes.{intlog2}
 use Rattle.unit.specs.Parameters.{Parameters}
 use Rattle.unit.specs.Trim.{trimmed, bitsOf, trimmedCost, fitPrefix}
@@ -112,8 +112,8 @@ reads-blocks n q c l a b hq hl hr ea eb =
 block-only : (n : ℕ) (ys : List ℤ) → sintsb n (codes ys) ≡ zeroFilled n ys
 block-only n ys = ap (sintsb n) (sym (append-nil (codes ys))) ∙ block-codes n ys 0
 
-pub block-ones : (n j : ℕ) → sintsb n (ones j) ≡ zeroFilled n []
-block-ones n j = ap (λ (s : Bits). sintsb n (s ++ ones j)) (sym codes-none) ∙ block-codes n [] j
+pub block-ones : (n j : ℕ) → sintsb n (oneBits j) ≡ zeroFilled n []
+block-ones n j = ap (λ (s : Bits). sintsb n (s ++ oneBits j)) (sym codes-none) ∙ block-codes n [] j
 
 -- a slice of n bytes with runs ys and cs that fit
 module _ (n q : ℕ) (ys cs : List ℤ) (fits : bitsOf ys + bitsOf cs ≤ roomOf n) where
@@ -127,15 +127,15 @@ module _ (n q : ℕ) (ys cs : List ℤ) (fits : bitsOf ys + bitsOf cs ≤ roomOf
   unfolding lowBits
   reads-long c long index =
       let r : ℕ = roomOf n - bitsOf ys - bitsOf cs in
-      let e : length (codes cs ++ ones r) ≡ roomOf n - bitsOf ys = length-append (codes cs) (ones r) ∙ rw (length-replicate r true) (omega arith) in
+      let e : length (codes cs ++ oneBits r) ≡ roomOf n - bitsOf ys = length-append (codes cs) (oneBits r) ∙ rw (length-replicate r true) (omega arith) in
       subst (Reads (readLow n c) (lowBits n q ys cs)) (ap₂ (lowRead q) (block-only (c .y) ys) (block-codes (c .c1 + c .c2) cs r))
-      (reads-blocks n q c (bitsOf ys) (codes ys) (codes cs ++ ones r) index (omega (arith, room-said n long)) (omega arith) refl e)
+      (reads-blocks n q c (bitsOf ys) (codes ys) (codes cs ++ oneBits r) index (omega (arith, room-said n long)) (omega arith) refl e)
 
 -- a slice of one byte has no luma length: its last bit is a 1, whichever run it is of, and no number
-pub one-bit : (a b : ℕ) → a + b ≤ 1 → ones a ++ (ones b ++ ones (1 - a - b)) ≡ ones 1
+pub one-bit : (a b : ℕ) → a + b ≤ 1 → oneBits a ++ (oneBits b ++ oneBits (1 - a - b)) ≡ oneBits 1
 one-bit a b h =
     let e : a + (b + (1 - a - b)) ≡ 1 = omega arith in
-    ap (λ (s : Bits). ones a ++ s) (replicate-append-replicate b (1 - a - b) true) ∙ replicate-append-replicate a (b + (1 - a - b)) true ∙ ap ones e
+    ap (λ (s : Bits). oneBits a ++ s) (replicate-append-replicate b (1 - a - b) true) ∙ replicate-append-replicate a (b + (1 - a - b)) true ∙ ap oneBits e
 
 reads-short : (q : ℕ) (c : Three ℕ) (ys cs : List ℤ) → q < 128 → bitsOf ys + bitsOf cs ≤ roomOf 1
     → Reads (readLow 1 c) (lowBits 1 q ys cs) (lowRead q (zeroFilled (c .y) ys) (zeroFilled (c .c1 + c .c2) cs))
@@ -143,12 +143,12 @@ unfolding lowBits intlog2
 reads-short q c ys cs h f =
     let y = bare ys (omega arith) in
     let z = bare cs (omega arith) in
-    let e : codes ys ++ (codes cs ++ ones (1 - bitsOf ys - bitsOf cs)) ≡ ones 1 =
-    ap₂ (λ (s t : Bits). s ++ (t ++ ones (1 - bitsOf ys - bitsOf cs))) (y .bits) (z .bits) ∙ one-bit (bitsOf ys) (bitsOf cs) f in
+    let e : codes ys ++ (codes cs ++ oneBits (1 - bitsOf ys - bitsOf cs)) ≡ oneBits 1 =
+    ap₂ (λ (s t : Bits). s ++ (t ++ oneBits (1 - bitsOf ys - bitsOf cs))) (y .bits) (z .bits) ∙ one-bit (bitsOf ys) (bitsOf cs) f in
     subst₂ (Reads (readLow 1 c))
     (ap₂ (λ (s t : Bits). lit 7 q ++ (s ++ t)) (lit-none 0 ∙ sym (lit-none (bitsOf ys))) (sym e))
     (ap₂ (lowRead q) (block-ones (c .y) 0 ∙ sym (y .fills (c .y))) (block-ones (c .c1 + c .c2) 1 ∙ sym (z .fills (c .c1 + c .c2))))
-    (reads-blocks 1 q c 0 [] (ones 1) h (omega arith) (omega arith) refl refl)
+    (reads-blocks 1 q c 0 [] (oneBits 1) h (omega arith) (omega arith) refl refl)
 
 pub reads-low : (n q : ℕ) (c : Three ℕ) (ys cs : List ℤ) → 1 ≤ n → q < 128 → bitsOf ys + bitsOf cs ≤ roomOf n
     → Reads (readLow n c) (lowBits n q ys cs) (lowRead q (zeroFilled (c .y) ys) (zeroFilled (c .c1 + c .c2) cs))
@@ -203,12 +203,12 @@ module _ (g : Grid) (m : List ℕ) (b : Three (List Band)) (n : ℕ) where
   low-many r k (suc j) = ap suc (low-many _ (suc k) j)
 
   -- each takes exactly its slice bytes
-  pub low-bytes : (r : Three Plane) (k j : ℕ) → 1 ≤ count g → count g ≤ n → map bytesOf (lowSlices g m b n r k j) ≡ span (sliceBytes n (count g)) k j
+  pub low-bytes : (r : Three Plane) (k j : ℕ) → 1 ≤ sliceCount g → sliceCount g ≤ n → map bytesOf (lowSlices g m b n r k j) ≡ span (sliceBytes n (sliceCount g)) k j
   unfolding lowSlices lowPlan
   low-bytes r k zero a c = refl
   low-bytes r k (suc j) a c =
-      let z = sliceBytes n (count g) k in
+      let z = sliceBytes n (sliceCount g) k in
       let q = lowIndex g m b z r k in
       let e : bytesOf (lowPlanOf g m b z q (lowNumbers g m b r k q)) ≡ z =
-      ap (λ (x : ℕ). x / 8) (low-length g m b z q (lowNumbers g m b r k q) (bytes-some n (count g) k a c)) ∙ omega arith in
+      ap (λ (x : ℕ). x / 8) (low-length g m b z q (lowNumbers g m b r k q) (bytes-some n (sliceCount g) k a c)) ∙ omega arith in
       ap₂ _∷_ e (low-bytes (lowLeft g m b r k q) (suc k) j a c)

@@ -6,8 +6,8 @@ use mathlib.Core.Option.{Option, none, some}
 use Prim.Native.Nat.{ℕ, zero, suc, _+_}
 use native.Mathlib.Omega.{arith}
 use lib.Dec.{eqb}
-use lib.ListN.{length}
-use Rattle.quantiser.specs.AnnexD.{Table, tableD1, tableD2, tableD3, tableD4, tableD5, tableD6, tableD7, tableD8, nth, andThen, tables, tableOf, defaultMatrix}
+use lib.ListN.{length, getElem?}
+use Rattle.quantiser.specs.AnnexD.{Table, tableD1, tableD2, tableD3, tableD4, tableD5, tableD6, tableD7, tableD8, andThen, tables, tableOf, defaultMatrix}
 use Rattle.unit.specs.Subbands.{subbandCount}
 use Rattle.unit.specs.Refusal.{anyAbove}
 use Rattle.unit.specs.Valid.{AllMost}
@@ -44,14 +44,14 @@ unfolding tableD1 tableD2 tableD3 tableD4 tableD5 tableD6 tableD7 tableD8
 annex-d = refl
 
 -- ---- what a lookup finds
-in-block : (k d : ℕ) (b : List (List ℕ)) → badMatrices k d b ≡ false → (i j : ℕ) → j ≡ d + i → MatrixIf (subbandCount k j) (nth b i)
+in-block : (k d : ℕ) (b : List (List ℕ)) → badMatrices k d b ≡ false → (i j : ℕ) → j ≡ d + i → MatrixIf (subbandCount k j) (getElem? b i)
 in-block k d [] e i j h = tt
 in-block k d (vs ∷ b) e zero j h =
     let v = both (same (length vs) (subbandCount k d)) (all-most 255 vs) .0 (or-none (badMatrix (subbandCount k d) vs) (badMatrices k (suc d) b) .0 e .0) in
     record { many = omega arith; small = v .1 }
 in-block k d (vs ∷ b) e (suc i) j h = in-block k (suc d) b (or-none (badMatrix (subbandCount k d) vs) (badMatrices k (suc d) b) .0 e .1) i j (omega arith)
 
-in-table : (k : ℕ) (t : Table) → badBlocks k t ≡ false → (i j d : ℕ) → j ≡ k + i → MatrixIf (subbandCount j d) (andThen (nth t i) (λ b. nth b d))
+in-table : (k : ℕ) (t : Table) → badBlocks k t ≡ false → (i j d : ℕ) → j ≡ k + i → MatrixIf (subbandCount j d) (andThen (getElem? t i) (λ b. getElem? b d))
 in-table k [] e i j d h = tt
 in-table k (b ∷ t) e zero j d h =
     let g : j ≡ k = omega arith in
@@ -60,9 +60,9 @@ in-table k (b ∷ t) e (suc i) j d h = in-table (suc k) t (or-none (badMatrices 
 
 module _ (d k : ℕ) where
   abbrev of-table : Option Table → Option (List ℕ)
-  of-table o = andThen o (λ t. andThen (nth t k) (λ b. nth b d))
+  of-table o = andThen o (λ t. andThen (getElem? t k) (λ b. getElem? b d))
 
-  in-tables : (ts : List Table) → badTables ts ≡ false → (i : ℕ) → MatrixIf (subbandCount k d) (of-table (nth ts i))
+  in-tables : (ts : List Table) → badTables ts ≡ false → (i : ℕ) → MatrixIf (subbandCount k d) (of-table (getElem? ts i))
   in-tables [] e i = tt
   in-tables (t ∷ ts) e zero = in-table 0 t (or-none (badBlocks 0 t) (badTables ts) .0 e .0) k k d (omega arith)
   in-tables (t ∷ ts) e (suc i) = in-tables ts (or-none (badBlocks 0 t) (badTables ts) .0 e .1) i
@@ -76,5 +76,5 @@ module _ (d k : ℕ) where
   unfolding defaultMatrix
   default-matrix w h =
       let all = in-tables (tableD8 ∷ tables) annex-d in
-      by-cond (eqb w h) (nth tables w) (cond (eqb w 3 && eqb h 1) (some tableD8) none) (all (suc w))
+      by-cond (eqb w h) (getElem? tables w) (cond (eqb w 3 && eqb h 1) (some tableD8) none) (all (suc w))
       (by-cond (eqb w 3 && eqb h 1) (some tableD8) none (all 0) tt)

@@ -12,7 +12,7 @@ use Rattle.quantiser.specs.Quant.{quantFactor, forwardQuant, inverseQuant, band
 use Rattle.wavelet.specs.Planes.{Band}
 use Rattle.unit.specs.declared.PictureKind.{PictureKind}
 use Rattle.unit.specs.declared.PictureKind.the-variants.{LowDelay, HighQuality}
-use Rattle.unit.specs.Slices.{Grid, count, partSize, sliceOf}
+use Rattle.unit.specs.Slices.{Grid, sliceCount, partSize, sliceOf}
 use Rattle.unit.specs.Predict.{predict}
 use Rattle.unit.specs.Quantised.{sizeOf, numbersFrom, numbersHQ, numberAt, rebuiltAt, rebuilt, numbersLD}
 use Rattle.unit.specs.Reader.{indexAt, plainBands, predictedBand, readBandsBy}
@@ -98,7 +98,7 @@ near-bands g m q n (b ∷ bs) (r ∷ rs) o = (
 
 module _ (g : Grid) (hm : 0 < g .down) (hn : 0 < g .across) (m : List ℕ) (q : ℕ → ℕ) where
   -- where every slice has index 0, what is read is the coefficients
-  pub equal-bands : ((k : ℕ) → k < count g → q k ≡ 0) → (n : ℕ) (bs rs : List Band) → ReadBands g m q n bs rs → EqualBands bs rs
+  pub equal-bands : ((k : ℕ) → k < sliceCount g → q k ≡ 0) → (n : ℕ) (bs rs : List Band) → ReadBands g m q n bs rs → EqualBands bs rs
   equal-bands zeros n [] [] o = tt
   equal-bands zeros n [] (r ∷ rs) o = absurd o
   equal-bands zeros n (b ∷ bs) [] o = absurd o
@@ -117,7 +117,7 @@ module _ (g : Grid) (hm : 0 < g .down) (hn : 0 < g .across) (m : List ℕ) (q : 
 
   -- ---- what is read of slices
   module _ (n : ℕ) (room : n < 2 ^ 51) where
-    plain-read : (bs : List Band) (j : ℕ) (s : ℕ → List ℤ) → AllSmall n bs → ((k : ℕ) → k < count g → s k ≡ numbersFrom g m j bs (q k) k)
+    plain-read : (bs : List Band) (j : ℕ) (s : ℕ → List ℤ) → AllSmall n bs → ((k : ℕ) → k < sliceCount g → s k ≡ numbersFrom g m j bs (q k) k)
         → ReadBands g m q j bs (plainBands g m q j (map sizeOf bs) s)
     unfolding numbersFrom plainBands
     plain-read [] j s small e = tt
@@ -139,7 +139,7 @@ module _ (g : Grid) (hm : 0 < g .down) (hn : 0 < g .across) (m : List ℕ) (q : 
     )
 
     predicted-read : (b : Band) (bs : List Band) (s : ℕ → List ℤ) → Small n (b .high) (b .wide) (b .plane)
-        → ((k : ℕ) → k < count g → s k ≡ numbersBy LowDelay g m (b ∷ bs) q k) → ReadBand g m q 0 b (predictedBand g m q (sizeOf b) s)
+        → ((k : ℕ) → k < sliceCount g → s k ≡ numbersBy LowDelay g m (b ∷ bs) q k) → ReadBand g m q 0 b (predictedBand g m q (sizeOf b) s)
     predicted-read b bs s small e =
         record {
           high = refl;
@@ -154,7 +154,7 @@ module _ (g : Grid) (hm : 0 < g .down) (hn : 0 < g .across) (m : List ℕ) (q : 
 
     -- every coefficient that is read of a component's slices
     pub bands-read : (kind : PictureKind) (bs : List Band) (s : ℕ → List ℤ) → AllSmall n bs
-        → ((k : ℕ) → k < count g → s k ≡ numbersBy kind g m bs q k) → ReadBands g m q 0 bs (readBandsBy g m q kind (map sizeOf bs) s)
+        → ((k : ℕ) → k < sliceCount g → s k ≡ numbersBy kind g m bs q k) → ReadBands g m q 0 bs (readBandsBy g m q kind (map sizeOf bs) s)
     unfolding numbersLD
     bands-read kind [] s small e = tt
     bands-read HighQuality (b ∷ bs) s small e = plain-read (b ∷ bs) 0 s small e

@@ -24,7 +24,7 @@ numberOf (Refused n) = n
 
 -- its number and, for an accepted call, its values: length, cut slices and final scaler
 abbrev pub tells : Answer → List ℕ
-tells (Accepted c) = 0 ∷ c .length ∷ c .«cut_slices» ∷ c .«slice_size_scaler» ∷ []
+tells (Accepted c) = 0 ∷ c .written ∷ c .«cut_slices» ∷ c .«slice_size_scaler» ∷ []
 tells (Refused n) = n ∷ []
 
 -- the low-delay slices that carry index 127
@@ -43,9 +43,9 @@ scalerIn (highQuality p c) d = c
 
 unfoldable pub codedOf : Settings → Plan → Coded
 codedOf s a = record {
-  length = lengthOf s a;
+  written = lengthOf s a;
   «cut_slices» = cutCount (s .kind) a;
-  «slice_size_scaler» = scalerIn (a .parameters .slice) (s .«slice_size_scaler»);
+  «slice_size_scaler» = scalerIn (a .parameters .sliceParameters) (s .«slice_size_scaler»);
 }
 
 pub record Outcome : Type 0 where

@@ -9,7 +9,7 @@ use lib.Dec.{T, eqb, leb, le→leb, eqb→eq, nleb→lt}
 use lib.ListN.{length}
 use Rattle.codewords.specs.Bit.{Bits}
 use Rattle.codewords.specs.Code.{codeU}
-use Rattle.codewords.specs.Read.{Parser, pure, such, _>>=_, readBool, readUint}
+use Rattle.codewords.specs.Read.{Parser, give, such, _>>=_, readBool, readUint}
 use Rattle.codewords.specs.ReadLaws.{Reads, reads-pure, reads-bind, reads-last, reads-such, reads-bool, reads-uint}
 use Rattle.quantiser.specs.AnnexD.{defaultMatrix}
 use Rattle.unit.specs.declared.PictureKind.{PictureKind}
@@ -35,7 +35,7 @@ off a b e = by (eqb a b) refl e
 
 -- 12.4.4 where the flag of a number says whether it differs from what stands for it
 reads-pair : (t : Parameters) → t .waveletHo ≤ 6
-    → Reads {A = Extended} (readFlagged (λ n. leb n 6) (t .wavelet) >>= λ h. readFlagged anyNumber 0 >>= λ k. pure (record { wavelet = h; depth = k }))
+    → Reads {A = Extended} (readFlagged (λ n. leb n 6) (t .wavelet) >>= λ h. readFlagged anyNumber 0 >>= λ k. give (record { wavelet = h; depth = k }))
     (extendedBits t) (record { wavelet = t .waveletHo; depth = t .depthHo })
 unfolding extendedBits
 reads-pair t h =
@@ -49,8 +49,8 @@ reads-extended version t h l = by (leb 3 version) (λ u. l (nleb→lt 3 version 
   where
     by : (b : Bool) → (T (not b) → (t .waveletHo ≡ t .wavelet) × (t .depthHo ≡ 0))
         → Reads {A = Extended} (elim b as (λ z. Parser Extended) [
-          | true ↦ readFlagged (λ n. leb n 6) (t .wavelet) >>= λ h. readFlagged anyNumber 0 >>= λ k. pure (record { wavelet = h; depth = k })
-          | false ↦ pure (record { wavelet = t .wavelet; depth = 0 })
+          | true ↦ readFlagged (λ n. leb n 6) (t .wavelet) >>= λ h. readFlagged anyNumber 0 >>= λ k. give (record { wavelet = h; depth = k })
+          | false ↦ give (record { wavelet = t .wavelet; depth = 0 })
         ]) (cond b (extendedBits t) []) (record { wavelet = t .waveletHo; depth = t .depthHo })
     by true g = reads-pair t h
     by false g = let e = g tt in rw (e .0, e .1) (reads-pure _)
@@ -95,5 +95,5 @@ reads-parameters version kind t l =
     (reads-bind _ (reads-extended version t (l .wavelet-ho) (l .plain))
     (reads-bind _ (reads-such (leb 1) (le→leb 1 (t .across) (l .across)) (reads-uint (t .across)))
     (reads-bind _ (reads-such (leb 1) (le→leb 1 (t .down) (l .down)) (reads-uint (t .down)))
-    (reads-bind _ (reads-slice-parameters kind (t .slice) (l .slice))
+    (reads-bind _ (reads-slice-parameters kind (t .sliceParameters) (l .sliceParameters))
     (reads-last _ (reads-matrix (subbandCount (t .depthHo) (t .depth)) (t .matrix) (defaultMatrix (t .wavelet) (t .waveletHo) (t .depth) (t .depthHo)) (l .matrix)) (reads-pure t)))))))

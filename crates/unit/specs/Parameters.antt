@@ -5,7 +5,7 @@ use mathlib.Core.Option.{Option, none, some}
 use Prim.Native.Nat.{ℕ, zero, suc, _+_, _*_, _/_, _%_, _-_}
 use lib.Dec.{eqb, leb}
 use lib.ListN.{length}
-use Rattle.codewords.specs.Bit.{Bits, zeros}
+use Rattle.codewords.specs.Bit.{Bits, zeroBits}
 use Rattle.codewords.specs.Code.{codeU}
 
 -- 12.4.5.2: what slices are sized by
@@ -20,7 +20,7 @@ pub record Parameters : Type 0 where
   pub depthHo : ℕ
   pub across : ℕ
   pub down : ℕ
-  pub slice : SliceParameters
+  pub sliceParameters : SliceParameters
   -- a custom matrix, if one is carried
   pub matrix : Option (List ℕ)
 
@@ -50,11 +50,11 @@ matrixBits (some vs) = true ∷ codesU vs
 unfoldable pub parameterBits : ℕ → Parameters → Bits
 parameterBits version t =
     codeU (t .wavelet) ++ (codeU (t .depth) ++ (cond (leb 3 version) (extendedBits t) [] ++ (codeU (t .across) ++ (codeU (t .down)
-    ++ (sliceParameterBits (t .slice) ++ matrixBits (t .matrix))))))
+    ++ (sliceParameterBits (t .sliceParameters) ++ matrixBits (t .matrix))))))
 
 -- zeros that fill the last byte of n bits
 abbrev pub fill : ℕ → Bits
-fill n = zeros ((8 - n % 8) % 8)
+fill n = zeroBits ((8 - n % 8) % 8)
 
 -- the bytes that they take
 unfoldable pub parameterBytes : ℕ → Parameters → ℕ

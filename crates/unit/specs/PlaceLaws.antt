@@ -17,7 +17,7 @@ use lib.IntN.{ℤ, pos}
 use Rattle.laws.specs.Rows.{getD-span}
 use Rattle.laws.specs.Plane.{Plane, row-lt, column-lt}
 use Rattle.unit.specs.Sizes.{Size}
-use Rattle.unit.specs.Slices.{bound, region, Grid, count, top, bottom, left, right, partSize, part, partOf, sliceOf, placeIn}
+use Rattle.unit.specs.Slices.{bound, region, Grid, sliceCount, top, bottom, left, right, partSize, part, partOf, sliceOf, placeIn}
 use Rattle.unit.specs.Quantised.{inside}
 use Rattle.unit.specs.Reader.{numberPlane}
 use Rattle.unit.specs.SliceLaws.{length-part}
@@ -105,7 +105,7 @@ slice-mono g z b a y x hy hx hb ha =
     omega (arith, mul-le-mul-right (g .across) (part-mono (g .down) (z .height) b y hy hb), part-mono (g .across) (z .width) a x hx ha)
 
 module _ (g : Grid) (z : Size) (hm : 0 < g .down) (hn : 0 < g .across) (y x : ℕ) (hy : y < z .height) (hx : x < z .width) where
-  pub slice-lt : sliceOf g z y x < count g
+  pub slice-lt : sliceOf g z y x < sliceCount g
   slice-lt = digits-lt (part-lt (g .down) (z .height) y hm hy) (part-lt (g .across) (z .width) x hn hx)
 
   slice-row : sliceOf g z y x / g .across ≡ partOf (g .down) (z .height) y
@@ -275,5 +275,5 @@ module _ (g : Grid) (z : Size) (s : ℕ → List ℤ) (p : Plane) (hm : 0 < g .d
       by (no ne) next = put-other k (s k) (putAll g z s p k) ne ∙ next (omega arith)
 
   -- after all slices every place has its own slice's number, whatever stood there before
-  pub put-plane : putAll g z s p (count g) y x ≡ numberPlane g z s y x
-  put-plane = put-after (count g) (slice-lt g z hm hn y x hy hx)
+  pub put-plane : putAll g z s p (sliceCount g) y x ≡ numberPlane g z s y x
+  put-plane = put-after (sliceCount g) (slice-lt g z hm hn y x hy hx)

@@ -16,7 +16,7 @@ use Rattle.unit.specs.declared.RateControl.{RateControl}
 use Rattle.unit.specs.declared.Settings.{Settings}
 use Rattle.unit.specs.Three.{Three}
 use Rattle.unit.specs.Sizes.{Size}
-use Rattle.unit.specs.Slices.{Grid, count}
+use Rattle.unit.specs.Slices.{Grid, sliceCount}
 use Rattle.unit.specs.Quantised.{sizeOf, numbersLD, leftLD}
 use Rattle.unit.specs.Plan.{SlicePlan}
 use Rattle.unit.specs.LowDelay.{sliceBytes, lowNumbers, lowLeft, lowIndex, lowPlan, lowSlices, zeroPlane, zeroPlanes}
@@ -51,8 +51,8 @@ indexIn ps k = getD (map (λ (s : SlicePlan). s .index) ps) k 0
 
 -- The slices ps are a kind's slices of the coefficients b.
 pub record Planned (kind : PictureKind) (g : Grid) (m : List ℕ) (b : Three (List Band)) (ps : List SlicePlan) : Type 0 where
-  pub many : length ps ≡ count g
-  pub numbers : (c : Component) (k : ℕ) → k < count g → pick c (planAt ps k .numbers) ≡ numbersBy kind g m (pick c b) (indexIn ps) k
+  pub many : length ps ≡ sliceCount g
+  pub numbers : (c : Component) (k : ℕ) → k < sliceCount g → pick c (planAt ps k .numbers) ≡ numbersBy kind g m (pick c b) (indexIn ps) k
 
 module _ (f : ℕ → SlicePlan) (n : ℕ) where
   pub plan-span : (k : ℕ) → k < n → planAt (span f 0 n) k ≡ f k
@@ -65,13 +65,13 @@ module _ (f : ℕ → SlicePlan) (n : ℕ) where
 
 -- slices that are given one by one
 pub planned-span : (kind : PictureKind) (g : Grid) (m : List ℕ) (b : Three (List Band)) (f : ℕ → SlicePlan)
-    → ((c : Component) (k : ℕ) → pick c (f k .numbers) ≡ numbersBy kind g m (pick c b) (λ j. f j .index) k) → Planned kind g m b (span f 0 (count g))
+    → ((c : Component) (k : ℕ) → pick c (f k .numbers) ≡ numbersBy kind g m (pick c b) (λ j. f j .index) k) → Planned kind g m b (span f 0 (sliceCount g))
 planned-span kind g m b f e = record {
-  many = length-span f 0 (count g);
+  many = length-span f 0 (sliceCount g);
   numbers = λ c k hk.
-      ap (λ (s : SlicePlan). pick c (s .numbers)) (plan-span f (count g) k hk)
+      ap (λ (s : SlicePlan). pick c (s .numbers)) (plan-span f (sliceCount g) k hk)
       ∙ e c k
-      ∙ numbersBy-cong kind g m (pick c b) (λ j. f j .index) (indexIn (span f 0 (count g))) k (λ j h. sym (index-span f (count g) j (omega arith)));
+      ∙ numbersBy-cong kind g m (pick c b) (λ j. f j .index) (indexIn (span f 0 (sliceCount g))) k (λ j h. sym (index-span f (sliceCount g) j (omega arith)));
 }
 
 -- ---- high quality
@@ -92,15 +92,15 @@ module _ (g : Grid) (m : List ℕ) (b : Three (List Band)) (p : ℕ) (r : RateCo
 -- the rebuilt planes that slices 0 to k - 1 leave
 unfoldable pub lowState : Grid → List ℕ → Three (List Band) → ℕ → ℕ → Three Plane
 lowState g m b n zero = zeroPlanes
-lowState g m b n (suc k) = let r = lowState g m b n k in lowLeft g m b r k (lowIndex g m b (sliceBytes n (count g) k) r k)
+lowState g m b n (suc k) = let r = lowState g m b n k in lowLeft g m b r k (lowIndex g m b (sliceBytes n (sliceCount g) k) r k)
 
 module _ (g : Grid) (m : List ℕ) (b : Three (List Band)) (n : ℕ) where
   -- the index of slice k
   abbrev pub lowElected : ℕ → ℕ
-  lowElected k = lowIndex g m b (sliceBytes n (count g) k) (lowState g m b n k) k
+  lowElected k = lowIndex g m b (sliceBytes n (sliceCount g) k) (lowState g m b n k) k
 
   abbrev pub lowAt : ℕ → SlicePlan
-  lowAt k = lowPlan g m b (sliceBytes n (count g) k) (lowState g m b n k) k (lowElected k)
+  lowAt k = lowPlan g m b (sliceBytes n (sliceCount g) k) (lowState g m b n k) k (lowElected k)
 
   pub low-span : (k j : ℕ) → lowSlices g m b n (lowState g m b n k) k j ≡ span lowAt k j
   unfolding lowSlices lowState
@@ -134,9 +134,9 @@ module _ (g : Grid) (m : List ℕ) (b : Three (List Band)) (n : ℕ) where
   low-numbers c k =
       numbers-pick c (lowState g m b n k) k (lowElected k) ∙ ap (λ (r : Plane). numbersLD g m (pick c b) r (lowElected k) k) (state-pick c k)
 
-  pub low-planned : Planned LowDelay g m b (lowSlices g m b n zeroPlanes 0 (count g))
+  pub low-planned : Planned LowDelay g m b (lowSlices g m b n zeroPlanes 0 (sliceCount g))
   unfolding lowState
-  low-planned = rw (low-span 0 (count g)) (planned-span LowDelay g m b lowAt low-numbers)
+  low-planned = rw (low-span 0 (sliceCount g)) (planned-span LowDelay g m b lowAt low-numbers)
 
 -- the slices of a call's plan
 pub call-planned : (s : Settings) (m : List ℕ) (p : Three (List ℕ))

@@ -11,7 +11,7 @@ use lib.IntN.{ℤ, pos, _+ℤ_}
 use lib.ListN.{length, getD, drop}
 use Rattle.codewords.specs.Bit.{Bits}
 use Rattle.codewords.specs.Bytes.{fromBytes}
-use Rattle.codewords.specs.Read.{Read, got, stop, Parser, pure, such, _>>=_, readNbits, readBool, readUint, byteAlign, readBits, sintsb}
+use Rattle.codewords.specs.Read.{Read, got, stop, Parser, give, such, _>>=_, readNbits, readBool, readUint, byteAlign, readBits, sintsb}
 use Rattle.laws.specs.Plane.{Plane}
 use Rattle.quantiser.specs.Standard.{inverse}
 use Rattle.quantiser.specs.AnnexD.{defaultMatrix}
@@ -21,7 +21,7 @@ use Rattle.unit.specs.declared.PictureKind.the-variants.{LowDelay, HighQ
 use Rattle.unit.specs.Three.{Three}
 use Rattle.unit.specs.Sizes.{Size, offsetOf}
 use Rattle.unit.specs.Subbands.{subbandSizes, subbandCount}
-use Rattle.unit.specs.Slices.{Grid, count, partSize, sliceOf, placeIn}
+use Rattle.unit.specs.Slices.{Grid, sliceCount, partSize, sliceOf, placeIn}
 use Rattle.unit.specs.Parameters.{SliceParameters, lowDelay, highQuality, Parameters}
 use Rattle.unit.specs.LowDelay.{sliceBytes, lengthBits, roomOf, evens, odds}
 use Rattle.unit.specs.Predict.{scan}
@@ -30,7 +30,7 @@ use Rattle.unit.specs.Predict.{scan}
 pub record SliceRead : Type 0 where
   -- in bytes, from the start of the unit
   pub offset : ℕ
-  pub length : ℕ
+  pub byteCount : ℕ
   pub index : ℕ
   pub numbers : Three (List ℤ)
 
@@ -43,7 +43,7 @@ pub record Reading : Type 0 where
 -- ---- transform parameters, 12.4
 -- a number that is there if a flag is set
 unfoldable pub readFlagged : (ℕ → Bool) → ℕ → Parser ℕ
-readFlagged test n = readBool >>= λ f. elim f [ true ↦ such readUint test | false ↦ pure n ]
+readFlagged test n = readBool >>= λ f. elim f [ true ↦ such readUint test | false ↦ give n ]
 
 abbrev pub anyNumber : ℕ → Bool
 anyNumber n = true
@@ -56,18 +56,18 @@ pub record Extended : Type 0 where
 unfoldable pub readExtended : ℕ → ℕ → Parser Extended
 readExtended version w =
     elim (leb 3 version) [
-      | true ↦ readFlagged (λ n. leb n 6) w >>= λ h. readFlagged anyNumber 0 >>= λ k. pure (record { wavelet = h; depth = k })
-      | false ↦ pure (record { wavelet = w; depth = 0 })
+      | true ↦ readFlagged (λ n. leb n 6) w >>= λ h. readFlagged anyNumber 0 >>= λ k. give (record { wavelet = h; depth = k })
+      | false ↦ give (record { wavelet = w; depth = 0 })
     ]
 
 -- 12.4.5.2
 abbrev pub readSliceParameters : PictureKind → Parser SliceParameters
-readSliceParameters LowDelay = readUint >>= λ n. such readUint (λ d. leb 1 d && leb d n) >>= λ d. pure (lowDelay n d)
-readSliceParameters HighQuality = readUint >>= λ p. such readUint (leb 1) >>= λ c. pure (highQuality p c)
+readSliceParameters LowDelay = readUint >>= λ n. such readUint (λ d. leb 1 d && leb d n) >>= λ d. give (lowDelay n d)
+readSliceParameters HighQuality = readUint >>= λ p. such readUint (leb 1) >>= λ c. give (highQuality p c)
 
 unfoldable pub readUints : ℕ → Parser (List ℕ)
-readUints zero = pure []
-readUints (suc n) = readUint >>= λ v. readUints n >>= λ vs. pure (v ∷ vs)
+readUints zero = give []
+readUints (suc n) = readUint >>= λ v. readUints n >>= λ vs. give (v ∷ vs)
 
 abbrev pub isSome : {A : Type 0} → Option A → Bool
 isSome none = false
@@ -76,7 +76,7 @@ isSome (some x) = true
 -- 12.4.5.3: n values, or the default, which must be there
 unfoldable pub readMatrix : Bool → ℕ → Parser (Option (List ℕ))
 readMatrix default n =
-    such readBool (λ f. f || default) >>= λ f. elim f [ true ↦ readUints n >>= λ vs. pure (some vs) | false ↦ pure none ]
+    such readBool (λ f. f || default) >>= λ f. elim f [ true ↦ readUints n >>= λ vs. give (some vs) | false ↦ give none ]
 
 -- 12.4.1
 unfoldable pub readParameters : PictureKind → ℕ → Parser Parameters
@@ -88,7 +88,7 @@ readParameters kind version =
     such readUint (leb 1) >>= λ b.
     readSliceParameters kind >>= λ p.
     readMatrix (isSome (defaultMatrix w (e .wavelet) d (e .depth))) (subbandCount (e .depth) d) >>= λ m.
-    pure (record { wavelet = w; depth = d; waveletHo = e .wavelet; depthHo = e .depth; across = a; down = b; slice = p; matrix = m })
+    give (record { wavelet = w; depth = d; waveletHo = e .wavelet; depthHo = e .depth; across = a; down = b; sliceParameters = p; matrix = m })
 
 -- ---- slices, 13.5
 abbrev pub gridIn : Parameters → Grid
@@ -110,11 +110,11 @@ readLow n c =
     such (readNbits (lengthBits n)) (λ l. leb l (roomOf n)) >>= λ l.
     readBits l >>= λ a.
     readBits (roomOf n - l) >>= λ b.
-    pure (let z = sintsb (c .c1 + c .c2) b in record { index = q; numbers = record { y = sintsb (c .y) a; c1 = evens z; c2 = odds z } })
+    give (let z = sintsb (c .c1 + c .c2) b in record { index = q; numbers = record { y = sintsb (c .y) a; c1 = evens z; c2 = odds z } })
 
 -- 13.5.4: a byte that counts scalers, and that many bytes
 unfoldable pub readComponent : ℕ → ℕ → Parser (List ℤ)
-readComponent scaler n = readNbits 8 >>= λ l. readBits (8 * (l * scaler)) >>= λ b. pure (sintsb n b)
+readComponent scaler n = readNbits 8 >>= λ l. readBits (8 * (l * scaler)) >>= λ b. give (sintsb n b)
 
 unfoldable pub readHigh : ℕ → ℕ → Three ℕ → Parser SliceNumbers
 readHigh prefix scaler c =
@@ -123,7 +123,7 @@ readHigh prefix scaler c =
     readComponent scaler (c .y) >>= λ y.
     readComponent scaler (c .c1) >>= λ u.
     readComponent scaler (c .c2) >>= λ v.
-    pure (record { index = q; numbers = record { y = y; c1 = u; c2 = v } })
+    give (record { index = q; numbers = record { y = y; c1 = u; c2 = v } })
 
 abbrev pub readSliceBy : SliceParameters → ℕ → Three ℕ → Parser SliceNumbers
 readSliceBy (lowDelay n d) k c = readLow (sliceBytes n d k) c
@@ -139,11 +139,11 @@ readSlice total p k c =
     bitsLeft >>= λ a.
     readSliceBy p k c >>= λ r.
     bitsLeft >>= λ b.
-    pure (record { offset = (total - a) / 8; length = (a - b) / 8; index = r .index; numbers = r .numbers })
+    give (record { offset = (total - a) / 8; byteCount = (a - b) / 8; index = r .index; numbers = r .numbers })
 
 unfoldable pub readEach : {A : Type 0} → (ℕ → Parser A) → ℕ → ℕ → Parser (List A)
-readEach p k zero = pure []
-readEach p k (suc n) = p k >>= λ x. readEach p (suc k) n >>= λ xs. pure (x ∷ xs)
+readEach p k zero = give []
+readEach p k (suc n) = p k >>= λ x. readEach p (suc k) n >>= λ xs. give (x ∷ xs)
 
 -- the sizes of the subbands of the components
 abbrev pub bandSizesIn : Three Size → Parameters → Three (List Size)
@@ -178,16 +178,16 @@ readBits8 z version bytes =
     readNbits 32 >>= λ number.
     readParameters (kindOf c) version >>= λ t.
     byteAlign >>= λ aligned.
-    readEach (λ k. readSlice (8 * bytes) (t .slice) k (countsIn z t k)) 0 (count (gridIn t)) >>= λ ss.
+    readEach (λ k. readSlice (8 * bytes) (t .sliceParameters) k (countsIn z t k)) 0 (sliceCount (gridIn t)) >>= λ ss.
     readEnd >>= λ end.
-    pure (record { kind = kindOf c; number = number; parameters = t; slices = ss })
+    give (record { kind = kindOf c; number = number; parameters = t; slices = ss })
 
 unfoldable pub readUnit : Three Size → ℕ → List ℕ → Read Reading
 readUnit z version bytes = readBits8 z version (length bytes) (fromBytes bytes)
 
 -- ---- coefficients, 13.5.5 and 13.5.6
 abbrev pub emptySlice : SliceRead
-emptySlice = record { offset = 0; length = 0; index = 0; numbers = record { y = []; c1 = []; c2 = [] } }
+emptySlice = record { offset = 0; byteCount = 0; index = 0; numbers = record { y = []; c1 = []; c2 = [] } }
 
 abbrev pub sliceAt : Reading → ℕ → SliceRead
 sliceAt r k = getD (r .slices) k emptySlice

@@ -15,7 +15,7 @@ use Rattle.laws.specs.Integer.{parts, var, _⊞_, _⊟_, abs-sub}
 use Rattle.quantiser.specs.Standard.{signed, inverse}
 use Rattle.quantiser.specs.Quant.{bandIndex}
 use Rattle.wavelet.specs.Planes.{Band}
-use Rattle.unit.specs.Slices.{Grid, count, sliceOf}
+use Rattle.unit.specs.Slices.{Grid, sliceCount, sliceOf}
 use Rattle.unit.specs.Predict.{predict, scan}
 use Rattle.unit.specs.Quantised.{sizeOf, inside, numbersFrom, numberAt, rebuiltAt, rebuilt, numbersLD, leftLD}
 use Rattle.unit.specs.LowDelay.{zeroPlane}
@@ -171,7 +171,7 @@ module _ (n : ℕ) (room : n < 2 ^ 51) where
 
     -- ---- the reader's plane
     pub read-whole : (bs : List Band) (s : ℕ → List ℤ) → 0 < g .down → 0 < g .across
-        → ((k : ℕ) → k < count g → s k ≡ numbersLD g m (b ∷ bs) (stateAt g m (b ∷ bs) q k) (q k) k)
+        → ((k : ℕ) → k < sliceCount g → s k ≡ numbersLD g m (b ∷ bs) (stateAt g m (b ∷ bs) q k) (q k) k)
         → Agree (b .high) (b .wide) (whole g m q b) (predictedBand g m q (sizeOf b) s .plane)
     read-whole bs s hm hn e =
         let w = whole g m q b in

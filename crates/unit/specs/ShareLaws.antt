@@ -14,7 +14,7 @@ use lib.ListN.{length, getD}
 use lib.Arith.{digits-div, digits-mod}
 use Rattle.laws.specs.Rows.{span, total}
 use Rattle.laws.specs.Plane.{Plane}
-use Rattle.codewords.specs.Bit.{Bits, lit, value, ones}
+use Rattle.codewords.specs.Bit.{Bits, lit, value, oneBits}
 use Rattle.codewords.specs.BitLaws.{length-lit, lit-none, value-lt, lit-value}
 use Rattle.codewords.specs.Code.{zeroFilled}
 use Rattle.codewords.specs.Read.{Read, got, stop}
@@ -85,39 +85,39 @@ numbersIn d (stop s) = d
 
 -- seven bits s and a 1
 module _ (c : Three ℕ) (s : Bits) (seven : length s ≡ 7) where
-  pub byte-reads : Reads (readLow 1 c) (s ++ ones 1) (noRead (value 0 s) c)
+  pub byte-reads : Reads (readLow 1 c) (s ++ oneBits 1) (noRead (value 0 s) c)
   unfolding intlog2
   byte-reads =
       let q = value 0 s in
       let h : q < 2 ^ 7 = subst (λ (k : ℕ). q < 2 ^ k) seven (value-lt s) in
       let e : lit 7 q ≡ s = subst (λ (k : ℕ). lit k q ≡ s) seven (lit-value s 0) in
       subst₂ (Reads (readLow 1 c))
-      (ap₂ (λ (a b : Bits). a ++ (b ++ ones 1)) e (lit-none 0))
+      (ap₂ (λ (a b : Bits). a ++ (b ++ oneBits 1)) e (lit-none 0))
       (ap₂ (lowRead q) (block-ones (c .y) 0) (block-ones (c .c1 + c .c2) 1))
-      (reads-blocks 1 q c 0 [] (ones 1) h (omega arith) (omega arith) refl refl)
+      (reads-blocks 1 q c 0 [] (oneBits 1) h (omega arith) (omega arith) refl refl)
 
   -- whatever is read of it, every number is 0
   pub byte-zeros : (rest t : Bits) (r : SliceNumbers) → readLow 1 c (s ++ (true ∷ rest)) ≡ got r t → NoNumber (r .numbers)
   byte-zeros rest t r e =
       let f : got (noRead (value 0 s) c) rest ≡ got r t =
-      sym (byte-reads .at rest) ∙ ap (readLow 1 c) (append-assoc s (ones 1) rest) ∙ e in
+      sym (byte-reads .at rest) ∙ ap (readLow 1 c) (append-assoc s (oneBits 1) rest) ∙ e in
       subst NoNumber (ap (numbersIn (r .numbers)) f) (no-read (value 0 s) c)
 
 -- one byte as it is written: its runs are of zeros
-byte-bits : (q : ℕ) (ys cs : List ℤ) → bitsOf ys + bitsOf cs ≤ roomOf 1 → lowBits 1 q ys cs ≡ lit 7 q ++ ones 1
+byte-bits : (q : ℕ) (ys cs : List ℤ) → bitsOf ys + bitsOf cs ≤ roomOf 1 → lowBits 1 q ys cs ≡ lit 7 q ++ oneBits 1
 unfolding lowBits intlog2
 byte-bits q ys cs f =
     let y = bare ys (omega arith) in
     let z = bare cs (omega arith) in
     ap₂ (λ (a b : Bits). lit 7 q ++ (a ++ b)) (lit-none (bitsOf ys))
-    (ap₂ (λ (a b : Bits). a ++ (b ++ ones (1 - bitsOf ys - bitsOf cs))) (y .bits) (z .bits) ∙ one-bit (bitsOf ys) (bitsOf cs) f)
+    (ap₂ (λ (a b : Bits). a ++ (b ++ oneBits (1 - bitsOf ys - bitsOf cs))) (y .bits) (z .bits) ∙ one-bit (bitsOf ys) (bitsOf cs) f)
 
 -- a slice of one byte reads as no number
 pub byte-none : (c : Three ℕ) (q : ℕ) (ys cs : List ℤ) → bitsOf ys + bitsOf cs ≤ roomOf 1
     → (rest t : Bits) (r : SliceNumbers) → readLow 1 c (lowBits 1 q ys cs ++ rest) ≡ got r t → NoNumber (r .numbers)
 byte-none c q ys cs f rest t r e =
     byte-zeros c (lit 7 q) (length-lit 7 q) rest t r
-    (sym (ap (readLow 1 c) (ap (λ (w : Bits). w ++ rest) (byte-bits q ys cs f) ∙ append-assoc (lit 7 q) (ones 1) rest)) ∙ e)
+    (sym (ap (readLow 1 c) (ap (λ (w : Bits). w ++ rest) (byte-bits q ys cs f) ∙ append-assoc (lit 7 q) (oneBits 1) rest)) ∙ e)
 
 -- ---- a slice's window, row by row
 module _ (t l c : ℕ) (vs : List ℤ) where

@@ -19,8 +19,9 @@ pub record Grid : Type 0 where
   pub down : ℕ
   pub across : ℕ
 
-abbrev pub count : Grid → ℕ
-count g = g .down * g .across
+-- how many slices there are
+abbrev pub sliceCount : Grid → ℕ
+sliceCount g = g .down * g .across
 
 module _ (g : Grid) (z : Size) (k : ℕ) where
   -- the window of slice k in a subband of size z

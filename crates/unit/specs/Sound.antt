@@ -15,7 +15,7 @@ use Rattle.unit.specs.declared.PictureKind.the-variants.{LowDelay, HighQ
 use Rattle.unit.specs.Three.{Three}
 use Rattle.unit.specs.Sizes.{Size, sizesOf}
 use Rattle.unit.specs.Subbands.{subbandCount}
-use Rattle.unit.specs.Slices.{Grid, count}
+use Rattle.unit.specs.Slices.{Grid, sliceCount}
 use Rattle.unit.specs.Parameters.{SliceParameters, lowDelay, highQuality, Parameters}
 use Rattle.unit.specs.Plan.{SlicePlan, Plan}
 use Rattle.unit.specs.Unit.{majorVersion, lengthOf}
@@ -40,13 +40,13 @@ pub record Legal (version : ℕ) (kind : PictureKind) (t : Parameters) : Type 0 
   pub plain : version < 3 → (t .waveletHo ≡ t .wavelet) × (t .depthHo ≡ 0)
   pub across : 1 ≤ t .across
   pub down : 1 ≤ t .down
-  pub slice : SliceFits kind (t .slice)
+  pub sliceParameters : SliceFits kind (t .sliceParameters)
   pub matrix : CarriedFits (subbandCount (t .depthHo) (t .depth)) (t .matrix) (defaultMatrix (t .wavelet) (t .waveletHo) (t .depth) (t .depthHo))
 
 -- slice k: whole bytes, from which its index and what is kept of its numbers are read
 pub record SoundSlice (z : Three Size) (t : Parameters) (k : ℕ) (a : SlicePlan) : Type 0 where
   pub full : Full (a .bits)
-  pub reads : Reads (readSliceBy (t .slice) k (countsIn z t k)) (a .bits) (record { index = a .index; numbers = a .kept })
+  pub reads : Reads (readSliceBy (t .sliceParameters) k (countsIn z t k)) (a .bits) (record { index = a .index; numbers = a .kept })
 
 -- the slices from slice k on
 abbrev pub SoundSlices : Three Size → Parameters → ℕ → List SlicePlan → Type 0
@@ -58,5 +58,5 @@ pub record Sound (s : Settings) (a : Plan) : Type 0 where
   pub previous : s .«prev_unit_len» < 2 ^ 32
   pub long : lengthOf s a < 2 ^ 32
   pub legal : Legal (majorVersion s) (s .kind) (a .parameters)
-  pub many : length (a .slices) ≡ count (gridIn (a .parameters))
+  pub many : length (a .slices) ≡ sliceCount (gridIn (a .parameters))
   pub slices : SoundSlices (sizesOf s) (a .parameters) 0 (a .slices)

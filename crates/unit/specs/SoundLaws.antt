@@ -18,7 +18,7 @@ use Rattle.unit.specs.declared.PictureKind.{PictureKind}
 use Rattle.unit.specs.declared.PictureKind.the-variants.{LowDelay, HighQuality}
 use Rattle.unit.specs.Three.{Three, map3}
 use Rattle.unit.specs.Sizes.{Size, lumaSize, sizesOf}
-use Rattle.unit.specs.Slices.{Grid, count}
+use Rattle.unit.specs.Slices.{Grid, sliceCount}
 use Rattle.unit.specs.Matrix.{matrixValues}
 use Rattle.unit.specs.Refusal.{paddedArea}
 use Rattle.unit.specs.Parameters.{SliceParameters, lowDelay, highQuality, parameterBytes}
@@ -83,29 +83,29 @@ high-counts g m b p k q =
 -- ---- slices
 -- v are the matrix values
 module _ (s : Settings) (m : List ℕ) (p : Three (List ℕ)) (v : List ℕ) where
-  low-slice : (n : ℕ) (r : Three Plane) (k q : ℕ) → 1 ≤ count (gridOf s) → count (gridOf s) ≤ n → q < 128
-      → SoundSlice (sizesOf s) (lowParameters s m n) k (lowPlan (gridOf s) v (coefficientsOf s p) (sliceBytes n (count (gridOf s)) k) r k q)
+  low-slice : (n : ℕ) (r : Three Plane) (k q : ℕ) → 1 ≤ sliceCount (gridOf s) → sliceCount (gridOf s) ≤ n → q < 128
+      → SoundSlice (sizesOf s) (lowParameters s m n) k (lowPlan (gridOf s) v (coefficientsOf s p) (sliceBytes n (sliceCount (gridOf s)) k) r k q)
   unfolding lowPlan
   low-slice n r k q a h e =
       let g = gridOf s in
       let b = coefficientsOf s p in
-      let w = sliceBytes n (count g) k in
+      let w = sliceBytes n (sliceCount g) k in
       let x = lowNumbers g v b r k q in
-      let i = bytes-some n (count g) k a h in
+      let i = bytes-some n (sliceCount g) k a h in
       record {
         full = low-full g v b w q x i;
         reads = subst (λ (c : Three ℕ). Reads (readLow w c) (lowPlanOf g v b w q x .bits) (record { index = q; numbers = lowPlanOf g v b w q x .kept }))
-            (sym (counts-same s m p (lowDelay n (count g)) k ∙ low-counts g v b r k q)) (low-reads g v b w q x i e);
+            (sym (counts-same s m p (lowDelay n (sliceCount g)) k ∙ low-counts g v b r k q)) (low-reads g v b w q x i e);
       }
 
-  low-sound : (n : ℕ) (r : Three Plane) (k j : ℕ) → 1 ≤ count (gridOf s) → count (gridOf s) ≤ n
+  low-sound : (n : ℕ) (r : Three Plane) (k j : ℕ) → 1 ≤ sliceCount (gridOf s) → sliceCount (gridOf s) ≤ n
       → SoundSlices (sizesOf s) (lowParameters s m n) k (lowSlices (gridOf s) v (coefficientsOf s p) n r k j)
   unfolding lowSlices
   low-sound n r k zero a h = tt
   low-sound n r k (suc j) a h =
       let g = gridOf s in
       let b = coefficientsOf s p in
-      let w = sliceBytes n (count g) k in
+      let w = sliceBytes n (sliceCount g) k in
       (low-slice n r k (lowIndex g v b w r k) a h (low-index g v b w r k), low-sound n (lowLeft g v b r k (lowIndex g v b w r k)) (suc k) j a h)
 
   high-slice : (x c k q : ℕ) → 1 ≤ c → q < 256 → Needs (255 * c) (highNumbers (gridOf s) v (coefficientsOf s p) x k q)
@@ -155,7 +155,7 @@ unfolding lengthOf
 length-is s a = rw (length-runs (a .slices))
 
 -- what is read of the slices has their bytes
-read-bytes : (ss : List SlicePlan) (rs : List SliceRead) → SameSlices ss rs → map (λ (r : SliceRead). r .length) rs ≡ map bytesOf ss
+read-bytes : (ss : List SlicePlan) (rs : List SliceRead) → SameSlices ss rs → map (λ (r : SliceRead). r .byteCount) rs ≡ map bytesOf ss
 read-bytes [] [] e = refl
 read-bytes [] (r ∷ rs) e = absurd e
 read-bytes (a ∷ ss) [] e = absurd e
@@ -192,27 +192,27 @@ unfolding shareOf
 share-none n = rw (zero-div n, zero-mod n)
 
 -- as many slices as there are in the grid
-many-by : (s : Settings) (m : List ℕ) (b : Three (List Band)) (kind : PictureKind) → length (planBy s m kind b .slices) ≡ count (gridOf s)
-many-by s m b LowDelay = low-many (gridOf s) (matrixValues s m) b (numeratorOf s m) zeroPlanes 0 (count (gridOf s))
+many-by : (s : Settings) (m : List ℕ) (b : Three (List Band)) (kind : PictureKind) → length (planBy s m kind b .slices) ≡ sliceCount (gridOf s)
+many-by s m b LowDelay = low-many (gridOf s) (matrixValues s m) b (numeratorOf s m) zeroPlanes 0 (sliceCount (gridOf s))
 many-by s m b HighQuality = high-many (gridOf s) (matrixValues s m) b (s .«slice_prefix_bytes») (s .rate) (scalerOf s m b) (highBytes s m (scalerOf s m b))
 
 -- what Sound says of the parameters and the slices, by kind
 pub record SoundBy (s : Settings) (kind : PictureKind) (a : Plan) : Type 0 where
   pub legal : Legal (majorVersion s) kind (a .parameters)
-  pub many : length (a .slices) ≡ count (gridIn (a .parameters))
+  pub many : length (a .slices) ≡ sliceCount (gridIn (a .parameters))
   pub slices : SoundSlices (sizesOf s) (a .parameters) 0 (a .slices)
 
 -- ---- an accepted call
 module _ (s : Settings) (m : List ℕ) (p : Three (List ℕ)) (work : List ℤ) (v : Valid s m p work) where
-  pub numerator-some : count (gridOf s) ≤ numeratorOf s m
+  pub numerator-some : sliceCount (gridOf s) ≤ numeratorOf s m
   unfolding numeratorOf
-  numerator-some = numerator-least (majorVersion s) (targetOf (s .rate)) (count (gridOf s)) (lowParameters s m)
+  numerator-some = numerator-least (majorVersion s) (targetOf (s .rate)) (sliceCount (gridOf s)) (lowParameters s m)
 
   sound-by : (kind : PictureKind) → RateFits kind (s .rate) → SoundBy s kind (planBy s m kind (coefficientsOf s p))
   sound-by LowDelay f = record {
     legal = legal v LowDelay _ (slice-count v .some, numerator-some);
     many = many-by s m (coefficientsOf s p) LowDelay;
-    slices = low-sound s m p (matrixValues s m) (numeratorOf s m) zeroPlanes 0 (count (gridOf s)) (slice-count v .some) numerator-some;
+    slices = low-sound s m p (matrixValues s m) (numeratorOf s m) zeroPlanes 0 (sliceCount (gridOf s)) (slice-count v .some) numerator-some;
   }
   sound-by HighQuality f =
       let b = coefficientsOf s p in
@@ -221,7 +221,7 @@ module _ (s : Settings) (m : List ℕ) (p : Three (List ℕ)) (work : List ℤ) 
       record {
         legal = legal v HighQuality _ i;
         many = many-by s m b HighQuality;
-        slices = high-sound s m p (matrixValues s m) (s .«slice_prefix_bytes») c _ 0 (count (gridOf s)) i
+        slices = high-sound s m p (matrixValues s m) (s .«slice_prefix_bytes») c _ 0 (sliceCount (gridOf s)) i
             (high-index (gridOf s) (matrixValues s m) b (s .«slice_prefix_bytes») (s .rate) f c (highBytes s m c)) (scaler-fits s m b (coefficients-within s p));
       }
 
@@ -232,27 +232,27 @@ module _ (s : Settings) (m : List ℕ) (p : Three (List ℕ)) (work : List ℤ) 
 
   -- ---- bytes of low delay
   pub low-each : map bytesOf (planBy s m LowDelay (coefficientsOf s p) .slices)
-      ≡ span (sliceBytes (numeratorOf s m) (count (gridOf s))) 0 (count (gridOf s))
-  low-each = low-bytes (gridOf s) (matrixValues s m) (coefficientsOf s p) (numeratorOf s m) zeroPlanes 0 (count (gridOf s)) (slice-count v .some) numerator-some
+      ≡ span (sliceBytes (numeratorOf s m) (sliceCount (gridOf s))) 0 (sliceCount (gridOf s))
+  low-each = low-bytes (gridOf s) (matrixValues s m) (coefficientsOf s p) (numeratorOf s m) zeroPlanes 0 (sliceCount (gridOf s)) (slice-count v .some) numerator-some
 
   pub low-all : total (map bytesOf (planBy s m LowDelay (coefficientsOf s p) .slices)) ≡ numeratorOf s m
-  low-all = ap total low-each ∙ bytes-all (numeratorOf s m) (count (gridOf s)) (slice-count v .some)
+  low-all = ap total low-each ∙ bytes-all (numeratorOf s m) (sliceCount (gridOf s)) (slice-count v .some)
 
   bytes-by : (kind : PictureKind) (rs : List SliceRead) → SameSlices (planBy s m kind (coefficientsOf s p) .slices) rs
-      → Bytes (planBy s m kind (coefficientsOf s p) .parameters .slice) rs
+      → Bytes (planBy s m kind (coefficientsOf s p) .parameters .sliceParameters) rs
   bytes-by LowDelay rs e =
       let ss = planBy s m LowDelay (coefficientsOf s p) .slices in
-      let n : length rs ≡ count (gridOf s) = read-many ss rs e ∙ many-by s m (coefficientsOf s p) LowDelay in
-      (read-bytes ss rs e ∙ low-each ∙ ap (span (sliceBytes (numeratorOf s m) (count (gridOf s))) 0) (sym n), ap total (read-bytes ss rs e) ∙ low-all)
+      let n : length rs ≡ sliceCount (gridOf s) = read-many ss rs e ∙ many-by s m (coefficientsOf s p) LowDelay in
+      (read-bytes ss rs e ∙ low-each ∙ ap (span (sliceBytes (numeratorOf s m) (sliceCount (gridOf s))) 0) (sym n), ap total (read-bytes ss rs e) ∙ low-all)
   bytes-by HighQuality rs e = tt
 
   -- demand 3: each low-delay slice that is read takes exactly its slice bytes, and they sum to the numerator
-  pub bytes-of : (rs : List SliceRead) → SameSlices (planOf s m p .slices) rs → Bytes (planOf s m p .parameters .slice) rs
+  pub bytes-of : (rs : List SliceRead) → SameSlices (planOf s m p .slices) rs → Bytes (planOf s m p .parameters .sliceParameters) rs
   unfolding planOf
   bytes-of rs e = bytes-by (s .kind) rs e
 
   -- ---- lengths
-  pub length-high-unit : s .kind ≡ HighQuality → lengthOf s (planOf s m p) ≡ highOverhead s m p + total (span (takenBy s m p) 0 (count (gridOf s)))
+  pub length-high-unit : s .kind ≡ HighQuality → lengthOf s (planOf s m p) ≡ highOverhead s m p + total (span (takenBy s m p) 0 (sliceCount (gridOf s)))
   length-high-unit e =
       let b = coefficientsOf s p in
       let c = scalerOf s m b in
@@ -263,12 +263,12 @@ module _ (s : Settings) (m : List ℕ) (p : Three (List ℕ)) (work : List ℤ) 
   -- if every high-quality slice fits its share of the target less the overhead, the unit is at most the target: where the overhead is more than the
   -- target, the share is 0, and no slice fits it
   pub target-kept : s .kind ≡ HighQuality
-      → ((k : ℕ) → k < count (gridOf s) → takenBy s m p k ≤ shareOf (targetOf (s .rate) - highOverhead s m p) (count (gridOf s)) k)
+      → ((k : ℕ) → k < sliceCount (gridOf s) → takenBy s m p k ≤ shareOf (targetOf (s .rate) - highOverhead s m p) (sliceCount (gridOf s)) k)
       → lengthOf s (planOf s m p) ≤ targetOf (s .rate)
   target-kept e f = by (decLe (highOverhead s m p) (targetOf (s .rate)))
     where
       n : ℕ
-      n = count (gridOf s)
+      n = sliceCount (gridOf s)
 
       bytes : ℕ
       bytes = targetOf (s .rate) - highOverhead s m p

@@ -8,7 +8,7 @@ use borrow.Author.Tests.{leb-true}
 use lib.Dec.{leb}
 use lib.IntN.{ℤ, pos, negsuc, natAbs}
 use lib.ListN.{length, take, length-append}
-use Rattle.codewords.specs.Bit.{lit, ones}
+use Rattle.codewords.specs.Bit.{lit, oneBits}
 use Rattle.codewords.specs.Code.{log2In, log2, interleaved, codeU, codeS, codes, zeroFilled}
 use Rattle.codewords.specs.CodeLaws.{codeS-pos, codeS-short, length-codeS}
 use Rattle.unit.specs.Trim.{trimCons, trimmed, bitsOf, trimmedCost, fitPrefix}
@@ -109,7 +109,7 @@ code-zero = refl
 
 pub record Bare (xs : List ℤ) : Type 0 where
   pub fills : (n : ℕ) → zeroFilled n xs ≡ zeroFilled n []
-  pub bits : codes xs ≡ ones (bitsOf xs)
+  pub bits : codes xs ≡ oneBits (bitsOf xs)
 
 bare-nil : Bare []
 unfolding codes

@@ -14,7 +14,7 @@ use Rattle.unit.specs.declared.RateControl.{RateControl}
 use Rattle.unit.specs.declared.RateControl.the-variants.{Lossless, FixedQuantIndex, PictureBytes}
 use Rattle.unit.specs.Three.{Three}
 use Rattle.unit.specs.Sizes.{lumaSize}
-use Rattle.unit.specs.Slices.{Grid, count}
+use Rattle.unit.specs.Slices.{Grid, sliceCount}
 use Rattle.unit.specs.Refusal.{paddedArea}
 use Rattle.unit.specs.Matrix.{matrixValues, carriedMatrix}
 use Rattle.unit.specs.Parameters.{SliceParameters, lowDelay, highQuality, Parameters, parameterBits, parameterBytes, fill}
@@ -44,7 +44,7 @@ parametersBy s m p = record {
   depthHo = s .«dwt_depth_ho»;
   across = s .«slices_x»;
   down = s .«slices_y»;
-  slice = p;
+  sliceParameters = p;
   matrix = carriedMatrix s m;
 }
 
@@ -56,13 +56,13 @@ targetOf (PictureBytes n) = n
 
 module _ (s : Settings) (m : List ℕ) where
   abbrev pub lowParameters : ℕ → Parameters
-  lowParameters n = parametersBy s m (lowDelay n (count (gridOf s)))
+  lowParameters n = parametersBy s m (lowDelay n (sliceCount (gridOf s)))
 
   abbrev pub highParameters : ℕ → Parameters
   highParameters c = parametersBy s m (highQuality (s .«slice_prefix_bytes») c)
 
   unfoldable pub numeratorOf : ℕ
-  numeratorOf = numerator (majorVersion s) (targetOf (s .rate)) (count (gridOf s)) lowParameters
+  numeratorOf = numerator (majorVersion s) (targetOf (s .rate)) (sliceCount (gridOf s)) lowParameters
 
   -- the bytes for all high-quality slices: the target less overhead, or 0 below that
   abbrev pub highBytes : ℕ → ℕ
@@ -78,7 +78,7 @@ module _ (s : Settings) (m : List ℕ) where
   abbrev pub planBy : PictureKind → Three (List Band) → Plan
   planBy LowDelay b =
       let n = numeratorOf in
-      record { parameters = lowParameters n; slices = lowSlices (gridOf s) (matrixValues s m) b n zeroPlanes 0 (count (gridOf s)) }
+      record { parameters = lowParameters n; slices = lowSlices (gridOf s) (matrixValues s m) b n zeroPlanes 0 (sliceCount (gridOf s)) }
   planBy HighQuality b = let c = scalerOf b in record { parameters = highParameters c; slices = highSlicesOf b c }
 
 -- s are the settings, m the lent matrix, p the planes

@@ -8,18 +8,18 @@ use native.Mathlib.Omega.{arith}
 use lib.Dec.{T, eqb, eqb-refl}
 use lib.IntN.{ℤ}
 use lib.ListN.{length, length-append, length-replicate}
-use Rattle.codewords.specs.Bit.{Bits, lit, zeros}
+use Rattle.codewords.specs.Bit.{Bits, lit, zeroBits}
 use Rattle.codewords.specs.BitLaws.{length-lit}
 use Rattle.codewords.specs.Bytes.{toBytes, fromBytes}
 use Rattle.codewords.specs.ByteLaws.{Full, full-nil, full-append, full-lit, full-length, from-to, length-toBytes, toBytes-append}
-use Rattle.codewords.specs.Read.{Read, got, stop, Parser, pure, such, after, _>>=_, readNbits, byteAlign}
+use Rattle.codewords.specs.Read.{Read, got, stop, Parser, give, such, after, _>>=_, readNbits, byteAlign}
 use Rattle.codewords.specs.ReadLaws.{Reads, reads-pure, reads-bind, reads-such, reads-nbits, ReadsTo, reads-align}
 use Rattle.unit.specs.declared.Settings.{Settings}
 use Rattle.unit.specs.declared.PictureKind.{PictureKind}
 use Rattle.unit.specs.declared.PictureKind.the-variants.{LowDelay, HighQuality}
 use Rattle.unit.specs.Three.{Three}
 use Rattle.unit.specs.Sizes.{Size, sizesOf}
-use Rattle.unit.specs.Slices.{Grid, count}
+use Rattle.unit.specs.Slices.{Grid, sliceCount}
 use Rattle.unit.specs.Parameters.{SliceParameters, Parameters, parameterBits, parameterBytes, fill}
 use Rattle.unit.specs.ParameterLaws.{reads-parameters}
 use Rattle.unit.specs.Plan.{SlicePlan, Plan}
@@ -61,7 +61,7 @@ sound-full z t k (a ∷ more) s = (s .0 .full, sound-full z t (suc k) more (s .1
 -- what is read of slices that begin n bytes from the start
 unfoldable pub readsFrom : ℕ → List SlicePlan → List SliceRead
 readsFrom n [] = []
-readsFrom n (a ∷ more) = record { offset = n; length = bytesOf a; index = a .index; numbers = a .kept } ∷ readsFrom (n + bytesOf a) more
+readsFrom n (a ∷ more) = record { offset = n; byteCount = bytesOf a; index = a .index; numbers = a .kept } ∷ readsFrom (n + bytesOf a) more
 
 -- p, fed s, finds x and leaves r
 record Finds {A : Type 0} (p : Parser A) (s : Bits) (x : A) (r : Bits) : Type 0 where
@@ -71,23 +71,23 @@ finds-then : {A B : Type 0} {p : Parser A} {s r u : Bits} {x : A} (f : A → Par
 unfolding _>>=_
 finds-then f a b = record { is = ap (λ o. after o f) (a .is) ∙ b .is }
 
-finds-pure : {A : Type 0} (x : A) (s : Bits) → Finds (pure x) s x s
-unfolding pure
+finds-pure : {A : Type 0} (x : A) (s : Bits) → Finds (give x) s x s
+unfolding give
 finds-pure x s = record { is = refl }
 
 finds : {A : Type 0} {p : Parser A} {w : Bits} {x : A} (rest : Bits) → Reads p w x → Finds p (w ++ rest) x rest
 finds rest r = record { is = r .at rest }
 
 read-slice : (z : Three Size) (t : Parameters) (total k n : ℕ) (a : SlicePlan) (rest : Bits) → SoundSlice z t k a → total ≡ 8 * n + (length (a .bits) + length rest)
-    → readSlice total (t .slice) k (countsIn z t k) (a .bits ++ rest)
-    ≡ got (record { offset = n; length = bytesOf a; index = a .index; numbers = a .kept }) rest
-unfolding readSlice _>>=_ bitsLeft pure
+    → readSlice total (t .sliceParameters) k (countsIn z t k) (a .bits ++ rest)
+    ≡ got (record { offset = n; byteCount = bytesOf a; index = a .index; numbers = a .kept }) rest
+unfolding readSlice _>>=_ bitsLeft give
 read-slice z t total k n a rest s e =
     let l : length (a .bits ++ rest) ≡ length (a .bits) + length rest = length-append (a .bits) rest in
     ap (λ (r : Read SliceNumbers). after r (λ r s. after (got (length s) s)
-    (λ b s. got (record { offset = (total - length (a .bits ++ rest)) / 8; length = (length (a .bits ++ rest) - b) / 8; index = r .index; numbers = r .numbers }) s)))
+    (λ b s. got (record { offset = (total - length (a .bits ++ rest)) / 8; byteCount = (length (a .bits ++ rest) - b) / 8; index = r .index; numbers = r .numbers }) s)))
     (s .reads .at rest)
-    ∙ ap₂ (λ (o j : ℕ). got (record { offset = o; length = j; index = a .index; numbers = a .kept }) rest)
+    ∙ ap₂ (λ (o j : ℕ). got (record { offset = o; byteCount = j; index = a .index; numbers = a .kept }) rest)
     (ap (λ (i : ℕ). i / 8) (omega (arith, l)) ∙ eighth n)
     (ap (λ (i : ℕ). i / 8) (omega (arith, l)))
   where
@@ -95,7 +95,7 @@ read-slice z t total k n a rest s e =
     eighth n = omega arith
 
 read-slices : (z : Three Size) (t : Parameters) (total k n : ℕ) (ss : List SlicePlan) → SoundSlices z t k ss → total ≡ 8 * n + length (allBits ss)
-    → Finds (readEach (λ k. readSlice total (t .slice) k (countsIn z t k)) k (length ss)) (allBits ss) (readsFrom n ss) []
+    → Finds (readEach (λ k. readSlice total (t .sliceParameters) k (countsIn z t k)) k (length ss)) (allBits ss) (readsFrom n ss) []
 unfolding readEach allBits readsFrom
 read-slices z t total k n [] s e = finds-pure [] []
 read-slices z t total k n (a ∷ more) s e =
@@ -146,7 +146,7 @@ same-length n = by (eqb n 0) (eqb n n) (eqb-refl n)
 
 -- ---- the unit
 module _ (z : Three Size) (version n prev num : ℕ) (k : PictureKind) (t : Parameters) (ss : List SlicePlan)
-    (hn : n < 2 ^ 32) (hp : prev < 2 ^ 32) (hm : num < 2 ^ 32) (legal : Legal version k t) (many : length ss ≡ count (gridIn t))
+    (hn : n < 2 ^ 32) (hp : prev < 2 ^ 32) (hm : num < 2 ^ 32) (legal : Legal version k t) (many : length ss ≡ sliceCount (gridIn t))
     (sound : SoundSlices z t 0 ss) (h : ℕ) (long : 8 * n ≡ 8 * h + length (allBits ss)) where
   abbrev b : Bits
   b = parameterBits version t
@@ -154,14 +154,14 @@ module _ (z : Three Size) (version n prev num : ℕ) (k : PictureKind) (t : Para
   abbrev found : Reading
   found = record { kind = kindOf (parseCode k); number = num; parameters = t; slices = readsFrom h ss }
 
-  read-end : Finds (readEnd >>= λ end. pure found) [] found []
-  unfolding readEnd _>>=_ pure
+  read-end : Finds (readEnd >>= λ end. give found) [] found []
+  unfolding readEnd _>>=_ give
   read-end = record { is = refl }
 
   read-parameters : Reads (readParameters (kindOf (parseCode k)) version) b t
   read-parameters = rw (code-kind k) (reads-parameters version k t legal)
 
-  slices : Finds (readEach (λ k. readSlice (8 * n) (t .slice) k (countsIn z t k)) 0 (count (gridIn t))) (allBits ss) (readsFrom h ss) []
+  slices : Finds (readEach (λ k. readSlice (8 * n) (t .sliceParameters) k (countsIn z t k)) 0 (sliceCount (gridIn t))) (allBits ss) (readsFrom h ss) []
   slices = rw (← many) (read-slices z t (8 * n) 0 h ss sound long)
 
   read-all : Finds (readBits8 z version n)

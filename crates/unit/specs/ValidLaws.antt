@@ -20,7 +20,7 @@ use Rattle.unit.specs.declared.RateControl.the-variants.{Lossless, Fixed
 use Rattle.unit.specs.Three.{Three}
 use Rattle.unit.specs.Sizes.{Size, area, halvedIf, fields, lumaSize, colourSize, depthsOf}
 use Rattle.unit.specs.Subbands.{paddedSize, subbandCount}
-use Rattle.unit.specs.Slices.{count}
+use Rattle.unit.specs.Slices.{sliceCount}
 use Rattle.unit.specs.Matrix.{defaultOf, orNone, matrixValues, carriedMatrix}
 use Rattle.unit.specs.Refusal.{noTarget, badIndex, badTarget, anyAbove, isNone, paddedArea, workNeeded, broken, firstFrom, refusalOf}
 use Rattle.unit.specs.Valid.{Between, RateFits, MatrixFits, Valid}
@@ -230,7 +230,7 @@ module _ {s : Settings} {m : List ℕ} {p : Three (List ℕ)} {work : List ℤ} 
       record { y = l; c1 = c; c2 = c }
 
   -- ---- slices
-  pub slice-count : Between 1048576 (count (gridOf s))
+  pub slice-count : Between 1048576 (sliceCount (gridOf s))
   slice-count = record {
     some = mul-pos {m = s .«slices_y»} {n = s .«slices_x»} (v .down .some) (v .across .some);
     few = omega (arith, v .slices, mul-comm (s .«slices_x») (s .«slices_y»));
@@ -269,6 +269,6 @@ module _ {s : Settings} {m : List ℕ} {p : Three (List ℕ)} {work : List ℤ} 
     plain = plain s;
     across = v .across .some;
     down = v .down .some;
-    slice = f;
+    sliceParameters = f;
     matrix = carried-fits;
   }

@@ -37,7 +37,7 @@ pub struct Settings {
 
 // What an accepted call tells of its unit.
 pub struct Coded {
-    pub length: u32,
+    pub written: u32,
     pub cut_slices: u32,
     pub slice_size_scaler: u32,
 }

@@ -2,7 +2,7 @@
 use mathlib.Core.List.{append-nil}
 use native.Mathlib.Omega.{arith}
 use borrow.Author.Needs.{needs}
-use Rattle.codewords.specs.Bit.{zeros}
+use Rattle.codewords.specs.Bit.{zeroBits}
 use Rattle.codewords.specs.BitLaws.{length-lit, lit-zeros}
 use Rattle.codewords.specs.Writer.{padding}
 use Rattle.codewords.specs.WriterLaws.{wrote-then, room-after}
@@ -34,7 +34,7 @@ returns c =
     let p = c .before .before .before .before .before .before .put-short .ensures in
     let f = c .before .before .flush .ensures in
     record {
-      wrote = rw (append-nil (zeros k)) at (wrote-then (st .pre .sound) (rw (lit-zeros k) at p) (f .wrote));
+      wrote = rw (append-nil (zeroBits k)) at (wrote-then (st .pre .sound) (rw (lit-zeros k) at p) (f .wrote));
       whole = omega (arith, p .place, f .wrote .place, f .part, length-lit k 0);
     }
 

@@ -5,7 +5,7 @@ use mathlib.Core.List.{List}
 use Prim.Native.Nat.{ℕ, _+_, _-_, _^_, _≤_}
 use lib.ListN.{replicate-append-replicate, length-replicate}
 use Rattle.codewords.specs.declared.writer.BitWriter.{BitWriter}
-use Rattle.codewords.specs.Bit.{lit, ones}
+use Rattle.codewords.specs.Bit.{lit, oneBits}
 use Rattle.codewords.specs.BitLaws.{lit-ones}
 use Rattle.codewords.specs.Writer.{Sound, Room, Wrote}
 use Rattle.codewords.specs.WriterLaws.{wrote-none, wrote-then, room-after}
@@ -17,14 +17,14 @@ use Rattle.codewords.proofs.writer.put_ones.Lts as lts
 use Rattle.codewords.proofs.writer.put_short.Reads as put-short-reads
 
 abbrev Inv-loop : tie.InvT-loop
-Inv-loop out₀ n left₀ s₀ out left s = (left ≤ n) × Wrote out₀ s₀ (ones (n - left)) out s
+Inv-loop out₀ n left₀ s₀ out left s = (left ≤ n) × Wrote out₀ s₀ (oneBits (n - left)) out s
 
 abbrev μ-loop : tie.MeasureT-loop
 μ-loop out₀ n left₀ s₀ out left s = left
 
 -- k more of the ones that are left
 more : {o o₁ o₂ : List ℕ} {w s₁ s₂ : BitWriter} (n left k : ℕ) → k ≤ left → k ≤ 32 → left ≤ n → Sound w
-    → Wrote o w (ones (n - left)) o₁ s₁ → Wrote o₁ s₁ (lit k (2 ^ 32 - 1)) o₂ s₂ → Wrote o w (ones (n - (left - k))) o₂ s₂
+    → Wrote o w (oneBits (n - left)) o₁ s₁ → Wrote o₁ s₁ (lit k (2 ^ 32 - 1)) o₂ s₂ → Wrote o w (oneBits (n - (left - k))) o₂ s₂
 more n left k h g l s p q =
     let e : n - (left - k) ≡ n - left + k = omega arith in
     rw (e, ← replicate-append-replicate) (wrote-then s p (rw (lit-ones k 32 g) at q))

@@ -28,7 +28,7 @@ slice-aggregate-put-bytes c =
     let st = c .before .before .before .before .before .before .before .before .before .before .before .before in
     let g = c .before .before .before .before .before .before .before .before .r2 .given in
     let h = accepted-room (g .0 .0) (length (st .args .out .now)) (length (st .args .text .now)) (g .1) (st .pre) in
-    sym (length-take-le (g .0 .0 .length) (st .args .out .now) (h .0))
+    sym (length-take-le (g .0 .0 .written) (st .args .out .now) (h .0))
 
 put-bytes-requires : tie.Need-put-bytes-requires
 put-bytes-requires c κs =
@@ -36,7 +36,7 @@ put-bytes-requires c κs =
     let g = c .before .before .before .before .before .before .before .before .r2 .given in
     let h = accepted-room (g .0 .0) (length (st .args .out .now)) (length (st .args .text .now)) (g .1) (st .pre) in
     let p = c .before .before .before .before .before .put-coded .ensures in
-    omega (arith, h .1, p .1, p .0 .size, length-take-le (g .0 .0 .length) (st .args .out .now) (h .0))
+    omega (arith, h .1, p .1, p .0 .size, length-take-le (g .0 .0 .written) (st .args .out .now) (h .0))
 
 same-length : tie.Need-same-length
 same-length c = search needs
@@ -58,8 +58,8 @@ returns-2 c =
     let p = c .before .before .before .before .before .before .before .before .put-coded .ensures in
     let q = c .before .before .put-bytes .ensures in
     let h = accepted-room (g .0 .0) (length (st .args .out .now)) (length (st .args .text .now)) (g .1) (st .pre) in
-    let bs = take (g .0 .0 .length) (st .args .out .now) in
-    (accepted-laid (g .0 .0) (st .args .out .now) (g .1) (p .0) q, omega (arith, h .1, p .1, p .0 .size, q .next, q .size, length-bytes bs, length-take-le (g .0 .0 .length) (st .args .out .now) (h .0)))
+    let bs = take (g .0 .0 .written) (st .args .out .now) in
+    (accepted-laid (g .0 .0) (st .args .out .now) (g .1) (p .0) q, omega (arith, h .1, p .1, p .0 .size, q .next, q .size, length-bytes bs, length-take-le (g .0 .0 .written) (st .args .out .now) (h .0)))
 
 pub put-answer-spec : {M : Type 1} → statement M
 put-answer-spec =

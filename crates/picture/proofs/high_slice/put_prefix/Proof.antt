@@ -1,7 +1,7 @@
 -- `high_slice::put_prefix` meets its contract. The loop's invariant: i bytes are written. Assumes nothing.
 use Prim.Native.Nat.{_*_, _-_, _≤_}
 use native.Mathlib.Omega.{arith}
-use Rattle.codewords.specs.Bit.{zeros}
+use Rattle.codewords.specs.Bit.{zeroBits}
 use Rattle.codewords.specs.Writer.{Wrote}
 use Rattle.codewords.specs.WriterLaws.{wrote-none}
 use Rattle.picture.specs.HighSliceLaws.{prefix-next, prefix-turn, prefix-all}
@@ -9,7 +9,7 @@ use Rattle.picture.proofs.high_slice.put_prefix.Statement.{statement}
 use Rattle.picture.proofs.high_slice.put_prefix.Tie as tie
 
 abbrev Inv-loop : tie.InvT-loop
-Inv-loop out₀ n s₀ i₀ out s i = (i ≤ n) × Wrote out₀ s₀ (zeros (8 * i)) out s
+Inv-loop out₀ n s₀ i₀ out s i = (i ≤ n) × Wrote out₀ s₀ (zeroBits (8 * i)) out s
 
 abbrev μ-loop : tie.MeasureT-loop
 μ-loop out₀ n s₀ i₀ out s i = n - i
