@@ -1,6 +1,8 @@
--- What the functions that lend a writer of their own have in common: each copies its writer into a local, lends it for a lifetime that the walk makes to a function that takes it by reference, with the output's own borrow and plain arguments, ends the lifetime, and returns the writer, which is back at its last value.
--- The walk from the first statement to the return is here, for any number of arguments. `None`, `One` and `Two` add the entry and the exit at that many.
--- Assumes nothing.
+-- What the functions that lend a writer of their own have in common: each copies its writer into a local, lends it for
+-- a lifetime that the walk makes to a function that takes it by reference, with the output's own borrow and plain
+-- arguments, ends the lifetime, and returns the writer, which is back at its last value. The walk from the first
+-- statement to the return is here, for any number of arguments. `None`, `One` and `Two` add the entry and the exit at
+-- that many.
 pub mod None
 pub mod One
 pub mod Two
@@ -49,7 +51,8 @@ use Rattle.codewords.proofs.writer.BitWriter.Laws as T′
 abbrev pub lent-ty : Ty
 lent-ty = tyRef erased mut (tyNamed (T.struct .name, []))
 
--- the places of the writer lent, of the callee's result, of the output's address, of the output and of the writer's address are s, u, a, k and m
+-- the places of the writer lent, of the callee's result, of the output's address, of the output and of the writer's
+-- address are s, u, a, k and m
 abbrev pub body : Name → List Operand → ℕ → ℕ → ℕ → ℕ → ℕ → Body
 body f xs s u a k m = seq (assign (place s []) (rvOpd (copy (place 2 []))))
     (seq (assign (place a []) (addrOf (place 1 (field 0 ∷ deref (tyInt w8) ∷ []))))
@@ -95,7 +98,8 @@ module _ {M : Type 1} (𝓤 : URA M) (H : Heap 𝓤) (A : Atoms 𝓤) (W : Given
 
 -- ---- the walk. The output is passed at b, o, γ and ys, and the writer h by value
 module _ {M : Type 1} (𝓤 : URA M) (κ : Lft) (q : Share) (b o : ℕ) (γ : GName) (ys : List ℕ) (h : BitWriter) where
-  -- what the callee takes, where the writer is lent from block l for the lifetime α under the name δ, and what it gives: Q is the type of the plain arguments' last values, and `rest` what is said of those
+  -- what the callee takes, where the writer is lent from block l for the lifetime α under the name δ, and what it
+  -- gives: Q is the type of the plain arguments' last values, and `rest` what is said of those
   module _ (l α : ℕ) (δ : GName) where
     abbrev pub Takes : Item 𝓤
     Takes = TakesOut 𝓤 κ q b o γ ys ⊛ (‵ (flft (α ∷ []) fullShare) ⊛ ‵ (MutRef (named 1) (α ∷ []) T.the-row .own (ref l zero δ h) (vptr l zero ∷ [])))
@@ -129,7 +133,8 @@ module _ {M : Type 1} (𝓤 : URA M) (κ : Lft) (q : Share) (b o : ℕ) (γ : GN
       E = (T′.mir, l₀) ∷ (slice-ty (named 0), l₁) ∷ (T′.mir, l₂) ∷ E′
 
       module _ (s u a k m : ℕ) (lₛ lᵤ lₐ lₖ lₘ : ℕ) (eₛ : getD E s (noLocal 𝓤 H) ≡ (T′.mir, lₛ)) (eᵤ : getD E u (noLocal 𝓤 H) ≡ (tyUnit, lᵤ)) (eₐ : getD E a (noLocal 𝓤 H) ≡ (tyRef erased mut (tyInt w8), lₐ)) (eₖ : getD E k (noLocal 𝓤 H) ≡ (slice-ty erased, lₖ)) (eₘ : getD E m (noLocal 𝓤 H) ≡ (lent-ty, lₘ)) where
-        -- from the first statement to where the locals are freed: `args` reads the plain arguments, and Δ has their cells and what ends each local
+        -- from the first statement to where the locals are freed: `args` reads the plain arguments, and Δ has their
+        -- cells and what ends each local
         pub middle : (P : Fml) (xs : List Operand) (us : List Val) (Δ : List (Item 𝓤)) → SliceRoom u8 (length ys)
             → ((α : ℕ) (δ : GName) → ent 𝓤 (mean 𝓤 H A (Takes lₛ α δ)) (C f (outVal b o ys ∷ vptr lₛ zero ∷ us) (λ w. mean 𝓤 H A (Gives lₛ α δ Q rest post w))))
             → ((i₀ i₁ i₂ i₃ i₄ i₅ i₆ i₇ i₈ : Item 𝓤) → Opds (Go {0}) W (i₀ ∷ i₁ ∷ i₂ ∷ i₃ ∷ i₄ ∷ i₅ ∷ i₆ ∷ i₇ ∷ i₈ ∷ Δ) E xs us)
@@ -142,7 +147,8 @@ module _ {M : Type 1} (𝓤 : URA M) (κ : Lft) (q : Share) (b o : ℕ) (γ : GN
             ∷ ‵ (fat fullShare (slice-ty (named 0)) l₁ zero (outVal b o ys)) ∷ ‵ (fat fullShare T′.mir l₂ zero (T′.lowered h)) ∷ ‵ (froom T′.mir l₀ zero) ∷ Δ) (runs C Λ E (body f xs s u a k m) (atRet E Kf))
         middle P xs us Δ room met args next =
             move ! (1 ∷ []) $ fsplit ! $ move ! (1 ∷ []) $ drop ! $
-            -- [the output; its token; the writer's address; the output's copy; its address; the callee's result; the writer lent; _1; _2; room for _0; Δ]
+            -- [the output; its token; the writer's address; the output's copy; its address; the callee's result; the
+            -- writer lent; _1; _2; room for _0; Δ]
             assigns ! (of-opd ! (load ! (from ! (stop !)) (look ! 8 refl))) (from-at ! eₛ (stop !)) (init ! 6 refl (typed 𝓤 H A W h h-is)) $
             assigns ! (addr ! (from ! (fld ! refl (hop ! (look-in ! 7 (sub ! 0 refl (whole !))) (stop !))))) (from-at ! eₐ (stop !)) (init ! 4 refl (tt, tt)) $
             assigns ! (agg ! (and-then ! (load ! (from-at ! eₐ (stop !)) (look ! 4 refl)) (and-then ! (load ! (from ! (fld ! refl (stop !))) (look-in ! 7 (sub ! 1 refl (whole !)))) (no-more !)))) (from-at ! eₖ (stop !)) (init ! 3 refl (tt, (tt, (record { fits = room .0 }, tt)))) $

@@ -1,6 +1,6 @@
--- What the functions that lend the writer have in common: each copies the writer out, calls a covered function on it with the output and plain arguments, and stores the writer that this gave.
--- The walk from the first statement to the return is here, for any number of arguments. `None`, `One` and `Two` add the entry and the exit at that many.
--- Assumes nothing.
+-- What the functions that lend the writer have in common: each copies the writer out, calls a covered function on it
+-- with the output and plain arguments, and stores the writer that this gave. The walk from the first statement to the
+-- return is here, for any number of arguments. `None`, `One` and `Two` add the entry and the exit at that many.
 pub mod None
 pub mod One
 pub mod Two
@@ -134,7 +134,8 @@ abbrev pub ref : ℕ → ℕ → GName → BitWriter → RefT BitWriter
 ref b o γ h = record { ptr = (b, o); name = γ; now = h }
 
 module _ {M : Type 1} (𝓤 : URA M) (κ : Lft) (q : Share) (b′ o′ : ℕ) (γ′ : GName) (ys : List ℕ) where
-  -- what the callee takes, and what it gives: L is the type of the last values, and `rest` what is said of those of the plain arguments
+  -- what the callee takes, and what it gives: L is the type of the last values, and `rest` what is said of those of the
+  -- plain arguments
   abbrev pub Takes : Item 𝓤
   Takes = (‵ (flft κ q) ⊛ ‵ ftrue) ⊛ ‵ (MutSlice (named 0) κ u8 .own (out b′ o′ γ′ ys) (outVal b′ o′ ys ∷ []))
 
@@ -167,7 +168,8 @@ module _ {M : Type 1} (𝓤 : URA M) (H : Heap 𝓤) (A : Atoms 𝓤) (W : Given
       E = (tyUnit, l₀) ∷ (slice-ty (named 0), l₁) ∷ (ref-ty, l₂) ∷ E′
 
       module _ (i j k m : ℕ) (lᵢ lⱼ lₖ lₘ : ℕ) (eᵢ : getD E i (noLocal 𝓤 H) ≡ (T′.mir, lᵢ)) (eⱼ : getD E j (noLocal 𝓤 H) ≡ (tyRef erased mut (tyInt w8), lⱼ)) (eₖ : getD E k (noLocal 𝓤 H) ≡ (slice-ty erased, lₖ)) (eₘ : getD E m (noLocal 𝓤 H) ≡ (T′.mir, lₘ)) where
-        -- from the first statement to where the locals are freed: `args` reads the plain arguments, and Δ has their cells and what ends each local
+        -- from the first statement to where the locals are freed: `args` reads the plain arguments, and Δ has their
+        -- cells and what ends each local
         pub middle : (P : Fml) (xs : List Operand) (us : List Val) (Δ : List (Item 𝓤)) → SliceRoom u8 (length ys)
             → (Is T.the-row h (T′.lowered h ∷ []) → ent 𝓤 (mean 𝓤 H A (Takes 𝓤 κ q b′ o′ γ′ ys)) (C f (outVal b′ o′ ys ∷ T′.lowered h ∷ us) (λ w. mean 𝓤 H A (Gives 𝓤 κ q b′ o′ γ′ ys L last rest post w))))
             → ((i₀ i₁ i₂ i₃ i₄ i₅ i₆ i₇ i₈ i₉ i₁₀ i₁₁ i₁₂ : Item 𝓤) → Opds (Go {0}) W (i₀ ∷ i₁ ∷ i₂ ∷ i₃ ∷ i₄ ∷ i₅ ∷ i₆ ∷ i₇ ∷ i₈ ∷ i₉ ∷ i₁₀ ∷ i₁₁ ∷ i₁₂ ∷ Δ) E xs us)
@@ -183,7 +185,8 @@ module _ {M : Type 1} (𝓤 : URA M) (H : Heap 𝓤) (A : Atoms 𝓤) (W : Given
             split ! $ move ! (1 ∷ []) $ split ! $ move ! (2 ∷ 1 ∷ []) $ join ! $ move ! (2 ∷ []) $ fsplit ! $ move ! (1 ∷ []) $ fsplit ! $ fsplit3 ! $ drop ! $ move ! (2 ∷ []) $ drop ! $ move ! (0 ∷ 1 ∷ 4 ∷ []) $
             opens ! tt T.the-row {h = h} b o (λ vs. spelt ! T.the-row (Is T.the-row) (shows 𝓤 H A T.the-row) (LL.vals T.the-type T′.the-laws) (LL.tells T.the-type T′.the-laws) fullShare h vs b o $
             move ! (1 ∷ []) $ peeks ! T.the-row (Is T.the-row) (shows 𝓤 H A T.the-row) h (T′.lowered h ∷ []) (λ g. move ! (1 ∷ 0 ∷ []) $
-            -- [the writer's cell; what it owns; the open borrow; obs; auth; the output; its token; the copy; the output's copy; its address; the result; _1; _2; room for _0; Δ]
+            -- [the writer's cell; what it owns; the open borrow; obs; auth; the output; its token; the copy; the
+            -- output's copy; its address; the result; _1; _2; room for _0; Δ]
             assigns ! (addr ! (from ! (fld ! refl (hop ! (look-in ! 11 (sub ! 0 refl (whole !))) (stop !))))) (from-at ! eⱼ (stop !)) (init ! 9 refl (tt, tt)) $
             assigns ! (agg ! (and-then ! (load ! (from-at ! eⱼ (stop !)) (look ! 9 refl)) (and-then ! (load ! (from ! (fld ! refl (stop !))) (look-in ! 11 (sub ! 1 refl (whole !)))) (no-more !)))) (from-at ! eₖ (stop !)) (init ! 8 refl (tt, (tt, (record { fits = room .0 }, tt)))) $
             assigns ! (of-opd ! (load ! (from ! (hop ! (look ! 12 refl) (stop !))) (look-raw ! 0 refl))) (from-at ! eₘ (stop !)) (init ! 7 refl (LL.lawful T.the-type T′.the-laws 𝓤 H A W .typed h _ g .0)) $
@@ -192,7 +195,8 @@ module _ {M : Type 1} (𝓤 : URA M) (H : Heap 𝓤) (A : Atoms 𝓤) (W : Given
             calls-from ! fm (Takes 𝓤 κ q b′ o′ γ′ ys) (outVal b′ o′ ys ∷ T′.lowered h ∷ us) (λ w. mean 𝓤 H A (Gives 𝓤 κ q b′ o′ γ′ ys L last rest post w)) (met g) (and-then ! (load ! (from-at ! eₖ (stop !)) (look ! 7 refl)) (and-then ! (load ! (from-at ! eₘ (stop !)) (look ! 6 refl)) (args _ _ _ _ _ _ _ _ _ _ _ _ _))) (λ w.
             use1 W (Gives 𝓤 κ q b′ o′ γ′ ys L last rest post w) (id⊢ 𝓤 _) $ await ! tt $ pick ! (λ r. split ! $ move ! (1 ∷ []) $ pick ! (λ zs. split ! $ move ! (1 ∷ []) $ heard ! (post (last zs) r) (λ p. fsplit ! $ fsplit ! $ move ! (1 ∷ []) $ feqL ! (λ l.
             move ! (2 ∷ []) $ split ! $ move ! (1 ∷ []) $ peeks ! T.the-row (Is T.the-row) (shows 𝓤 H A T.the-row) r (w ∷ []) (λ is.
-            -- [what the result owns; the output's token; its last list; …; the writer's cell; what it owned; the open borrow; obs; auth; the copy; …]
+            -- [what the result owns; the output's token; its last list; …; the writer's cell; what it owned; the open
+            -- borrow; obs; auth; the copy; …]
             land ! (from-at ! eᵢ (stop !)) (init ! 12 refl (LL.lawful T.the-type T′.the-laws 𝓤 H A W .typed r _ is .0)) $
             assigns ! (of-opd ! (load ! (from-at ! eᵢ (stop !)) (look ! 12 refl))) (from ! (hop ! (look ! 14 refl) (stop !))) (store-raw ! 4 refl (LL.lawful T.the-type T′.the-laws 𝓤 H A W .typed r _ is .0)) $
             assigns ! (of-opd ! (unit-lit !)) (from ! (stop !)) (init ! 15 refl (tt, tt)) $

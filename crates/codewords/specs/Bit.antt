@@ -1,4 +1,4 @@
--- Bits and literals, ST 2042-1 A.2.3 and A.3: bits go high first. Assumes nothing.
+-- Bits and literals, ST 2042-1 A.2.3 and A.3: bits go high first.
 use mathlib.Core.Bool.{Bool, true, false}
 use mathlib.Core.List.{List, [], _∷_}
 use Prim.Native.Nat.{ℕ, zero, suc, _+_, _*_, _/_, _%_, _^_}

@@ -1,4 +1,4 @@
--- Laws of literals and of the numbers that bits say. Assumes nothing.
+-- Laws of literals and of the numbers that bits say.
 use mathlib.Core.Path.{_≡_, refl, sym, ap, ap₂, _∙_}
 use mathlib.Core.Bool.{Bool, true, false}
 use mathlib.Core.List.{[], _∷_, _++_}

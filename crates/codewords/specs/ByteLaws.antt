@@ -1,4 +1,4 @@
--- Laws of bits in bytes: lengths, parts one after the other, bytes to bits and back, the bytes of one number. Assumes nothing.
+-- Laws of bits in bytes: lengths, parts one after the other, bytes to bits and back, the bytes of one number.
 use mathlib.Core.Path.{_≡_, refl, sym, ap, ap₂, _∙_}
 use mathlib.Core.List.{List, [], _∷_, _++_, append-assoc, append-nil}
 use Prim.Native.Nat.{ℕ, zero, suc, _+_, _-_, _*_, _/_, _%_, _^_, _≤_, _<_}

@@ -1,4 +1,4 @@
--- Interleaved exp-Golomb code words, ST 2042-1 A.4.3 and A.4.4. Assumes nothing.
+-- Interleaved exp-Golomb code words, ST 2042-1 A.4.3 and A.4.4.
 use mathlib.Core.Bool.{Bool, true, false}
 use mathlib.Core.List.{List, [], _∷_, _++_}
 use Prim.Native.Nat.{ℕ, zero, suc, _+_, _/_}
@@ -15,12 +15,12 @@ log2In (suc f) (suc (suc w)) = suc (log2In f (suc (suc w) / 2))
 unfoldable pub log2 : ℕ → ℕ
 log2 w = log2In w w
 
--- each bit behind a 0
+-- each bit after a 0
 unfoldable pub interleaved : Bits → Bits
 interleaved [] = []
 interleaved (b ∷ s) = false ∷ b ∷ interleaved s
 
--- A.4.3: the bits of v + 1 below its leading one, each behind a 0, and then a 1
+-- A.4.3: the bits of v + 1 below its leading one, each after a 0, and then a 1
 unfoldable pub codeU : ℕ → Bits
 codeU v = interleaved (lit (log2 (v + 1)) (v + 1)) ++ (true ∷ [])
 
@@ -33,12 +33,12 @@ sign (negsuc n) = true ∷ []
 unfoldable pub codeS : ℤ → Bits
 codeS z = codeU (natAbs z) ++ sign z
 
--- the same by the magnitude and whether it is below 0
+-- the signed code word by the magnitude and whether the number is below 0
 unfoldable pub codeM : ℕ → Bool → Bits
 codeM zero minus = codeU 0
 codeM (suc m) minus = codeU (suc m) ++ (minus ∷ [])
 
--- one after the other
+-- signed code words, one after the other
 unfoldable pub codes : List ℤ → Bits
 codes [] = []
 codes (y ∷ ys) = codeS y ++ codes ys

@@ -1,4 +1,4 @@
--- Laws of code words: lengths by the leading one, a word by its parts, a signed word by its sign. Assumes nothing.
+-- Laws of code words: lengths by the leading one, a word by its parts, a signed word by its sign.
 use mathlib.Core.Path.{_≡_, refl, sym, ap, _∙_}
 use mathlib.Core.Bool.{Bool, true, false}
 use mathlib.Core.List.{List, [], _∷_, _++_, append-assoc, append-nil}

@@ -1,4 +1,4 @@
--- Readers of bits, ST 2042-1 Annex A. Assumes nothing.
+-- Readers of bits, ST 2042-1 Annex A.
 use mathlib.Core.Bool.{Bool, true, false, cond}
 use mathlib.Core.List.{List, [], _∷_}
 use mathlib.Core.Option.{Option, none, some}
@@ -7,7 +7,8 @@ use lib.IntN.{ℤ, pos, negsuc}
 use lib.ListN.{length, drop}
 use Rattle.codewords.specs.Bit.{Bits, val}
 
--- what a reader finds: a value and the bits behind it, or a field that can't be read, with the bits from that field's start on
+-- what a reader finds: a value and the bits after it, or a field that can't be read, with the bits from that field's
+-- start on
 pub data Read (A : Type 0) : Type 0 where
   got : A → Bits → Read A
   stop : Bits → Read A
@@ -20,7 +21,7 @@ module _ {A : Type 0} where
   unfoldable pub give : A → Parser A
   give x = λ s. got x s
 
-  -- a field: it stops where it began
+  -- a field: one that is missing stops the reading where it began
   abbrev pub field : Bits → Option (A × Bits) → Read A
   field s none = stop s
   field s (some r) = got (r .0) (r .1)
@@ -41,7 +42,7 @@ infixl 20 _>>=_
 unfoldable pub _>>=_ : {A B : Type 0} → Parser A → (A → Parser B) → Parser B
 _>>=_ p f = λ s. after (p s) f
 
--- A.3.3: k bits
+-- A.3.3: k bits as a number
 abbrev pub nbitsFrom : ℕ → ℕ → Bits → Option (ℕ × Bits)
 nbitsFrom zero a s = some (a, s)
 nbitsFrom (suc k) a [] = none
@@ -50,7 +51,7 @@ nbitsFrom (suc k) a (b ∷ s) = nbitsFrom k (a * 2 + val b) s
 unfoldable pub readNbits : ℕ → Parser ℕ
 readNbits k s = field s (nbitsFrom k 0 s)
 
--- A.3.2
+-- A.3.2: one bit as a yes or no
 abbrev pub boolFrom : Bits → Option (Bool × Bits)
 boolFrom [] = none
 boolFrom (b ∷ s) = some (b, s)

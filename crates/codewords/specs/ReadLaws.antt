@@ -1,4 +1,4 @@
--- Reading gives back what was written and stops where it ended. Assumes nothing.
+-- Reading gives back what was written and stops where it ended.
 use mathlib.Core.Path.{_≡_, refl, sym, ap, _∙_}
 use mathlib.Core.Bool.{Bool, true, false, cond}
 use mathlib.Core.List.{List, [], _∷_, _++_, append-assoc}
@@ -115,7 +115,8 @@ reads-align w h = record {
       (drop-at w rest (length (w ++ rest) % 8) (sym (rw (length-append w rest) (omega (arith, k .full)))));
 }
 
--- that is the standard's alignment: with c of t bits read, t whole bytes, as many bits are skipped as c lacks to whole bytes
+-- that is the standard's alignment: with c of t bits read, t whole bytes, as many bits are skipped as c lacks to whole
+-- bytes
 pub align-count : (c t : ℕ) → t % 8 ≡ 0 → c ≤ t → (t - c) % 8 ≡ (8 - c % 8) % 8
 align-count c t h l = omega arith
 

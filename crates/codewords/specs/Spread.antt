@@ -1,4 +1,4 @@
--- Bits moved to twice their places, by which a code word is put at once. Assumes nothing.
+-- Bits moved to twice their places, by which a code word is put at once.
 use Prim.Native.Nat.{ℕ, zero, suc, _+_, _*_, _/_, _%_}
 
 -- the k low bits of b, each at twice its place

@@ -1,4 +1,4 @@
--- Code words as numbers: their pairs by the bits at twice their places. Assumes nothing.
+-- Code words as numbers: their pairs by the bits at twice their places.
 use mathlib.Core.Path.{_≡_, refl, sym, ap, ap₂, _∙_}
 use mathlib.Core.Bool.{Bool, true, false}
 use mathlib.Core.List.{[], _∷_, _++_, append-assoc}
@@ -60,7 +60,7 @@ interleaved-spread (suc n) (suc k) x h =
     ∙ ap (λ (s : Bits). s ++ (false ∷ b ∷ [])) (interleaved-spread n k (x / 2) (omega arith))
     ∙ sym (ap₂ lit g e ∙ lit-more (2 * n + 1) (t * 2 + val false) b ∙ ap (λ (s : Bits). s ++ (b ∷ [])) (lit-more (2 * n) t false) ∙ append-assoc (lit (2 * n) t) (false ∷ []) (b ∷ []))
 
--- and then a 1
+-- bits each after a 0, and then a 1, as one number
 pub word-lit : (n x : ℕ) → n ≤ 8 → interleaved (lit n x) ++ (true ∷ []) ≡ lit (2 * n + 1) (2 * spreadBits 8 x + 1)
 word-lit n x h =
     let e : spreadBits 8 x * 2 + val true ≡ 2 * spreadBits 8 x + 1 = omega arith in

@@ -1,4 +1,4 @@
--- What a bit writer has written: whole bytes laid over the output, and the bits that are pending. Assumes nothing.
+-- What a bit writer has written: whole bytes laid over the output, and the bits that are pending.
 use mathlib.Core.Path.{_≡_}
 use mathlib.Core.List.{List, [], _++_}
 use Prim.Native.Nat.{ℕ, _+_, _-_, _*_, _%_, _^_, _≤_, _<_}
@@ -12,7 +12,7 @@ use Rattle.codewords.specs.Bytes.{toBytes}
 abbrev pub pendingOf : BitWriter → Bits
 pendingOf w = lit (w .«pending_bits») (w .pending)
 
--- they are fewer than 32, and the number is made of them alone
+-- the bits pending are fewer than 32, and the number has no others
 pub record Sound (w : BitWriter) : Type 0 where
   pub part : w .«pending_bits» < 32
   pub small : w .pending < 2 ^ w .«pending_bits»
@@ -22,8 +22,8 @@ pub record Room (o : List ℕ) (w : BitWriter) (n : ℕ) : Type 0 where
   pub sound : Sound w
   pub room : w .at * 8 + w .«pending_bits» + n ≤ 8 * length o
 
--- from o at w the bits bs were written, which gave o′ at w′: of the bits pending before and bs, some whole bytes are laid over o from w's place on, and the
--- others are pending now
+-- from o at w the bits bs were written, which gave o′ at w′: of the bits pending before and bs, some whole bytes are
+-- laid over o from w's place on, and the others are pending now
 pub record Wrote (o : List ℕ) (w : BitWriter) (bs : Bits) (o′ : List ℕ) (w′ : BitWriter) : Type 0 where
   pub on : w .at ≤ w′ .at
   pub out : o′ ≡ laid o (w .at) (toBytes (take (8 * (w′ .at - w .at)) (pendingOf w ++ bs)))

@@ -1,5 +1,5 @@
--- Laws of the bit writer: a write by the bits that it laid, nothing, one write after another, the bits of one number, and what is left of the room.
--- Assumes nothing.
+-- Laws of the bit writer: a write by the bits that it laid, nothing, one write after another, the bits of one number,
+-- and what is left of the room.
 use mathlib.Core.Path.{_≡_, sym, ap, _∙_}
 use mathlib.Core.List.{List, [], _++_, append-assoc, append-nil}
 use Prim.Native.Nat.{ℕ, _+_, _-_, _*_, _/_, _%_, _^_, _≤_, _<_}
@@ -55,7 +55,7 @@ laid-by {o} {o′} {w} {w′} {bs} p =
       is = p .out;
     }
 
--- they are whole bytes
+-- the bits that were laid are whole bytes
 full-laid : {o o′ : List ℕ} {w w′ : BitWriter} {bs s : Bits} → Laid o w bs o′ w′ s → Full s
 full-laid l = record { full = omega (arith, l .next) }
 
@@ -129,7 +129,7 @@ bytes-laid {o} {o′} {w} {w′} {bs} _ p e h =
     l .is
     ∙ ap (laid o (w .at)) (sym (ap toBytes all ∙ toBytes-append s t (full-laid l) ∙ ap (λ (b : List ℕ). toBytes s ++ b) few ∙ append-nil (toBytes s)))
 
--- and so where the whole bytes are flushed at the end
+-- from whole bytes on, what was put lies in the output once it is flushed
 pub flush-lays : {o o′ o″ : List ℕ} {w w′ w″ : BitWriter} {bs : Bits} → Sound w → Wrote o w bs o′ w′ → Flushes o′ w′ o″ w″ → w .«pending_bits» ≡ 0
     → Lays o (w .at) (toBytes bs) o″ (w″ .at)
 flush-lays {bs = bs} s p f e =

@@ -1,4 +1,5 @@
-// The puts that slices and header use, with plain parameters: each lends the writer to the put of the same name in `lent` and gives it back.
+// The puts that slices and header use, with plain parameters: each lends the writer to the put of the same name in
+// `lent` and gives it back.
 use crate::writer::BitWriter;
 ghost use mathlib.Core.List.{[], _∷_};
 ghost use Prim.Native.Nat.{_≤_, _^_};
@@ -7,7 +8,7 @@ ghost use Rattle.codewords.specs.Bit.{lit, oneBits};
 ghost use Rattle.codewords.specs.Code.{codeU, codeM, codeS};
 ghost use Rattle.codewords.specs.Writer.{Room, Wrote, Flushes, Aligns, padding};
 
-// One bit.
+// Puts one bit.
 pub fn put_bit(out: &mut [u8], w: BitWriter, bit: bool) -> BitWriter
     requires { ⌜ Room (now out) w 1 ⌝ }
     ensures { λ r. ⌜ Wrote (now (out .entry)) w (bit ∷ []) (now (out .exit)) r ⌝ }
@@ -17,7 +18,7 @@ pub fn put_bit(out: &mut [u8], w: BitWriter, bit: bool) -> BitWriter
     s
 }
 
-// The n low bits of v.
+// Puts the n low bits of v.
 pub fn put_nbits(out: &mut [u8], w: BitWriter, v: u64, n: u32) -> BitWriter
     requires { ⌜ Room (now out) w n × (n ≤ 64) ⌝ }
     ensures { λ r. ⌜ Wrote (now (out .entry)) w (lit n v) (now (out .exit)) r ⌝ }
@@ -27,7 +28,7 @@ pub fn put_nbits(out: &mut [u8], w: BitWriter, v: u64, n: u32) -> BitWriter
     s
 }
 
-// The unsigned code word of v.
+// Puts the unsigned code word of v.
 pub fn put_uint(out: &mut [u8], w: BitWriter, v: u32) -> BitWriter
     requires { ⌜ Room (now out) w (length (codeU v)) ⌝ }
     ensures { λ r. ⌜ Wrote (now (out .entry)) w (codeU v) (now (out .exit)) r ⌝ }
@@ -37,7 +38,7 @@ pub fn put_uint(out: &mut [u8], w: BitWriter, v: u32) -> BitWriter
     s
 }
 
-// The signed code word of v.
+// Puts the signed code word of v.
 pub fn put_sint(out: &mut [u8], w: BitWriter, v: i64) -> BitWriter
     requires { ⌜ Room (now out) w (length (codeS v)) ⌝ }
     ensures { λ r. ⌜ Wrote (now (out .entry)) w (codeS v) (now (out .exit)) r ⌝ }
@@ -47,7 +48,7 @@ pub fn put_sint(out: &mut [u8], w: BitWriter, v: i64) -> BitWriter
     s
 }
 
-// The signed code word of the magnitude m, below 0 where minus is set.
+// Puts the signed code word of the magnitude m, below 0 where minus is set.
 pub fn put_signed(out: &mut [u8], w: BitWriter, m: u64, minus: bool) -> BitWriter
     requires { ⌜ Room (now out) w (length (codeM m minus)) × (m ≤ 2 ^ 63) ⌝ }
     ensures { λ r. ⌜ Wrote (now (out .entry)) w (codeM m minus) (now (out .exit)) r ⌝ }
@@ -57,7 +58,7 @@ pub fn put_signed(out: &mut [u8], w: BitWriter, m: u64, minus: bool) -> BitWrite
     s
 }
 
-// The whole bytes of the bits pending.
+// Lays the whole bytes of the bits pending over the output.
 pub fn flush(out: &mut [u8], w: BitWriter) -> BitWriter
     requires { ⌜ Room (now out) w 0 ⌝ }
     ensures { λ r. ⌜ Flushes (now (out .entry)) w (now (out .exit)) r ⌝ }
@@ -67,7 +68,7 @@ pub fn flush(out: &mut [u8], w: BitWriter) -> BitWriter
     s
 }
 
-// Zeros up to the end of the byte, and no bit pending.
+// Puts zeros up to the end of the byte; no bit is pending then.
 pub fn byte_align(out: &mut [u8], w: BitWriter) -> BitWriter
     requires { ⌜ Room (now out) w (padding w) ⌝ }
     ensures { λ r. ⌜ Aligns (now (out .entry)) w (now (out .exit)) r ⌝ }
@@ -77,7 +78,7 @@ pub fn byte_align(out: &mut [u8], w: BitWriter) -> BitWriter
     s
 }
 
-// n ones.
+// Puts n bits 1.
 pub fn put_ones(out: &mut [u8], w: BitWriter, n: u64) -> BitWriter
     requires { ⌜ Room (now out) w n ⌝ }
     ensures { λ r. ⌜ Wrote (now (out .entry)) w (oneBits n) (now (out .exit)) r ⌝ }

@@ -1,4 +1,5 @@
-// The writer of bits lent by reference: each put copies the writer out, calls the put of the same name in `writer` on it, and stores what that gave.
+// The writer of bits lent by reference: each put copies the writer out, calls the put of the same name in `writer` on
+// it, and stores what that gave.
 use crate::writer::BitWriter;
 ghost use mathlib.Core.List.{[], _∷_};
 ghost use Prim.Native.Nat.{_≤_, _^_};
@@ -7,7 +8,7 @@ ghost use Rattle.codewords.specs.Bit.{lit, oneBits};
 ghost use Rattle.codewords.specs.Code.{codeU, codeM, codeS};
 ghost use Rattle.codewords.specs.Writer.{Room, Wrote, Flushes, Aligns, padding};
 
-// One bit.
+// Puts one bit.
 pub(crate) fn put_bit(out: &mut [u8], w: &mut BitWriter, bit: bool)
     requires { ⌜ Room (now out) (now w) 1 ⌝ }
     ensures { λ _. ⌜ Wrote (now (out .entry)) (now (w .entry)) (bit ∷ []) (now (out .exit)) (now (w .exit)) ⌝ }
@@ -15,7 +16,7 @@ pub(crate) fn put_bit(out: &mut [u8], w: &mut BitWriter, bit: bool)
     *w = crate::writer::put_bit(out, *w, bit);
 }
 
-// The n low bits of v.
+// Puts the n low bits of v.
 pub(crate) fn put_nbits(out: &mut [u8], w: &mut BitWriter, v: u64, n: u32)
     requires { ⌜ Room (now out) (now w) n × (n ≤ 64) ⌝ }
     ensures { λ _. ⌜ Wrote (now (out .entry)) (now (w .entry)) (lit n v) (now (out .exit)) (now (w .exit)) ⌝ }
@@ -23,7 +24,7 @@ pub(crate) fn put_nbits(out: &mut [u8], w: &mut BitWriter, v: u64, n: u32)
     *w = crate::writer::put_nbits(out, *w, v, n);
 }
 
-// The unsigned code word of v.
+// Puts the unsigned code word of v.
 pub(crate) fn put_uint(out: &mut [u8], w: &mut BitWriter, v: u32)
     requires { ⌜ Room (now out) (now w) (length (codeU v)) ⌝ }
     ensures { λ _. ⌜ Wrote (now (out .entry)) (now (w .entry)) (codeU v) (now (out .exit)) (now (w .exit)) ⌝ }
@@ -31,7 +32,7 @@ pub(crate) fn put_uint(out: &mut [u8], w: &mut BitWriter, v: u32)
     *w = crate::writer::put_uint(out, *w, v);
 }
 
-// The signed code word of v.
+// Puts the signed code word of v.
 pub(crate) fn put_sint(out: &mut [u8], w: &mut BitWriter, v: i64)
     requires { ⌜ Room (now out) (now w) (length (codeS v)) ⌝ }
     ensures { λ _. ⌜ Wrote (now (out .entry)) (now (w .entry)) (codeS v) (now (out .exit)) (now (w .exit)) ⌝ }
@@ -39,7 +40,7 @@ pub(crate) fn put_sint(out: &mut [u8], w: &mut BitWriter, v: i64)
     *w = crate::writer::put_sint(out, *w, v);
 }
 
-// The signed code word of the magnitude m, below 0 where minus is set.
+// Puts the signed code word of the magnitude m, below 0 where minus is set.
 pub(crate) fn put_signed(out: &mut [u8], w: &mut BitWriter, m: u64, minus: bool)
     requires { ⌜ Room (now out) (now w) (length (codeM m minus)) × (m ≤ 2 ^ 63) ⌝ }
     ensures { λ _. ⌜ Wrote (now (out .entry)) (now (w .entry)) (codeM m minus) (now (out .exit)) (now (w .exit)) ⌝ }
@@ -47,7 +48,7 @@ pub(crate) fn put_signed(out: &mut [u8], w: &mut BitWriter, m: u64, minus: bool)
     *w = crate::writer::put_signed(out, *w, m, minus);
 }
 
-// The whole bytes of the bits pending.
+// Lays the whole bytes of the bits pending over the output.
 pub(crate) fn flush(out: &mut [u8], w: &mut BitWriter)
     requires { ⌜ Room (now out) (now w) 0 ⌝ }
     ensures { λ _. ⌜ Flushes (now (out .entry)) (now (w .entry)) (now (out .exit)) (now (w .exit)) ⌝ }
@@ -55,7 +56,7 @@ pub(crate) fn flush(out: &mut [u8], w: &mut BitWriter)
     *w = crate::writer::flush(out, *w);
 }
 
-// Zeros up to the end of the byte, and no bit pending.
+// Puts zeros up to the end of the byte; no bit is pending then.
 pub(crate) fn byte_align(out: &mut [u8], w: &mut BitWriter)
     requires { ⌜ Room (now out) (now w) (padding (now w)) ⌝ }
     ensures { λ _. ⌜ Aligns (now (out .entry)) (now (w .entry)) (now (out .exit)) (now (w .exit)) ⌝ }
@@ -63,7 +64,7 @@ pub(crate) fn byte_align(out: &mut [u8], w: &mut BitWriter)
     *w = crate::writer::byte_align(out, *w);
 }
 
-// n ones.
+// Puts n bits 1.
 pub(crate) fn put_ones(out: &mut [u8], w: &mut BitWriter, n: u64)
     requires { ⌜ Room (now out) (now w) n ⌝ }
     ensures { λ _. ⌜ Wrote (now (out .entry)) (now (w .entry)) (oneBits n) (now (out .exit)) (now (w .exit)) ⌝ }

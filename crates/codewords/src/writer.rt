@@ -1,4 +1,5 @@
-// The writer of bits into a lent slice of bytes, high bits first. Its puts are for `lent`; the layers above go through `bitio` and see to the room.
+// The writer of bits into a lent slice of bytes, high bits first. Its puts are for `lent`; the layers above go through
+// `bitio`, and there must be room for what they put.
 ghost use mathlib.Core.Path.{_≡_};
 ghost use Prim.Native.Nat.{_+_, _-_, _*_, _≤_, _<_, _^_};
 ghost use mathlib.Core.Bool.{true};
@@ -20,11 +21,11 @@ pub struct BitWriter {
 
 // A code word as the low bits of a number, and how many bits it has.
 struct Word {
-    pub bits: u64,
-    pub len: u32,
+    bits: u64,
+    len: u32,
 }
 
-// The 32 low bits of x as four bytes, from at on.
+// Writes the 32 low bits of x as four bytes, from place at on.
 fn put_four(out: &mut [u8], at: usize, x: u64)
     requires { ⌜ at + 4 ≤ length (now out) ⌝ }
     ensures { λ _. ⌜ now (out .exit) ≡ laid (now (out .entry)) at (toBytes (lit 32 x)) ⌝ }
@@ -35,7 +36,7 @@ fn put_four(out: &mut [u8], at: usize, x: u64)
     out[at + 3] = (x % 256) as u8;
 }
 
-// The n low bits of v, at most 32. Whole bytes go to the output by fours.
+// Puts the n low bits of v, at most 32. Whole bytes go to the output by fours.
 fn put_short(out: &mut [u8], w: BitWriter, v: u64, n: u32) -> BitWriter
     requires { ⌜ Room (now out) w n × (n ≤ 32) ⌝ }
     ensures { λ r. ⌜ Wrote (now (out .entry)) w (lit n v) (now (out .exit)) r ⌝ }
@@ -61,7 +62,7 @@ fn put_short(out: &mut [u8], w: BitWriter, v: u64, n: u32) -> BitWriter
     }
 }
 
-// One bit.
+// Puts one bit.
 pub(crate) fn put_bit(out: &mut [u8], w: BitWriter, bit: bool) -> BitWriter
     requires { ⌜ Room (now out) w 1 ⌝ }
     ensures { λ r. ⌜ Wrote (now (out .entry)) w (bit ∷ []) (now (out .exit)) r ⌝ }
@@ -69,7 +70,7 @@ pub(crate) fn put_bit(out: &mut [u8], w: BitWriter, bit: bool) -> BitWriter
     put_short(out, w, bit as u64, 1)
 }
 
-// The n low bits of v.
+// Puts the n low bits of v.
 pub(crate) fn put_nbits(out: &mut [u8], w: BitWriter, v: u64, n: u32) -> BitWriter
     requires { ⌜ Room (now out) w n × (n ≤ 64) ⌝ }
     ensures { λ r. ⌜ Wrote (now (out .entry)) w (lit n v) (now (out .exit)) r ⌝ }
@@ -81,7 +82,7 @@ pub(crate) fn put_nbits(out: &mut [u8], w: BitWriter, v: u64, n: u32) -> BitWrit
     put_short(out, s, v, 32)
 }
 
-// The whole bytes of the bits pending go to the output.
+// Lays the whole bytes of the bits pending over the output.
 pub(crate) fn flush(out: &mut [u8], w: BitWriter) -> BitWriter
     requires { ⌜ Room (now out) w 0 ⌝ }
     ensures { λ r. ⌜ Flushes (now (out .entry)) w (now (out .exit)) r ⌝ }
@@ -111,7 +112,7 @@ fn spread(b: u64) -> u64
     (y | y << 1) & 0x5555
 }
 
-// The bits of x below place n, each behind a 0, and then a 1.
+// Puts the bits of x below place n, each after a 0, and then a 1.
 fn put_interleaved(out: &mut [u8], w: BitWriter, x: u64, n: u32) -> BitWriter
     requires { ⌜ Room (now out) w (2 * n + 1) × (n < 64) ⌝ }
     ensures { λ r. ⌜ Wrote (now (out .entry)) w (interleaved (lit n x) ++ (true ∷ [])) (now (out .exit)) r ⌝ }
@@ -125,7 +126,7 @@ fn put_interleaved(out: &mut [u8], w: BitWriter, x: u64, n: u32) -> BitWriter
     put_short(out, s, 2 * spread(x) + 1, 2 * i + 1)
 }
 
-// The unsigned code word of x - 1.
+// Puts the unsigned code word of x - 1.
 fn put_code(out: &mut [u8], w: BitWriter, x: u64) -> BitWriter
     requires { ⌜ Room (now out) w (length (codeU (x - 1))) × (0 < x) ⌝ }
     ensures { λ r. ⌜ Wrote (now (out .entry)) w (codeU (x - 1)) (now (out .exit)) r ⌝ }
@@ -133,7 +134,7 @@ fn put_code(out: &mut [u8], w: BitWriter, x: u64) -> BitWriter
     put_interleaved(out, w, x, 63 - u64::leading_zeros(x))
 }
 
-// The unsigned code word of v.
+// Puts the unsigned code word of v.
 pub(crate) fn put_uint(out: &mut [u8], w: BitWriter, v: u32) -> BitWriter
     requires { ⌜ Room (now out) w (length (codeU v)) ⌝ }
     ensures { λ r. ⌜ Wrote (now (out .entry)) w (codeU v) (now (out .exit)) r ⌝ }
@@ -141,7 +142,7 @@ pub(crate) fn put_uint(out: &mut [u8], w: BitWriter, v: u32) -> BitWriter
     put_code(out, w, v as u64 + 1)
 }
 
-// The code word of the magnitude m with its sign, for small ones.
+// The signed code word of a small magnitude m.
 fn word_of(m: u64, minus: bool) -> Word
     requires { ⌜ m < 511 ⌝ }
     ensures { λ r. ⌜ (lit (r .len) (r .bits) ≡ codeM m minus) × (r .len ≤ 18) ⌝ }
@@ -158,7 +159,7 @@ fn word_of(m: u64, minus: bool) -> Word
     }
 }
 
-// The signed code word of the magnitude m, below 0 where minus is set.
+// Puts the signed code word of the magnitude m, below 0 where minus is set.
 pub(crate) fn put_signed(out: &mut [u8], w: BitWriter, m: u64, minus: bool) -> BitWriter
     requires { ⌜ Room (now out) w (length (codeM m minus)) × (m ≤ 2 ^ 63) ⌝ }
     ensures { λ r. ⌜ Wrote (now (out .entry)) w (codeM m minus) (now (out .exit)) r ⌝ }
@@ -171,7 +172,7 @@ pub(crate) fn put_signed(out: &mut [u8], w: BitWriter, m: u64, minus: bool) -> B
     put_bit(out, s, minus)
 }
 
-// The signed code word of v.
+// Puts the signed code word of v.
 pub(crate) fn put_sint(out: &mut [u8], w: BitWriter, v: i64) -> BitWriter
     requires { ⌜ Room (now out) w (length (codeS v)) ⌝ }
     ensures { λ r. ⌜ Wrote (now (out .entry)) w (codeS v) (now (out .exit)) r ⌝ }
@@ -179,7 +180,7 @@ pub(crate) fn put_sint(out: &mut [u8], w: BitWriter, v: i64) -> BitWriter
     put_signed(out, w, crate::unsigned_abs(v), v < 0)
 }
 
-// Zeros up to the end of the byte, and no bit pending.
+// Puts zeros up to the end of the byte; no bit is pending then.
 pub(crate) fn byte_align(out: &mut [u8], w: BitWriter) -> BitWriter
     requires { ⌜ Room (now out) w (padding w) ⌝ }
     ensures { λ r. ⌜ Aligns (now (out .entry)) w (now (out .exit)) r ⌝ }
@@ -188,7 +189,7 @@ pub(crate) fn byte_align(out: &mut [u8], w: BitWriter) -> BitWriter
     flush(out, s)
 }
 
-// n ones.
+// Puts n bits 1.
 pub(crate) fn put_ones(out: &mut [u8], w: BitWriter, n: u64) -> BitWriter
     requires { ⌜ Room (now out) w n ⌝ }
     ensures { λ r. ⌜ Wrote (now (out .entry)) w (oneBits n) (now (out .exit)) r ⌝ }

@@ -1,4 +1,4 @@
--- What the entry points leave behind their references. Assumes nothing.
+-- What the entry points leave behind their references.
 use mathlib.Core.Path.{_≡_}
 use mathlib.Core.Bool.{Bool, true, false, cond}
 use mathlib.Core.List.{List}
@@ -24,7 +24,7 @@ pub record Values : Type 0 where
   pub cut : ℕ
   pub scaler : ℕ
 
--- an accepted call's; a refused one leaves what stood there
+-- the values that a call leaves: an accepted one's own; a refused one leaves what stood there
 abbrev pub valuesOf : Answer → Values → Values
 valuesOf (Accepted c) v = record { written = c .written; cut = c .«cut_slices»; scaler = c .«slice_size_scaler» }
 valuesOf (Refused n) v = v
@@ -36,7 +36,7 @@ pub record Left : Type 0 where
   pub work : List ℤ
   pub values : Values
 
--- 100 where the words are no settings, and nothing changes
+-- what a picture call leaves: 100 where the words are no settings, and nothing changes
 unfoldable pub leftOf : List ℕ → List ℕ → Three (List ℕ) → List ℕ → List ℤ → Values → Left
 leftOf ws m p out work v =
     let o = outcomeOf (settingsOf ws) m p out work in

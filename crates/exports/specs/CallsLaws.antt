@@ -1,4 +1,4 @@
--- The entry points' outcomes from what the calls inside leave. Assumes nothing.
+-- The entry points' outcomes from what the calls inside leave.
 use mathlib.Core.Path.{_≡_, refl, sym, ap, _∙_}
 use mathlib.Core.Bool.{Bool, true, false, cond, _||_}
 use mathlib.Core.List.{List, _++_}

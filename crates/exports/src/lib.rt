@@ -1,5 +1,5 @@
-// Entry points for C and Rust callers; include/rumqeshi.h declares them. Each does what the call inside does. A slice is a pointer and a
-// count, in this order.
+// Entry points for C and Rust callers; include/rumqeshi.h declares them. Each does what the call inside does. A slice
+// is a pointer and a count, in this order.
 use quantiser::QuantAnswer;
 use unit::Answer;
 ghost use mathlib.Core.Path.{_≡_};
@@ -91,8 +91,8 @@ pub extern "C" fn vc2_oned_analysis(row: &mut [i64], index: u32) -> u32
     wavelet::oned_analysis(row, index)
 }
 
-// The picture call, with the settings as 21 words in the job program's order: 0, a refusal's number, or 100 where the words are no settings.
-// The values of an accepted call go behind the three references.
+// The picture call, with the settings as 21 words in the job program's order: 0, a refusal's number, or 100 where the
+// words are no settings. The values of an accepted call go behind the three references.
 #[no_mangle]
 pub extern "C" fn vc2_encode_picture(
     settings: &[u32],

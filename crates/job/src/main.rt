@@ -1,8 +1,9 @@
 // The job program: a job of 32-bit words on standard input, what comes of it on standard output.
 //
-// A word has its kind in its top four bits and its content in the others, high byte first. Kind 0: the 21 settings; then kinds 1 matrix,
-// 2 luma, 3 and 4 colour, one number a word; one last word of kind 15, content 0. A malformed job prints `job`, a refusal its number,
-// and an accepted one 0, length, cut slices and scaler on one line, and then the unit's bytes, 16 a line.
+// A word has its kind in its top four bits and its content in the others, high byte first. Kind 0: the 21 settings;
+// then kinds 1 matrix, 2 luma, 3 and 4 colour, one number a word; one last word of kind 15, content 0. A malformed job
+// prints `job`, a refusal its number, and an accepted one 0, length, cut slices and scaler on one line, and then the
+// unit's bytes, 16 a line.
 use libc::STDIN_FILENO;
 use libc::STDOUT_FILENO;
 

@@ -1,4 +1,4 @@
--- The job program: document 01, "Table of marked examples", its last part. Assumes nothing.
+-- The job program: document 01, "Table of marked examples", its last part.
 use mathlib.Core.Bool.{Bool, true, false, not, cond, _&&_, _||_}
 use mathlib.Core.List.{List, [], _∷_, _++_, map}
 use Prim.Native.Nat.{ℕ, zero, suc, _+_, _*_, _/_, _%_, _^_}
@@ -67,7 +67,8 @@ isEnd [] = false
 isEnd (w ∷ []) = eqb w (15 * 2 ^ 28)
 isEnd (w ∷ v ∷ ws) = false
 
--- words in order, none missing, settings among their values; lossless has rate number 0; matrix words only where custom is 1, at most 64 of them and 4,096 sample words, none above 65,535
+-- words in order, none missing, settings among their values; lossless has rate number 0; matrix words only where custom
+-- is 1, at most 64 of them and 4,096 sample words, none above 65,535
 unfoldable pub inOrder : List ℕ → Bool
 inOrder ws =
     let p = partsOf ws in

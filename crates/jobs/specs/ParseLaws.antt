@@ -1,4 +1,4 @@
--- Laws of a job's words: unpacked, taken apart kind by kind, and in order. Assumes nothing.
+-- Laws of a job's words: unpacked, taken apart kind by kind, and in order.
 use mathlib.Core.Path.{_≡_, refl, sym, ap, ap₂, _∙_}
 use mathlib.Core.Bool.{Bool, true, false, not, _&&_, _||_, or-assoc}
 use mathlib.Core.List.{List, [], _∷_, _++_, map, map-append}
@@ -89,7 +89,7 @@ kind-none : (k : ℕ) → ofKind k [] ≡ []
 unfolding ofKind
 kind-none k = refl
 
--- they stand in front
+-- the words of a kind stand in front
 kind-front : (k : ℕ) (ws : List ℕ) → ofKind k ws ≡ take (length (ofKind k ws)) ws
 unfolding ofKind
 kind-front k [] = refl
@@ -99,7 +99,7 @@ kind-front k (w ∷ ws) = by (eqb (kindOf w) k) (kind-front k ws)
     by true e = ap (λ (l : List ℕ). w ∷ l) e
     by false e = refl
 
--- they are no more than all
+-- the words of a kind are no more than all words
 kind-few : (k : ℕ) (ws : List ℕ) → length (ofKind k ws) ≤ length ws
 unfolding ofKind
 kind-few k [] = omega arith
@@ -261,7 +261,7 @@ grouped true true false d x = refl
 grouped true false c d x = refl
 grouped false b c d x = refl
 
--- the same tests in the code's order
+-- the tests of counts, in the code's order
 abbrev countedIn : List ℕ → Ends → Bool
 countedIn settings e = counted (wordAt settings 9) (wordAt settings 10) (wordAt settings 18) (e .matrix - e .settings) (e .c2 - e .matrix)
 
@@ -307,7 +307,7 @@ module _ (ws : List ℕ) (e : Ends) (ends : e ≡ endsOf ws) where
       let q = parted ws e ends in
       sym (length-take-le (e .settings) ws (omega (arith, q .to-matrix, q .to-y, q .to-c1, q .to-c2, q .within))) ∙ known-long (take (e .settings) ws) k
 
-  -- they stand in front of all words
+  -- the settings stand in front of all words
   setting-at : known (take (e .settings) ws) ≡ true → (i : ℕ) → i < 21 → wordAt (take (e .settings) ws) i ≡ getD ws i 0
   setting-at k i h = getD-take (e .settings) ws i 0 (rw (settings-long k) h)
 

@@ -1,4 +1,4 @@
--- Laws of the text: digits, lines and bytes as the loops write them. Assumes nothing.
+-- Laws of the text: digits, lines and bytes as the loops write them.
 use mathlib.Core.Path.{_≡_, refl, sym, ap, _∙_}
 use mathlib.Core.Bool.{Bool, true, false, cond, _||_}
 use mathlib.Core.List.{List, [], _∷_, _++_, append-assoc, append-nil}
@@ -21,7 +21,7 @@ use Rattle.jobs.specs.Job.{decimalFrom, decimal, lineOf, hexDigit, separ
 use Rattle.jobs.specs.Steps.{chunk, lengthIn}
 
 -- ---- Lays
--- the same run by another name
+-- a run that lies there, by an equal run
 pub lays-same : {b b′ vs ws : List ℕ} {at r : ℕ} → vs ≡ ws → Lays b at vs b′ r → Lays b at ws b′ r
 lays-same {b} {b′} {vs} {ws} {at} {r} e p = rw e at p
 

@@ -1,4 +1,4 @@
--- What the functions of the job program give, for their contracts. Assumes nothing.
+-- What the functions of the job program give, for their contracts.
 use mathlib.Core.Path.{_≡_}
 use mathlib.Core.Bool.{Bool, true, false, not, cond, _&&_, _||_}
 use mathlib.Core.List.{List, [], _∷_}

@@ -88,8 +88,8 @@ fn run_words(
     crate::print::put_answer(text, r, out)
 }
 
-// What the job in bytes prints, at the text's start, and how long it is, with 6,144 numbers of work and 8,192 bytes of output. What is left in the
-// lent slices is open, but for the text.
+// What the job in bytes prints, at the text's start, and how long it is, with 6,144 numbers of work and 8,192 bytes of
+// output. What is left in the lent slices is open, but for the text.
 pub fn run(
     bytes: &[u8],
     words: &mut [u32],

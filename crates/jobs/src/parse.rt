@@ -171,7 +171,7 @@ pub(crate) fn load_matrix(words: &[u32], matrix: &mut [u32])
     }
 }
 
-// The same for samples.
+// The contents of the words, laid from the front of samples on.
 pub(crate) fn load_samples(words: &[u32], samples: &mut [u16])
     requires { ⌜ (length (now words) ≤ length (now samples)) × (anyAbove 65535 (map contentOf (now words)) ≡ false) ⌝ }
     ensures { λ _. ⌜ Lays (now (samples .entry)) 0 (map contentOf (now (words .entry))) (now (samples .exit)) (length (now (words .entry))) ⌝ }

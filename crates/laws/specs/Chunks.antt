@@ -1,4 +1,4 @@
--- Lists put one after the other, and what a loop leaves that lends one part of a slice after the other. Assumes nothing.
+-- Lists put one after the other, and what a loop leaves that lends one part of a slice after the other.
 use mathlib.Core.Path.{_≡_, refl, sym, ap₂, _∙_}
 use Prim.Native.Nat.{ℕ, zero, suc, _+_, _*_, _≤_, _<_}
 use native.Mathlib.Nat.{suc-mul, zero-mul, mul-le-mul-right, le-trans}

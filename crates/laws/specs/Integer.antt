@@ -1,4 +1,4 @@
--- Linear arithmetic on ℤ by omega: z is up z - dn z, and one of the two is 0; magnitudes; division that rounds down. Assumes nothing.
+-- Linear arithmetic on ℤ by omega: z is up z - dn z, and one of the two is 0; magnitudes; division that rounds down.
 use mathlib.Core.Path.{_≡_, refl, ap, sym, _∙_, subst}
 use mathlib.Core.Bool.{Bool, true, false, not, cond}
 use Prim.Native.Nat.{ℕ, zero, suc, _+_, _*_, _-_, _/_, _≤_, _<_, min}

@@ -1,4 +1,4 @@
--- What the machine's signed operations ask at 64 bits, and what its quotient and remainder are, by up and dn. Assumes nothing.
+-- What the machine's signed operations ask at 64 bits, and what its quotient and remainder are, by up and dn.
 use mathlib.Core.Path.{_≡_, refl, ap, sym, _∙_}
 use mathlib.Core.Bool.{true, false}
 use Prim.Native.Nat.{ℕ, zero, suc, _+_, _*_, _-_, _/_, _%_, _^_, _≤_, _<_}

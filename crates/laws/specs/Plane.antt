@@ -1,5 +1,5 @@
--- A plane as a function of y and x; the same as a list, row by row; a plane kept as a list between two passes, so that each value is
--- computed once. Assumes nothing.
+-- A plane as a function of y and x; the same as a list, row by row; a plane kept as a list between two passes, so that
+-- each value is computed once.
 use mathlib.Core.Path.{_≡_, sym, ap, ap₂, _∙_}
 use Prim.Native.Nat.{ℕ, zero, suc, _+_, _*_, _/_, _%_, _<_}
 use native.Mathlib.Nat.{zero-add, div-add-mod', div-lt-iff-lt-mul, mod-lt, mul-comm}

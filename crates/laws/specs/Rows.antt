@@ -1,4 +1,4 @@
--- A function's values as a list, and a list's places; a region of a function of two numbers, row by row. Assumes nothing.
+-- A function's values as a list, and a list's places; a region of a function of two numbers, row by row.
 use mathlib.Core.Path.{_≡_, refl, sym, ap, ap₂, _∙_}
 use Prim.Native.Nat.{ℕ, zero, suc, _+_, _*_, _≤_, _<_}
 use native.Mathlib.Nat.{zero-add, zero-mul, le-of-suc-le-suc, not-suc-le-zero}

@@ -1,4 +1,4 @@
--- A list with n places from p on replaced: what a function over one slice and offsets leaves. Assumes nothing.
+-- A list with n places from p on replaced: what a function over one slice and offsets leaves.
 use mathlib.Core.Path.{_≡_, refl, sym, ap, ap₂, _∙_}
 use Prim.Native.Nat.{ℕ, suc, _+_, _*_, _-_, _≤_, _<_}
 use native.Mathlib.Omega.{arith}
@@ -128,7 +128,7 @@ drop-put n a m ys l h =
     ∙ drop-at (take n l) (take a (drop n l) ++ r) n (length-take-le n l h)
     ∙ ap (λ (x : List ℤ). take a (drop n l) ++ (ys ++ x)) (ap (λ (k : ℕ). drop k l) (add-assoc n a m) ∙ sym (drop-drop (a + m) n l))
 
--- and where they lie in front
+-- what stands from n on stays where something before it is replaced
 pub drop-put-front : (n m : ℕ) (ys l : List ℤ) → m ≤ n → length ys ≡ m → drop n (put 0 m ys l) ≡ drop n l
 unfolding put
 drop-put-front n m ys l h e =

@@ -1,4 +1,4 @@
--- The two's complement wrap of any integer at 64 bits. Assumes nothing.
+-- The two's complement wrap of any integer at 64 bits.
 use mathlib.Core.Path.{_≡_, refl, ap, sym, _∙_}
 use mathlib.Core.Bool.{Bool, true, false, not}
 use Prim.Native.Nat.{ℕ, suc, _+_, _*_, _-_, _/_, _%_, _^_, _≤_, _<_}

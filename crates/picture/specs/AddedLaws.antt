@@ -1,4 +1,4 @@
--- Laws of numbers added up one by one: runs one after the other, the numbers of a place, and parts. Assumes nothing.
+-- Laws of numbers added up one by one: runs one after the other, the numbers of a place, and parts.
 use mathlib.Core.Path.{_≡_, refl, sym, ap, _∙_}
 use mathlib.Core.Bool.{true, false}
 use mathlib.Core.List.{List, [], _∷_, _++_}

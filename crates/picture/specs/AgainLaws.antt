@@ -1,4 +1,4 @@
--- Rebuilding a slice does not look at what stood in its places: another candidate rebuilt before leaves no trace. Assumes nothing.
+-- Rebuilding a slice does not look at what stood in its places: another candidate rebuilt before leaves no trace.
 use mathlib.Core.Path.{_≡_, refl, sym, ap, ap₂, _∙_, fun-ext}
 use mathlib.Core.Bool.{cond}
 use mathlib.Core.List.{List}
@@ -120,7 +120,7 @@ module _ (s : Strip) (l m : List ℤ) (D : ℕ → Type 0) (a : Apart l s) (b : 
       by (no u) v = out (λ h. absurd (u h))
 
 -- ---- three strips
--- their planes lie one behind the other, before all coefficients
+-- the rebuilt planes of three strips lie one after the other, before all coefficients
 record InOrder (s t u : Strip) : Type 0 where
   first : s .rebuilt + s .height * s .width ≤ t .rebuilt
   second : t .rebuilt + t .height * t .width ≤ u .rebuilt

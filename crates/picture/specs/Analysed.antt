@@ -1,4 +1,4 @@
--- A call's picture in its work slice: where the components stand, and what analysis leaves there. Assumes nothing.
+-- A call's picture in its work slice: where the components stand, and what analysis leaves there.
 use mathlib.Core.Path.{_≡_}
 use mathlib.Core.Bool.{Bool, true, false}
 use mathlib.Core.List.{List}

@@ -1,5 +1,5 @@
--- What coding needs of an accepted call, for both kinds of picture: its conditions, where its bands stand, and how a unit is put together.
--- Assumes nothing.
+-- What coding needs of an accepted call, for both kinds of picture: its conditions, where its bands stand, and how a
+-- unit is put together.
 use mathlib.Core.Path.{_≡_, refl, sym, ap, ap₂, _∙_, subst}
 use mathlib.Core.Bool.{Bool, true, false}
 use mathlib.Core.List.{List, [], _∷_, _++_, append-assoc, append-nil}

@@ -1,5 +1,5 @@
--- What analysis needs and leaves: zeros in a loop, sample offsets, the code's sides as the definitions have them, and the work slice with its
--- front of zeros and the three components behind it. Assumes nothing.
+-- What analysis needs and leaves: zeros in a loop, sample offsets, the code's sides as the definitions have them, and
+-- the work slice with its front of zeros and the three components behind it.
 use mathlib.Core.Path.{_≡_, refl, sym, ap, ap₂, _∙_}
 use mathlib.Core.List.{List, _∷_, _++_}
 use Prim.Native.Nat.{ℕ, zero, suc, _+_, _-_, _*_, _%_, _^_, _≤_, _<_}

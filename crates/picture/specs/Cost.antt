@@ -1,4 +1,4 @@
--- What a run of numbers costs, added up number by number. Assumes nothing.
+-- What a run of numbers costs, added up number by number.
 use mathlib.Core.Path.{_≡_}
 use mathlib.Core.Bool.{Bool, true, false, cond}
 use mathlib.Core.List.{List, [], _∷_}

@@ -1,4 +1,4 @@
--- Laws of costs: runs added one after the other, and what the fields of a run's cost are. Assumes nothing.
+-- Laws of costs: runs added one after the other, and what the fields of a run's cost are.
 use mathlib.Core.Path.{_≡_, refl, sym, ap, ap₂, _∙_}
 use mathlib.Core.Bool.{Bool, true, false, cond}
 use mathlib.Core.List.{List, [], _∷_, _++_, append-nil}
@@ -238,7 +238,7 @@ module _ {room : ℕ} {xs : List ℤ} {r : Cost} (h : CostOf room xs r) where
   pub keep-shorter : r .keep ≤ r .fit → fitPrefix (trimmed xs) room ≡ trimmed xs
   keep-shorter l = both ∙ ap (take (r .keep)) fit-run ∙ take-take (r .keep) (r .fit) xs l ∙ sym kept-run
 
-  -- and the bits it takes
+  -- the bits of the longest run that fits, where it is the shorter one
   pub fit-shorter-bits : r .fit ≤ r .keep → bitsOf (fitPrefix (trimmed xs) room) ≡ r .«fit_bits»
   fit-shorter-bits l = ap bitsOf (fit-shorter l) ∙ sym (h .fit-bits)
 

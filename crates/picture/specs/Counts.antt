@@ -1,4 +1,4 @@
--- How many numbers slices have. Assumes nothing.
+-- How many numbers slices have.
 use Prim.Native.Nat.{ℕ, zero, suc, _+_}
 use Rattle.unit.specs.Slices.{partSize}
 use Rattle.picture.specs.declared.layout.Component.{Component}

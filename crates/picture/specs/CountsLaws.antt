@@ -1,4 +1,5 @@
--- Laws of how many numbers slices have: as many as a slice's run, those of one more slice, and within the component's padded area. Assumes nothing.
+-- Laws of how many numbers slices have: as many as a slice's run, those of one more slice, and within the component's
+-- padded area.
 use mathlib.Core.Path.{_≡_, ap, ap₂, _∙_}
 use mathlib.Core.Bool.{false}
 use mathlib.Core.List.{List}
@@ -76,7 +77,7 @@ module _ {l : Layout} (h : LayoutIn l) (z : Size) where
           let m = mod-lt k (h .across .0) in
           omega (arith, column-next i j, row-most i (suc j) m, before-is (suc k) (suc i) 0 (h .across .0) (omega (arith, div-add-mod' k (l .across), m, suc-mul i (l .across))))
 
-  -- and within the subband
+  -- a slice's part lies within the subband
   part-within : (k : ℕ) → k < sliceCount (gridIn l) → before k + partSize (gridIn l) z k ≤ area z
   part-within k b =
       let i : ℕ = k / l .across in

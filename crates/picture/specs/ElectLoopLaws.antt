@@ -1,4 +1,4 @@
--- The election of low delay as a loop halves a range of indices: the range at the start, after a turn, and at the end. Assumes nothing.
+-- The election of low delay as a loop halves a range of indices: the range at the start, after a turn, and at the end.
 use mathlib.Core.Path.{_≡_, refl, sym, ap, _∙_}
 use mathlib.Core.Bool.{Bool, true, false}
 use Prim.Native.Nat.{ℕ, zero, suc, _+_, _-_, _/_, _≤_, _<_}

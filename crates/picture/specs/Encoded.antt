@@ -1,4 +1,4 @@
--- What the picture call leaves: answer, output and work slice as the definition's outcome has them, and demand 3. Assumes nothing.
+-- What the picture call leaves: answer, output and work slice as the definition's outcome has them, and demand 3.
 use mathlib.Core.Path.{_≡_}
 use mathlib.Core.Bool.{Bool, true, false, _||_}
 use mathlib.Core.List.{List, [], _∷_, _++_}
@@ -21,7 +21,7 @@ use Rattle.picture.specs.declared.layout.Picture.{Picture}
 use Rattle.picture.specs.Run.{Small}
 use Rattle.picture.specs.Analysed.{pictureOf, frontOf, Called, Analysed}
 
--- the unit does not fit the output, or a length of 32 bits
+-- whether a unit of n bytes is longer than an output of len bytes, or than 4,294,967,295 bytes
 abbrev pub tooLong : ℕ → ℕ → Bool
 tooLong len n = ltb len n || ltb 4294967295 n
 
@@ -33,16 +33,14 @@ answerNumber s m p out work =
       | false ↦ refusalOf s m p work
     ]
 
--- what the answer tells: this number, and behind a 0 the unit's length, the count of cut slices and the final scaler
+-- what the answer tells: its number and, after 0, the unit's length, the count of cut slices and the final scaler
 abbrev pub answerTold : Settings → List ℕ → Three (List ℕ) → List ℕ → List ℤ → List ℕ
 answerTold s m p out work =
+    let n = answerNumber s m p out work in
     let a = planOf s m p in
-    elim (eqb (refusalOf s m p work) 0) [
-      | true ↦ elim (tooLong (length out) (lengthOf s a)) [
-        | true ↦ 14 ∷ []
-        | false ↦ 0 ∷ lengthOf s a ∷ cutCount (s .kind) a ∷ scalerIn (a .parameters .sliceParameters) (s .«slice_size_scaler») ∷ []
-      ]
-      | false ↦ refusalOf s m p work ∷ []
+    n ∷ elim (eqb n 0) [
+      | true ↦ lengthOf s a ∷ cutCount (s .kind) a ∷ scalerIn (a .parameters .sliceParameters) (s .«slice_size_scaler») ∷ []
+      | false ↦ []
     ]
 
 -- settings s, lent matrix m, planes p, output and work slice as they came and as they are left, and the answer
@@ -55,7 +53,7 @@ pub record Encodes (s : Settings) (m : List ℕ) (p : Three (List ℕ)) (out : L
   -- an accepted call: demand 3 of the bytes that the answer counts, as they now stand in the output
   pub demand : (c : Coded) → r ≡ Accepted c → Demand3 s m p (take (c .written) out′)
 
--- ---- before the work slice is cleared
+-- ---- for the code: before the work slice is cleared
 abbrev pub answerBy : Settings → Plan → Bool → Answer
 answerBy s a true = Refused 14
 answerBy s a false = Accepted (codedOf s a)

@@ -1,4 +1,4 @@
--- The picture call's outcome from what its parts leave. Assumes nothing.
+-- The picture call's outcome from what its parts leave.
 use mathlib.Core.Path.{_≡_, refl, sym, ap, ap₂, _∙_}
 use mathlib.Core.Bool.{Bool, true, false, _||_}
 use mathlib.Core.List.{List, [], _∷_, _++_, append-nil}
@@ -71,25 +71,24 @@ module _ (s : Settings) (m : List ℕ) (p : Three (List ℕ)) (out : List ℕ) (
   unfolding outcomeOf
   outcome-if = refl
 
-  -- its answer's number and what it tells, by whether a rule of 1 to 13 is broken and whether the unit is too long
+  -- the number of the outcome's answer and what it tells, by whether a rule of 1 to 13 is broken and whether the unit
+  -- is too long
   number-by : (b t : Bool) → numberOf (elim b [ true ↦ codedBy t .answer | false ↦ Refused (refusalOf s m p work) ])
       ≡ elim b [ true ↦ elim t [ true ↦ 14 | false ↦ 0 ] | false ↦ refusalOf s m p work ]
   number-by true true = refl
   number-by true false = refl
   number-by false t = refl
 
-  told-by : (b t : Bool) → tells (elim b [ true ↦ codedBy t .answer | false ↦ Refused (refusalOf s m p work) ])
-      ≡ elim b [
-        | true ↦ elim t [
-          | true ↦ 14 ∷ []
-          | false ↦ 0 ∷ lengthOf s a ∷ cutCount (s .kind) a ∷ scalerIn (a .parameters .sliceParameters) (s .«slice_size_scaler») ∷ []
-        ]
-        | false ↦ refusalOf s m p work ∷ []
-      ]
+  told-by : (b t : Bool) → eqb (refusalOf s m p work) 0 ≡ b → tells (elim b [ true ↦ codedBy t .answer | false ↦ Refused (refusalOf s m p work) ])
+      ≡ (let n : ℕ = elim b [ true ↦ elim t [ true ↦ 14 | false ↦ 0 ] | false ↦ refusalOf s m p work ] in
+      n ∷ elim (eqb n 0) [
+        | true ↦ lengthOf s a ∷ cutCount (s .kind) a ∷ scalerIn (a .parameters .sliceParameters) (s .«slice_size_scaler») ∷ []
+        | false ↦ []
+      ])
   unfolding codedOf
-  told-by true true = refl
-  told-by true false = refl
-  told-by false t = refl
+  told-by true true e = refl
+  told-by true false e = refl
+  told-by false t e = rw e refl
 
   -- the outcome's answer by the two
   answer-if : outcomeOf s m p out work .answer
@@ -106,7 +105,7 @@ module _ (s : Settings) (m : List ℕ) (p : Three (List ℕ)) (out : List ℕ) (
   encodes out′ work′ r t e o w = record {
     answer = e;
     number = ap numberOf (e ∙ answer-if) ∙ number-by (eqb (refusalOf s m p work) 0) (tooLong (length out) (lengthOf s a));
-    told = ap tells (e ∙ answer-if) ∙ told-by (eqb (refusalOf s m p work) 0) (tooLong (length out) (lengthOf s a));
+    told = ap tells (e ∙ answer-if) ∙ told-by (eqb (refusalOf s m p work) 0) (tooLong (length out) (lengthOf s a)) refl;
     output = o;
     work-left = w;
     demand = λ c f. rw o (accepted s m p out work t c (sym e ∙ f));
@@ -117,7 +116,7 @@ module _ (s : Settings) (m : List ℕ) (p : Three (List ℕ)) (out : List ℕ) (
       let f = outcome-if ∙ ap outcomeIf (ne-eqb (refusalOf s m p work) 0 (λ z. ne (e ∙ z))) in
       encodes out work (Refused n) t (ap Refused e ∙ sym (ap (λ (o : Outcome). o .answer) f)) (sym (ap (λ (o : Outcome). o .output) f)) (sym (ap (λ (o : Outcome). o .work) f))
 
-  -- and behind coding
+  -- the outcome of a call that no rule of 1 to 13 refuses
   coded-outcome : refusalOf s m p work ≡ 0 → outcomeOf s m p out work ≡ coded s (planOf s m p) out work
   coded-outcome e = outcome-if ∙ ap outcomeIf (eq-eqb (refusalOf s m p work) 0 e)
 

@@ -1,4 +1,4 @@
--- The header's slice parameters as the definitions have them, and what writing it asks. Assumes nothing.
+-- The header's slice parameters as the definitions have them, and what writing it asks.
 use mathlib.Core.Path.{_≡_}
 use mathlib.Core.Bool.{true}
 use mathlib.Core.List.{List}

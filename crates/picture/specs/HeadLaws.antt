@@ -1,4 +1,4 @@
--- The header's parts, what they are by case, and how they make up the header. Assumes nothing.
+-- The header's parts, what they are by case, and how they make up the header.
 use mathlib.Core.Path.{_≡_, refl, sym, ap, ap₂, _∙_, subst}
 use mathlib.Core.Bool.{Bool, true, false, not, cond, _||_}
 use mathlib.Core.Logic.{_⊎_, ⊎-elim}
@@ -91,7 +91,7 @@ codesU-more (x ∷ xs) v = ap (λ (r : Bits). codeU x ++ r) (codesU-more xs v) �
 pub codesU-take : (vs : List ℕ) (i d : ℕ) → i < length vs → codesU (take (i + 1) vs) ≡ codesU (take i vs) ++ codeU (getD vs i d)
 codesU-take vs i d h = ap (λ (k : ℕ). codesU (take k vs)) (add-one i) ∙ ap codesU (take-suc vs i d h) ∙ codesU-more (take i vs) (getD vs i d)
 
--- and what it takes of all
+-- the code words of the first i values and the next one are no longer than all
 pub codesU-part : (vs : List ℕ) (i d : ℕ) → i < length vs → length (codesU (take i vs)) + length (codeU (getD vs i d)) ≤ length (codesU vs)
 unfolding codesU
 codesU-part [] i d h = absurd (omega arith)

@@ -1,5 +1,5 @@
--- High quality as the code has it: needs, index, choice, bits and words of a slice by its numbers in the work slice, and what stands there behind the
--- planning: words in its front, choices behind its end. Assumes nothing.
+-- High quality as the code has it: needs, index, choice, bits and words of a slice by its numbers in the work slice,
+-- and what stands there behind the planning: words in its front, choices behind its end.
 use mathlib.Core.Path.{_≡_}
 use mathlib.Core.Bool.{Bool, true, false}
 use mathlib.Core.List.{List, _++_}
@@ -210,8 +210,8 @@ pub record ChoiceAt (v : List ℤ) (i : ℕ) (c : Choice) : Type 0 where
   pub c2-words : at v (i + 5) ≡ pos (c .c2 .words)
   pub c2-bits : at v (i + 5 + 1) ≡ pos (c .c2 .bits)
 
--- v is as long as w and has its coefficients; at its start stand the words of w's first n slices, and behind the picture's end their choices, each for
--- whose seven numbers there is room
+-- v is as long as w and has its coefficients; at its start stand the words of w's first n slices, and behind the
+-- picture's end their choices, each for whose seven numbers there is room
 pub record Notes (w : List ℤ) (p : Picture) (t : Terms) (n : ℕ) (v : List ℤ) : Type 0 where
   pub size : length v ≡ length w
   pub same : (i : ℕ) → p .front ≤ i → i < p .end → at v i ≡ at w i

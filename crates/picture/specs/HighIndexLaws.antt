@@ -1,5 +1,5 @@
--- Laws of the index of a high-quality slice: what a component needs, a slice's size, the shares of a target, and the index by its rate. Assumes
--- nothing.
+-- Laws of the index of a high-quality slice: what a component needs, a slice's size, the shares of a target, and the
+-- index by its rate.
 use mathlib.Core.Path.{_≡_, refl, sym, ap, ap₂, _∙_, subst}
 use mathlib.Core.Bool.{false}
 use mathlib.Core.List.{List}

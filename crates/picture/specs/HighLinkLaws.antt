@@ -1,5 +1,5 @@
--- High quality: the slices that the code makes of the work slice are the unit's, and so are its scaler, its length and its bytes.
--- Assumes nothing.
+-- High quality: the slices that the code makes of the work slice are the unit's, and so are its scaler, its length and
+-- its bytes.
 use mathlib.Core.Path.{_≡_, refl, sym, ap, ap₂, _∙_, subst, fun-ext}
 use mathlib.Core.Bool.{Bool, true, false}
 use mathlib.Core.List.{List, _++_}
@@ -240,7 +240,7 @@ module _ {w : List ℤ} {p : Picture} {s : Settings} {m : List ℕ} (k : Coding 
       slices-ready t n at o et en ea eo =
           subst (λ (t : Terms). PlanIn p t w × (at + length (highRuns w p t (slicesIn p)) ≤ length o)) (sym et) (plan-in, runs-room n at o en ea eo)
 
-      -- the same where the indices are noted in v
+      -- what writing the slices asks, where the choices are noted in v
       pub slices-noted : {v : List ℤ} → Notes w p (termsOf s m (r .scaler)) (slicesIn p) v → (t : Terms) (n at : ℕ) (o : List ℕ) → t ≡ termsOf s m (r .scaler) → n ≡ r .end
           → at ≡ 17 + parameterBytes (majorVersion s) (highParameters s m (r .scaler))
           → o ≡ toBytes (headBits s n (highParameters s m (r .scaler))) ++ drop at out

@@ -1,5 +1,5 @@
--- Laws of the planning pass of high quality: a slice planned behind others, a call's terms, and the scaler that the turns end at.
--- Assumes nothing.
+-- Laws of the planning pass of high quality: a slice planned behind others, a call's terms, and the scaler that the
+-- turns end at.
 use mathlib.Core.Path.{_≡_, refl, sym, ap, ap₂, _∙_, subst}
 use mathlib.Core.Bool.{Bool, true, false}
 use mathlib.Core.List.{List, [], _∷_, _++_}
@@ -36,11 +36,11 @@ use Rattle.picture.specs.High.{indexIn, planIn, plansIn, choiceBy, choic
 use Rattle.picture.specs.HighIndexLaws.{needs-chosen}
 
 -- ---- a slice
--- its bytes are its size
+-- a slice's bytes are its size
 pub bytes-high : (p c q : ℕ) (z : Three (List ℤ)) → 1 ≤ c → length (toBytes (highBits p c q z)) ≡ sliceSize p c z
 bytes-high p c q z h = length-toBytes (highBits p c q z) ∙ ap (λ (k : ℕ). k / 8) (length-high p c q z h) ∙ omega arith
 
--- its size by its needs
+-- a slice's size by the needs of its components
 pub size-needs : (p c : ℕ) (z : Three (List ℤ)) (n : Needs) → NeedsOf z n
     → sliceSize p c z ≡ 4 + p + (ceiling (n .y) c * c + ceiling (n .c1) c * c + ceiling (n .c2) c * c)
 unfolding sliceSize
@@ -81,7 +81,7 @@ planned-is t c b n size most words e d l m k = (
   omega (arith, l),
 )
 
--- the same of slice k and its choice
+-- slice k, planned by its choice
 pub slice-planned : (w : List ℤ) (p : Picture) (t : Terms) (k : ℕ) (c : Choice) (b r : SliceCoder) → 1 ≤ t .scaler → FewBits c → c ≡ choiceIn w p t k
     → r ≡ plannedBy t c b → r .at ≤ b .at + 2 ^ 34 → PlansOn (planIn w p t k) b r
 unfolding planIn
@@ -141,7 +141,7 @@ module _ (w : List ℤ) (p : Picture) (t : Terms) (from : ℕ) where
         words = omega (arith, h .words, o .words, ap length (chunks-more (wordsIn w p t) k), length-append (wordsTo w p t k) (wordsIn w p t k));
       }
 
--- the same terms and place
+-- a plan of equal terms from an equal place
 pub plans-same : (w : List ℤ) (p : Picture) (t u : Terms) (i j n : ℕ) (r : SliceCoder) → t ≡ u → i ≡ j → PlansTo w p t i n r → PlansTo w p u j n r
 plans-same w p t u i j n r e f h = subst (λ (k : ℕ). PlansTo w p u k n r) f (subst (λ (v : Terms). PlansTo w p v i n r) e h)
 

@@ -1,4 +1,4 @@
--- Laws of a written high-quality slice: a component, the prefix, the slice's bytes, and slice after slice. Assumes nothing.
+-- Laws of a written high-quality slice: a component, the prefix, the slice's bytes, and slice after slice.
 use mathlib.Core.Path.{_≡_, refl, sym, ap, ap₂, _∙_, subst}
 use mathlib.Core.Bool.{true, false}
 use mathlib.Core.List.{List, _++_}
@@ -221,7 +221,7 @@ module _ (w : List ℤ) (i q : ℕ) (z : Three (List ℤ)) (e : wordsAt w i (len
         c2 = held-run w (i + length y + length c1) (z .c2) (b .1 .1) (colours-stand .1) (omega (arith, h, m, n)) (f .bits .1 .1);
       }
 
-  -- its bits are those of the numbers
+  -- the bits of the words are those of the numbers
   stands-bits : (p c : ℕ) → highBits p c q (numbersAt w i choice) ≡ highBits p c q z
   unfolding highBits
   stands-bits p c =
@@ -264,7 +264,7 @@ module _ {w : List ℤ} {p : Picture} {t : Terms} (k i : ℕ) (c : Choice) (h : 
       ap (λ (c : Choice). highBits (t .prefix) (t .scaler) (c .index) (numbersAt w i c)) ec
       ∙ stands-bits w i index (numbersIn w p k index) stand (numbers-below h l most) (t .prefix) (t .scaler)
 
-  -- its room
+  -- the room of a slice as planned is the room of its words
   pub plan-room : (at n : ℕ) → at + length (toBytes (planIn w p t k .bits)) ≤ n
       → at + length (toBytes (highBits (t .prefix) (t .scaler) (c .index) (numbersAt w i c))) ≤ n
   plan-room at n b = rw plan-bits b

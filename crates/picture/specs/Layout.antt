@@ -1,4 +1,4 @@
--- Where the subbands of a component stand in the work slice, what a slice has of each, and its numbers of all of them. Assumes nothing.
+-- Where the subbands of a component stand in the work slice, what a slice has of each, and its numbers of all of them.
 use mathlib.Core.Path.{_≡_}
 use mathlib.Core.Bool.{Bool, true, false, cond, _&&_}
 use mathlib.Core.List.{List, [], _∷_, _++_}
@@ -116,7 +116,8 @@ pub record StripIn (l : Layout) (c second : Component) (n from k q : ℕ) : Type
   pub slice : k < sliceCount (gridIn l)
   pub index : q ≤ 255
 
--- components that lie in the work slice w: rebuilt planes in its first a numbers, coefficients behind them up to e; the two are alike
+-- components that lie in the work slice w: rebuilt planes in its first a numbers, coefficients behind them up to e; the
+-- two are alike
 pub record RunIn (l : Layout) (c second : Component) (a e k q : ℕ) (w : List ℤ) : Type 0 where
   pub layout : LayoutIn l
   pub first : ComponentIn c

@@ -1,5 +1,5 @@
--- Laws of layouts: the bands of a component follow one another within its padded area, a slice's strips lie within, and its numbers band by
--- band. Assumes nothing.
+-- Laws of layouts: the bands of a component follow one another within its padded area, a slice's strips lie within, and
+-- its numbers band by band.
 use mathlib.Core.Path.{_≡_, refl, sym, ap, ap₂, _∙_}
 use mathlib.Core.Bool.{Bool, true, false, cond, _&&_}
 use mathlib.Core.List.{List, [], _++_, append-nil, append-assoc}
@@ -78,7 +78,7 @@ module _ (l : Layout) (c : Component) where
       let level = levelOf (l .«depth_ho») n in
       narrower (leb level (l .«depth_ho»)) (c .height) (2 ^ l .depth) (2 ^ (l .«depth_ho» + l .depth - level + 1))
 
-  -- so many times halved
+  -- the area whose sides are halved i and j times
   abbrev cut : ℕ → ℕ → ℕ
   cut i j = c .width / 2 ^ i * (c .height / 2 ^ j)
 
@@ -481,7 +481,7 @@ pub first-within : {l : Layout} {c second : Component} {a e k q : ℕ} {w : List
 unfolding startOf
 first-within h pair s e = rw e (strip-within h pair 0 (omega arith))
 
--- and its numbers can be counted
+-- the numbers of the first strip can be counted
 pub first-ready : (w : List ℤ) (l : Layout) (c second : Component) (pair : Bool) (k q : ℕ) {a e : ℕ} → RunIn l c second a e k q w → (s : Strip)
     → c .width * c .height ≤ 67108864 → s ≡ stripOf l c second pair 0 0 k q
     → Small a e w × (Within a e s × Countable (noCost 0) (2 * ((s .bottom - s .top) * (s .right - s .left))))

@@ -1,4 +1,4 @@
--- Low delay as the code has it: rebuilt planes, index and bits of a slice by the work slice. Assumes nothing.
+-- Low delay as the code has it: rebuilt planes, index and bits of a slice by the work slice.
 use mathlib.Core.Path.{_≡_}
 use mathlib.Core.Bool.{Bool, true, false, cond}
 use mathlib.Core.List.{List, _++_}

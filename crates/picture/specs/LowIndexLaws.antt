@@ -1,4 +1,5 @@
--- Laws of a low-delay slice's index: its bytes and bits, its candidates in the work slice, what they cost, and the election. Assumes nothing.
+-- Laws of a low-delay slice's index: its bytes and bits, its candidates in the work slice, what they cost, and the
+-- election.
 use mathlib.Core.Path.{_≡_, ap, _∙_}
 use mathlib.Core.List.{List}
 use Prim.Native.Nat.{ℕ, suc, _+_, _*_, _-_, _/_, _^_, _≤_, _<_}

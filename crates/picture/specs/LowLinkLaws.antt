@@ -1,4 +1,4 @@
--- The code's low-delay slices are the unit's: rebuilt planes, numbers, indices and bytes, slice by slice. Assumes nothing.
+-- The code's low-delay slices are the unit's: rebuilt planes, numbers, indices and bytes, slice by slice.
 use mathlib.Core.Path.{_≡_, refl, sym, ap, ap₂, _∙_, fun-ext, subst}
 use mathlib.Core.Bool.{Bool, true, false, cond}
 use mathlib.Core.List.{List, [], _∷_, _++_}
@@ -145,7 +145,7 @@ module _ (p : Picture) (k q : ℕ) (slice : k < slicesIn p) where
         };
       }
 
-  -- its own strip
+  -- a component's own strip of level 0
   module _ (c : Component) (m : List ℕ) (bs : List Band) (r : Plane) (bands : Bands (p .layout) c bs)
       (values : (n : ℕ) → n < bandCount (p .layout) → getD (p .layout .values) n 0 ≡ getD m n 0) (predicted : p .layout .predicted ≡ true) where
     left-is : leftLD grid m bs r q k ≡ rebuilt grid (bandAt bs 0) (bandIndex q (getD m 0 0)) k r
@@ -161,7 +161,7 @@ module _ (p : Picture) (k q : ℕ) (slice : k < slicesIn p) where
           plane = rw left-is (rebuilt-low w (p .layout) c c m bs k q bands (has .coefs) slice values predicted r fits (has .plane));
         }
 
-    -- its numbers, where its plane is rebuilt
+    -- a component's numbers, where its plane is rebuilt
     numbers-own : (v : List ℤ) → Has p c bs (leftLD grid m bs r q k) v → runOf v p c k q ≡ numbersLD grid m bs r q k
     unfolding stripOf
     numbers-own v has =

@@ -1,4 +1,4 @@
--- A low-delay slice's numbers as those of level 0, which are predicted, and those of the other subbands, which are not. Assumes nothing.
+-- A low-delay slice's numbers as those of level 0, which are predicted, and those of the other subbands, which are not.
 use mathlib.Core.Path.{_≡_}
 use mathlib.Core.Bool.{true, false, cond}
 use mathlib.Core.List.{List}
@@ -20,14 +20,14 @@ use Rattle.picture.specs.Low.{strip0}
 abbrev pub windowsOf : Picture → ℕ → Windows
 windowsOf p k = record { luma = windowOf (p .layout) (p .y) 0 k; colour = windowOf (p .layout) (p .c1) 0 k }
 
--- those of level 0, of luma and of the two colours
+-- a slice's numbers of level 0, of luma and of the two colours
 abbrev pub lumaFirst : List ℤ → Picture → ℕ → ℕ → List ℤ
 lumaFirst w p k q = stripNumbers w (strip0 p (p .y) k q)
 
 abbrev pub colourFirst : List ℤ → Picture → ℕ → ℕ → List ℤ
 colourFirst w p k q = stripNumbers w (stripOf (p .layout) (p .c1) (p .c2) true 0 0 k q)
 
--- those of the others
+-- a slice's numbers of the other subbands
 abbrev pub lumaRest : List ℤ → Picture → ℕ → ℕ → List ℤ
 lumaRest w p k q = restNumbers w (p .layout) (p .y) (p .y) false k q (bandCount (p .layout) - 1)
 

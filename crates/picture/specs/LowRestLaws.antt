@@ -1,5 +1,5 @@
--- Laws of a low-delay slice's numbers of level 0 and of the others: what the two cost together, that at a larger index the others cost no more, and
--- that they do not depend on the rebuilt planes. Assumes nothing.
+-- Laws of a low-delay slice's numbers of level 0 and of the others: what the two cost together, that at a larger index
+-- the others cost no more, and that they do not depend on the rebuilt planes.
 use mathlib.Core.Path.{_≡_, refl, sym, ap, ap₂, _∙_}
 use mathlib.Core.Bool.{Bool, true, false, cond, _&&_, _||_}
 use mathlib.Core.List.{List, [], _∷_, _++_}

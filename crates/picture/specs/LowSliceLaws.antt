@@ -1,4 +1,4 @@
--- Laws of low-delay slices as they are written: the runs that are kept, the parts of a slice, and slice after slice. Assumes nothing.
+-- Laws of low-delay slices as they are written: the runs that are kept, the parts of a slice, and slice after slice.
 use mathlib.Core.Path.{_≡_, refl, sym, ap, ap₂, _∙_}
 use mathlib.Core.Bool.{Bool, true, false, cond}
 use mathlib.Core.List.{List, _++_, append-assoc}
@@ -58,7 +58,7 @@ module _ (room : ℕ) (xs : List ℤ) (c : Cost) (e : c ≡ addAll (noCost room)
             let m : c .keep < c .fit = omega arith in
             keep-shorter cost (omega arith) ∙ kept-run cost ∙ ap (λ (k : ℕ). take k xs) (sym (s .kept m .0))
 
-    -- and its bits
+    -- the bits of the run that a cut keeps
     pub cut-bits : r .bits ≡ bitsOf (fitPrefix (trimmed xs) room)
     cut-bits = by (decLe (c .fit) (c .keep))
       where
@@ -165,7 +165,7 @@ module _ (v : List ℤ) (p : Picture) (n k q : ℕ) where
   pub slice-length : 1 ≤ n → length (toBytes (lowBitsBy v p n k q)) ≡ n
   slice-length h = omega (arith, length-toBytes (lowBitsBy v p n k q), slice-long h)
 
-  -- its parts as the code writes them
+  -- a slice's parts as the code writes them
   pub slice-parts : (room m : ℕ) (r : code.Kept) → room ≡ roomOf n → m ≡ lengthBits n → KeptOf room (lumaIn v p k q) (colourIn v p k q) r
       → lit 7 q ++ (lit m (r .«luma_bits») ++ (runBits v p k q r ++ oneBits (room - r .«luma_bits» - r .«colour_bits»))) ≡ lowBitsBy v p n k q
   unfolding lowBitsBy
@@ -318,7 +318,7 @@ module _ {p : Picture} {n : ℕ} {w : List ℤ} {o : List ℕ} {i k : ℕ} {w′
       let b = runs-length p n z (t .enough) w k in
       omega (arith, a, b, bytes-within n (slicesIn p) k l, h .lays .next, h .lays .size, f)
 
-  -- and then one more is
+  -- one slice more is coded
   pub coded-more : {w″ : List ℤ} {o″ : List ℕ} {c′ : SliceCoder} → Lays o′ (c .at) (toBytes (lowBitsIn p n w′ k)) o″ (c′ .at)
       → w″ ≡ lowWorkIn p n w′ k → Small (p .front) (p .end) w″ → c′ .«cut_slices» ≡ c .«cut_slices» + isLast (lowIndexIn p n w′ k)
       → Coded p n w o i (k + 1) w″ o″ c′

@@ -1,4 +1,5 @@
--- Laws of words packed and choices noted in the work slice: numbers depend on the coefficients alone, and slice after slice is planned. Assumes nothing.
+-- Laws of words packed and choices noted in the work slice: numbers depend on the coefficients alone, and slice after
+-- slice is planned.
 use mathlib.Core.Path.{_≡_, refl, sym, ap, ap₂, _∙_, subst, fun-ext}
 use mathlib.Core.Bool.{false}
 use mathlib.Core.List.{List, _++_, append-assoc}
@@ -55,7 +56,7 @@ plan-work h = record { arranged = h .arranged; plain = h .plain; small = h .smal
 pub high-work : {s : Settings} {p : Picture} {w : List ℤ} → HighIn s p w → WorkIn p w
 high-work h = record { arranged = h .arranged; plain = h .plain; small = h .small }
 
--- those of a list with the same coefficients
+-- what slices have in a list with the same coefficients
 module _ (p : Picture) (w v : List ℤ) (h : WorkIn p w) (same : (i : ℕ) → p .front ≤ i → i < p .end → at v i ≡ at w i) where
   numbers-same : (k : ℕ) → k < slicesIn p → numbersIn v p k ≡ numbersIn w p k
   unfolding numbersIn
@@ -424,7 +425,7 @@ module _ {w v : List ℤ} {p : Picture} {t x : Terms} {n from : ℕ} {r : SliceC
   pub plans-before : PlansTo w p x from (slicesIn p) r → PlansTo v p x from (slicesIn p) r
   plans-before = plans-by (sym (runs-alike p w v h (o .same) x)) (sym (plans-alike p w v h (o .same) x)) (sym (words-alike p w v h (o .same) x (slicesIn p) (omega arith)))
 
--- the same scaler is settled on
+-- noting changes nothing of the scaler that planning ends with
 pub settles-after : {w v : List ℤ} {p : Picture} {t : Terms} {n : ℕ} {s : Settings} {m : List ℕ} {r : Settled} → WorkIn p w
     → Notes w p t n v → Settles v p s m r → Settles w p s m r
 settles-after {w} {v} {p} {t} {n} {s} {m} {r} h o z =

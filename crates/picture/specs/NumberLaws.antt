@@ -1,5 +1,5 @@
--- The numbers that the code makes of the work slice are those of the unit's definition: where the bands stand, high quality, the two colours
--- together, and low delay. Assumes nothing.
+-- The numbers that the code makes of the work slice are those of the unit's definition: where the bands stand, high
+-- quality, the two colours together, and low delay.
 use mathlib.Core.Path.{_≡_, refl, sym, ap, ap₂, _∙_}
 use mathlib.Core.Bool.{Bool, true, false, _&&_}
 use mathlib.Core.List.{List, [], _∷_, _++_, append-assoc, append-nil}

@@ -1,4 +1,4 @@
--- Laws of a slice whose three runs are packed one behind the other: room for each, the choice, and the words. Assumes nothing.
+-- Laws of a slice whose three runs are packed one behind the other: room for each, the choice, and the words.
 use mathlib.Core.Path.{_≡_, ap, ap₂, _∙_}
 use mathlib.Core.Bool.{false}
 use mathlib.Core.List.{List, _++_}

@@ -1,5 +1,5 @@
--- A run of numbers in short form, in words: a number that is not 0 is its own word, 2^52 + n stands for n zeros before one, and zeros at the run's
--- end have no word. Assumes nothing.
+-- A run of numbers in short form, in words: a number that is not 0 is its own word, 2^52 + n stands for n zeros before
+-- one, and zeros at the run's end have no word.
 use mathlib.Core.Path.{_≡_}
 use mathlib.Core.Bool.{true, false, cond}
 use mathlib.Core.List.{List, [], _∷_, _++_}
@@ -27,7 +27,7 @@ unfoldable pub packed : ℕ → List ℤ → List ℤ
 packed n [] = []
 packed n (x ∷ xs) = elim (isZero x) [ true ↦ packed (suc n) xs | false ↦ zerosWord n ++ (x ∷ packed 0 xs) ]
 
--- their bits
+-- the bits of the numbers that are packed
 unfoldable pub packedBits : ℕ → List ℤ → ℕ
 packedBits n [] = 0
 packedBits n (x ∷ xs) = elim (isZero x) [ true ↦ packedBits (suc n) xs | false ↦ n + length (codeS x) + packedBits 0 xs ]

@@ -1,5 +1,5 @@
--- Laws of packed runs: runs one after the other, how much they take, what stands behind the words and stays, and the numbers of lists that agree where
--- the coefficients stand. Assumes nothing.
+-- Laws of packed runs: runs one after the other, how much they take, what stands behind the words and stays, and the
+-- numbers of lists that agree where the coefficients stand.
 use mathlib.Core.Path.{_≡_, refl, sym, ap, ap₂, _∙_}
 use mathlib.Core.Bool.{Bool, true, false, cond, _&&_}
 use mathlib.Core.List.{List, [], _∷_, _++_, append-assoc}
@@ -299,7 +299,7 @@ some-bits (pos (suc n)) h = refl
 some-bits (negsuc n) h = refl
 
 module _ {a n : ℕ} {w : List ℤ} {s : Strip} (h : Single a n w s) (y x : ℕ) where
-  -- its one number
+  -- the one number of a place
   abbrev pub numberOf : ℤ
   numberOf = forwardBy (s .factor) (planeFrom w (s .coefs) (s .width) y x)
 

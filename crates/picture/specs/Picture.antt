@@ -1,4 +1,4 @@
--- A picture in the work slice, and a slice's numbers there. Assumes nothing.
+-- A picture in the work slice, and a slice's numbers there.
 use mathlib.Core.Path.{_≡_}
 use mathlib.Core.Bool.{false}
 use mathlib.Core.List.{List}

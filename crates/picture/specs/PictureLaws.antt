@@ -1,4 +1,4 @@
--- Laws of a picture in the work slice: the runs of a slice can be read. Assumes nothing.
+-- Laws of a picture in the work slice: the runs of a slice can be read.
 use mathlib.Core.Path.{_≡_, ap₂}
 use mathlib.Core.List.{List}
 use Prim.Native.Nat.{ℕ, _*_}

@@ -1,4 +1,4 @@
--- What has been written of a run of numbers of which only the first are kept. Assumes nothing.
+-- What has been written of a run of numbers of which only the first are kept.
 use mathlib.Core.Path.{_≡_}
 use mathlib.Core.List.{List}
 use Prim.Native.Nat.{ℕ, _-_}

@@ -1,4 +1,4 @@
--- Laws of written runs: nothing, one number, one run after another, and what is left of the room. Assumes nothing.
+-- Laws of written runs: nothing, one number, one run after another, and what is left of the room.
 use mathlib.Core.Path.{_≡_, refl, sym, ap, _∙_}
 use mathlib.Core.List.{List, [], _∷_, _++_, append-assoc, append-nil}
 use Prim.Native.Nat.{ℕ, zero, suc, _+_, _-_, _≤_, _<_}

@@ -1,4 +1,4 @@
--- Laws of written words: the bits of one, one more behind others, and room for it. Assumes nothing.
+-- Laws of written words: the bits of one, one more behind others, and room for it.
 use mathlib.Core.Path.{_≡_, refl, sym, ap, ap₂, _∙_, subst}
 use mathlib.Core.Bool.{true, false}
 use mathlib.Core.List.{List, [], _∷_, _++_, append-nil}

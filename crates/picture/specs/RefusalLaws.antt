@@ -1,4 +1,4 @@
--- Laws of the refusals: a loop that looks for a value that is too large, and the first rule that is broken. Assumes nothing.
+-- Laws of the refusals: a loop that looks for a value that is too large, and the first rule that is broken.
 use mathlib.Core.Path.{_≡_, refl}
 use mathlib.Core.Bool.{Bool, true, false}
 use mathlib.Core.List.{List, _∷_}

@@ -1,5 +1,5 @@
--- A high-quality slice that fits its share at an index fits at every larger one: its numbers are as many and none is larger. So it is with the numbers of
--- low delay behind level 0. Assumes nothing.
+-- A high-quality slice that fits its share at an index fits at every larger one: its numbers are as many and none is
+-- larger. So it is with the numbers of low delay behind level 0.
 use mathlib.Core.Path.{_≡_, refl}
 use mathlib.Core.Bool.{Bool, true, false, cond}
 use mathlib.Core.List.{List, [], _∷_, _++_}

@@ -1,5 +1,5 @@
--- The numbers of a slice as the code makes them from the work slice. A strip is what a slice has of one subband, of one component or of the
--- two colours together. Assumes nothing.
+-- The numbers of a slice as the code makes them from the work slice. A strip is what a slice has of one subband, of one
+-- component or of the two colours together.
 use mathlib.Core.Path.{_≡_}
 use mathlib.Core.Bool.{Bool, true, false, cond}
 use mathlib.Core.List.{List, [], _∷_, _++_}

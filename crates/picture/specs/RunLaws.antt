@@ -1,5 +1,5 @@
--- Laws of strips: predictions as the code reads them, what a place asks, how large its number and its rebuilt value are, and the numbers of a
--- strip place by place. Assumes nothing.
+-- Laws of strips: predictions as the code reads them, what a place asks, how large its number and its rebuilt value
+-- are, and the numbers of a strip place by place.
 use mathlib.Core.Path.{_≡_, refl, sym, ap, ap₂, _∙_}
 use mathlib.Core.Bool.{Bool, true, false, cond}
 use mathlib.Core.List.{List, [], _∷_, _++_}
@@ -159,7 +159,7 @@ number-size l s coefs base y x = number-by (s .factor) (planeFrom l coefs (s .wi
 
 -- ---- numbers, place by place
 module _ (l : List ℤ) (s : Strip) where
-  -- those of row y, from column x on
+  -- the numbers of row y, from column x on
   abbrev pub places : ℕ → ℕ → ℕ → List ℤ
   places y x k = placeNumbers l s y (x + k)
 

@@ -1,4 +1,4 @@
--- Laws of the search for the least index that fits: its start, a turn, and its end. Assumes nothing.
+-- Laws of the search for the least index that fits: its start, a turn, and its end.
 use mathlib.Core.Path.{_≡_, sym, ap, _∙_}
 use mathlib.Core.Bool.{Bool, true, false}
 use Prim.Native.Nat.{ℕ, _+_, _-_, _≤_, _<_}

@@ -1,4 +1,4 @@
--- The code's sides and planes as the definitions have them. Assumes nothing.
+-- The code's sides and planes as the definitions have them.
 use mathlib.Core.List.{List}
 use Prim.Native.Nat.{ℕ}
 use Rattle.unit.specs.Three.{Three}

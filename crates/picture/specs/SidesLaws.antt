@@ -1,4 +1,4 @@
--- Laws of intlog2 as a loop finds it, of padded sides and areas, and of a matrix's values in 25 places. Assumes nothing.
+-- Laws of intlog2 as a loop finds it, of padded sides and areas, and of a matrix's values in 25 places.
 use mathlib.Core.Path.{_≡_, refl, sym, _∙_}
 use mathlib.Core.Bool.{Bool, true, false, not}
 use mathlib.Core.List.{List}

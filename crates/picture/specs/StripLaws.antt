@@ -1,5 +1,5 @@
--- Laws of a strip: its numbers are a region of a plane, those of the two colours together alternate, and what is rebuilt in the work slice is
--- the unit's rebuilt plane. Assumes nothing.
+-- Laws of a strip: its numbers are a region of a plane, those of the two colours together alternate, and what is
+-- rebuilt in the work slice is the unit's rebuilt plane.
 use mathlib.Core.Path.{_≡_, refl, sym, ap, ap₂, _∙_}
 use mathlib.Core.Bool.{Bool, true, false, cond}
 use mathlib.Core.List.{List, [], _∷_, _++_}
@@ -27,7 +27,7 @@ use Rattle.picture.specs.Run.{planeFrom, predictionIn, numberIn, placeNu
 use Rattle.picture.specs.RunLaws.{prediction-yes}
 
 -- ---- regions row by row
--- the same values at other numbers
+-- two spans of equal values are equal
 span-move : (f g : ℕ → ℤ) (i j n : ℕ) → ((k : ℕ) → k < n → f (i + k) ≡ g (j + k)) → span f i n ≡ span g j n
 span-move f g i j zero h = refl
 span-move f g i j (suc n) h =

@@ -1,4 +1,4 @@
--- The tally of a run of numbers: their bits, their count, and their count without trailing zeros. Assumes nothing.
+-- The tally of a run of numbers: their bits, their count, and their count without trailing zeros.
 use mathlib.Core.Bool.{cond}
 use mathlib.Core.List.{List}
 use Prim.Native.Nat.{ℕ, _+_, _-_}

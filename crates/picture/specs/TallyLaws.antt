@@ -1,4 +1,5 @@
--- Laws of tallies: one number as the code adds it, what the tally of a run is, and the bits of a run without trailing zeros. Assumes nothing.
+-- Laws of tallies: one number as the code adds it, what the tally of a run is, and the bits of a run without trailing
+-- zeros.
 use mathlib.Core.Path.{_≡_, refl, sym, ap, ap₂, _∙_}
 use mathlib.Core.Bool.{Bool, true, false, cond}
 use mathlib.Core.List.{List, [], _∷_, _++_}
@@ -114,7 +115,7 @@ plain-number l s coefs base y x e =
     let c = planeFrom l coefs (s .width) y x in
     ap (forwardBy (s .factor)) (sym (+ℤ-idr c) ∙ ap (λ (v : ℤ). c -ℤ v) (prediction-no l s base y x e))
 
--- those of a place
+-- the numbers of a place
 module _ (l : List ℤ) (s : Strip) (y x : ℕ) (e : s .predicted ≡ false) where
   pub second-plain : s .pair ≡ true → secondNumber l s y x ≡ forwardBy (s .factor) (planeFrom l (s .coefs2) (s .width) y x) ∷ []
   second-plain t = second-one l s y x _ t (plain-number l s (s .coefs2) (s .rebuilt2) y x e)

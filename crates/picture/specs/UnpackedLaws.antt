@@ -1,5 +1,5 @@
--- Laws of runs in short form: their words say the numbers without trailing zeros, how many bits and words these take, and the numbers of a slice
--- are their own words. Assumes nothing.
+-- Laws of runs in short form: their words say the numbers without trailing zeros, how many bits and words these take,
+-- and the numbers of a slice are their own words.
 use mathlib.Core.Path.{_≡_, refl, sym, ap, ap₂, _∙_}
 use mathlib.Core.Bool.{Bool, false, cond, _&&_}
 use mathlib.Core.List.{List, [], _∷_, _++_, append-assoc, append-nil}
@@ -69,7 +69,7 @@ unfolding trimmed
 zeros-only zero = refl
 zeros-only (suc n) = ap (trimCons (pos 0)) (zeros-only n)
 
--- they stay in front of a number that is not 0
+-- zeros stay before a number that is not 0
 zeros-stay : (n : ℕ) (x : ℤ) (xs : List ℤ) → trimmed (x ∷ xs) ≡ x ∷ trimmed xs → trimmed (zeros n ++ (x ∷ xs)) ≡ zeros n ++ (x ∷ trimmed xs)
 unfolding trimmed
 zeros-stay zero x xs e = e

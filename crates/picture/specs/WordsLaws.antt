@@ -1,4 +1,4 @@
--- Laws of settings as 21 words. Assumes nothing.
+-- Laws of settings as 21 words.
 use mathlib.Core.Path.{_≡_, refl}
 use mathlib.Core.Bool.{Bool, true, false, _&&_, and-assoc}
 use mathlib.Core.List.{List}

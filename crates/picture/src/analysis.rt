@@ -1,4 +1,4 @@
-// The picture in its work slice, from samples to coefficients. All of it is for the picture call.
+// The picture in its work slice, from samples to coefficients.
 use crate::layout::Component;
 use crate::layout::Layout;
 use crate::layout::Picture;
@@ -24,7 +24,7 @@ fn is_low(kind: PictureKind) -> bool
     }
 }
 
-// What all slices share.
+// The layout of a picture: what all slices share.
 fn layout_of(s: Settings, matrix: &[u32]) -> Layout
     requires { ⌜ Called s (now matrix) ⌝ }
     ensures { λ r. ⌜ r ≡ layoutOf s (now (matrix .entry)) ⌝ }
@@ -60,7 +60,8 @@ fn component_at(z: Sides, coefs: usize, rebuilt: usize) -> Component
     }
 }
 
-// Luma and the two colours one behind the other, rebuilt planes as well as coefficients.
+// Where a picture stands in the work slice: luma and the two colours one after the other, rebuilt planes as well as
+// coefficients.
 pub(crate) fn picture_of(s: Settings, matrix: &[u32]) -> Picture
     requires { ⌜ Called s (now matrix) ⌝ }
     ensures { λ r. ⌜ r ≡ pictureOf s (now (matrix .entry)) ⌝ }
@@ -109,7 +110,7 @@ fn sides_of(z: Sides, q: Sides, excursion: u32) -> wavelet::component::Component
     }
 }
 
-// Zeros.
+// Fills a slice of numbers with zeros.
 pub(crate) fn clear(a: &mut [i64])
     ensures { λ _. ⌜ now (a .exit) ≡ replicate (length (now (a .entry))) (pos 0) ⌝ }
 {
@@ -121,7 +122,8 @@ pub(crate) fn clear(a: &mut [i64])
     }
 }
 
-// The three components, padded and analysed behind a front of the sum of their areas, which is scratch and then cleared.
+// The three components, padded and analysed behind a front of the sum of their areas, which is scratch and then
+// cleared.
 pub(crate) fn analyse(work: &mut [i64], s: Settings, y: &[u16], c1: &[u16], c2: &[u16])
     requires { ⌜ Ready s (planes (now y) (now c1) (now c2)) (now work) ⌝ }
     ensures { λ _. ⌜ Analysed s (planes (now (y .entry)) (now (c1 .entry)) (now (c2 .entry))) (now (work .exit)) × (length (now (work .exit)) ≡ length (now (work .entry))) ⌝ }

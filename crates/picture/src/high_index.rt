@@ -1,5 +1,5 @@
-// The choice of a high-quality slice: its index by its size, its share and the election, the runs of its components there, packed, and the choice noted
-// in the work slice. All of it is for the picture call.
+// The choice of a high-quality slice: its index by its size, its share and the election, the runs of its components
+// there, packed, and the choice noted in the work slice.
 use crate::layout::Component;
 use crate::layout::Picture;
 use crate::packed::Packed;
@@ -66,7 +66,7 @@ fn trimmed_run(work: &[i64], p: Picture, c: Component, k: u32, q: u32) -> Trimme
     crate::tally::trimmed_of(t)
 }
 
-// The bytes that n bits need.
+// How many bytes n bits need.
 pub(crate) fn need(n: u64) -> u64
     requires { ⌜ n ≤ 2 ^ 33 ⌝ }
     ensures { λ r. ⌜ (r ≡ ceiling n 8) × (r ≤ 2 ^ 30) ⌝ }
@@ -97,7 +97,7 @@ pub(crate) fn words_of(c: Choice) -> usize
     y.words + (c1.words + c2.words)
 }
 
-// The larger one.
+// The larger one of two numbers.
 fn larger(a: u64, b: u64) -> u64
     ensures { λ r. ⌜ r ≡ max a b ⌝ }
 {
@@ -119,7 +119,7 @@ pub(crate) fn scalers(n: u64, c: u32) -> u64
     (n + (c as u64 - 1)) / c as u64
 }
 
-// The size of a slice.
+// The bytes of a slice, by the needs of its components.
 pub(crate) fn slice_size(z: Needs, t: Terms) -> u64
     requires { ⌜ ((z .y ≤ 2 ^ 30) × ((z .c1 ≤ 2 ^ 30) × (z .c2 ≤ 2 ^ 30))) × TermsIn t ⌝ }
     ensures { λ r. ⌜ (r ≡ 4 + t .prefix + (ceiling (z .y) (t .scaler) * t .scaler + ceiling (z .c1) (t .scaler) * t .scaler + ceiling (z .c2) (t .scaler) * t .scaler)) × (r ≤ 2 ^ 34) ⌝ }
@@ -156,7 +156,7 @@ fn fits(work: &[i64], p: Picture, t: Terms, share: u64, k: u32, q: u32) -> bool
     fits_with(work, p, t, share, k, q, y)
 }
 
-// A fit at mid sends the search to mid and below, and no fit above it.
+// The range after a trial at mid: a fit sends the search to mid and below, and no fit above it.
 pub(crate) fn narrowed(r: Range, mid: u32, fits: bool) -> Range
     requires { ⌜ mid ≤ 255 ⌝ }
     ensures { λ n. ⌜ n ≡ halfOf r mid fits ⌝ }
@@ -171,8 +171,8 @@ pub(crate) fn narrowed(r: Range, mid: u32, fits: bool) -> Range
     }
 }
 
-// An index from lo to below hi: g at first, then in widening steps from the end that was moved, and the middle once both were. Any index of this
-// range leads the search to the same end.
+// An index from lo to below hi: g at first, then in widening steps from the end that was moved, and the middle once
+// both were. Any index of this range leads the search to the same end.
 fn next_index(lo: u32, hi: u32, g: u32, step: u32) -> u32
     requires { ⌜ (lo < hi) × ((hi ≤ 255) × ((1 ≤ step) × (step ≤ 256))) ⌝ }
     ensures { λ r. ⌜ (lo ≤ r) × (r < hi) ⌝ }
@@ -197,7 +197,8 @@ pub(crate) fn wider(step: u32) -> u32
     if step < 128 { 2 * step } else { 256 }
 }
 
-// The election from 0 to 255, from the guess g on. What fits at an index fits at every larger one, so that the least index that fits is elected, or 255.
+// The election from 0 to 255, from the guess g on. What fits at an index fits at every larger one, so that the least
+// index that fits is elected, or 255.
 fn elect_qindex(work: &[i64], p: Picture, t: Terms, share: u64, k: u32, g: u32) -> u32
     requires { ⌜ PlanIn p t (now work) × (k < slicesIn p) ⌝ }
     ensures { λ r. ⌜ r ≡ elect 0 255 (fitsBy (t .prefix) (t .scaler) share (numbersIn (now (work .entry)) p k)) ⌝ }
@@ -272,7 +273,14 @@ fn pack_slice(work: &mut [i64], p: Picture, k: u32, q: u32, from: usize) -> Choi
 }
 
 // The choice of slice k, its runs packed from place from on.
-pub(crate) fn choice_of(work: &mut [i64], p: Picture, t: Terms, k: u32, g: u32, from: usize) -> Choice
+pub(crate) fn choice_of(
+    work: &mut [i64],
+    p: Picture,
+    t: Terms,
+    k: u32,
+    g: u32,
+    from: usize,
+) -> Choice
     requires { ⌜ PlanIn p t (now work) × ((k < slicesIn p) × (from + sliceNumberCount p k ≤ p .front)) ⌝ }
     ensures { λ r. ⌜ (r ≡ choiceIn (now (work .entry)) p t k)
         × ((now (work .exit) ≡ laid (now (work .entry)) from (wordsIn (now (work .entry)) p t k)) × Small (p .front) (p .end) (now (work .exit))) ⌝ }
@@ -281,7 +289,7 @@ pub(crate) fn choice_of(work: &mut [i64], p: Picture, t: Terms, k: u32, g: u32, 
     pack_slice(work, p, k, q, from)
 }
 
-// A number is noted at place i, where the work slice reaches so far.
+// Notes a number at place i, where the work slice reaches so far.
 fn note(work: &mut [i64], i: usize, v: u64)
     requires { ⌜ v < 2 ^ 63 ⌝ }
     ensures { λ _. ⌜ now (work .exit) ≡ set (now (work .entry)) i (pos v) ⌝ }
@@ -291,7 +299,7 @@ fn note(work: &mut [i64], i: usize, v: u64)
     }
 }
 
-// A run is noted from place i on.
+// Notes a run from place i on.
 fn note_run(work: &mut [i64], i: usize, r: Packed)
     requires { ⌜ (i < 2 ^ 40) × ((r .words < 2 ^ 63) × (r .bits < 2 ^ 63)) ⌝ }
     ensures { λ _. ⌜ now (work .exit) ≡ noteRun (now (work .entry)) i r ⌝ }
@@ -300,7 +308,7 @@ fn note_run(work: &mut [i64], i: usize, r: Packed)
     note(work, i + 1, r.bits);
 }
 
-// A choice is noted in seven places from i on.
+// Notes a choice in seven places from i on.
 pub(crate) fn note_choice(work: &mut [i64], i: usize, c: Choice)
     requires { ⌜ (i < 2 ^ 39) × FewBits c ⌝ }
     ensures { λ _. ⌜ now (work .exit) ≡ noteIn (now (work .entry)) i c ⌝ }
@@ -326,7 +334,8 @@ fn noted_run(work: &[i64], i: usize) -> Packed
     }
 }
 
-// The choice of slice k as it was noted, or where the work slice does not reach so far chosen anew; its words stand from place from on.
+// The choice of slice k as it was noted, or where the work slice does not reach so far chosen anew; its words stand
+// from place from on.
 pub(crate) fn noted_choice(work: &mut [i64], p: Picture, t: Terms, k: u32, from: usize) -> Choice
     requires { ⌜ PlanIn p t (now work) × ((k < slicesIn p) × (Notes (now work) p t (slicesIn p) (now work) × (from ≡ length (wordsTo (now work) p t k)))) ⌝ }
     ensures { λ r. ⌜ (r ≡ choiceIn (now (work .entry)) p t k) × (now (work .exit) ≡ now (work .entry)) ⌝ }

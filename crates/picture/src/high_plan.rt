@@ -1,4 +1,4 @@
-// The planning pass of high quality, and the scaler that it settles on. All of it is for the picture call.
+// The planning pass of high quality, and the scaler that it ends with.
 use crate::header::SliceParameters;
 use crate::high_index::Terms;
 use crate::layout::Picture;
@@ -14,13 +14,13 @@ ghost use Rattle.picture.specs.Head.{CanCarry};
 ghost use Rattle.picture.specs.Picture.{slicesIn};
 ghost use Rattle.picture.specs.High.{termsOf, isTarget, PlanIn, PlansTo, HighIn, Settles, Notes, Standing};
 
-// The scaler, and where the unit ends.
+// The final scaler, and where the unit ends.
 pub(crate) struct Settled {
     pub scaler: u32,
     pub end: usize,
 }
 
-// All slices, planned from place at on, their words packed and their choices noted.
+// Plans all slices from place at on, packs their words and notes their choices.
 fn plan_slices(work: &mut [i64], p: Picture, t: Terms, at: usize) -> SliceCoder
     requires { ⌜ PlanIn p t (now work) × (at < 2 ^ 16) ⌝ }
     ensures { λ r. ⌜ PlansTo (now (work .entry)) p t at (slicesIn p) r × Notes (now (work .entry)) p t (slicesIn p) (now (work .exit)) ⌝ }
@@ -35,7 +35,7 @@ fn plan_slices(work: &mut [i64], p: Picture, t: Terms, at: usize) -> SliceCoder
     c
 }
 
-// All slices, planned from place at on by the choices noted.
+// Plans all slices from place at on by the choices noted.
 fn plan_noted_slices(work: &mut [i64], p: Picture, t: Terms, at: usize) -> SliceCoder
     requires { ⌜ PlanIn p t (now work) × (Notes (now work) p t (slicesIn p) (now work) × (at < 2 ^ 16)) ⌝ }
     ensures { λ r. ⌜ PlansTo (now (work .entry)) p t at (slicesIn p) r × (now (work .exit) ≡ now (work .entry)) ⌝ }
@@ -70,7 +70,7 @@ pub(crate) fn terms_of(s: Settings, matrix: &[u32], c: u32) -> Terms
     }
 }
 
-// The pass with scaler c.
+// The planning pass with scaler c.
 fn plan_picture(s: Settings, matrix: &[u32], work: &mut [i64], p: Picture, c: u32) -> SliceCoder
     requires { ⌜ HighIn s p (now work) × (CanCarry s (now matrix) × ((1 ≤ c) × (c ≤ 2 ^ 24))) ⌝ }
     ensures { λ r. ⌜ PlansTo (now (work .entry)) p (termsOf s (now (matrix .entry)) c)
@@ -97,7 +97,8 @@ fn is_target(r: RateControl) -> bool
     }
 }
 
-// The pass with scaler c behind another, whose choices are noted. Without a byte target these are the choices for scaler c too.
+// The planning pass with scaler c after another, whose choices are noted. Without a byte target these are the choices
+// for scaler c too.
 fn plan_again(s: Settings, matrix: &[u32], work: &mut [i64], p: Picture, c: u32) -> SliceCoder
     requires { ⌜ HighIn s p (now work) × (CanCarry s (now matrix) × (((1 ≤ c) × (c ≤ 2 ^ 24))
         × Standing s p (now work))) ⌝ }
@@ -118,8 +119,8 @@ fn plan_again(s: Settings, matrix: &[u32], work: &mut [i64], p: Picture, c: u32)
     plan_noted_slices(work, p, t, at as usize)
 }
 
-// While a component needs more than 255 scalers the scaler becomes the largest need over 255, rounded up.
-// The words of the last pass are packed, and its choices noted.
+// The scaler that planning ends with: while a component needs more than 255 scalers, the scaler becomes the largest
+// need over 255, rounded up. The words of the last pass are packed, and its choices noted.
 pub(crate) fn settle(s: Settings, matrix: &[u32], work: &mut [i64], p: Picture) -> Settled
     requires { ⌜ HighIn s p (now work) × CanCarry s (now matrix) ⌝ }
     ensures { λ r. ⌜ Settles (now (work .entry)) p s (now (matrix .entry)) r

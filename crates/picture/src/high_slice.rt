@@ -1,4 +1,4 @@
-// A high-quality slice, written. All of it is for the picture call.
+// High-quality slices, written to the output.
 use crate::high_index::Choice;
 use crate::high_index::Terms;
 use crate::layout::Picture;
@@ -16,7 +16,8 @@ ghost use Rattle.unit.specs.HighQuality.{componentBits, highBits};
 ghost use Rattle.picture.specs.Picture.{slicesIn};
 ghost use Rattle.picture.specs.High.{threeBits, highRuns, runAt, numbersAt, TermsIn, PlanIn, Notes, Held, HeldSlice};
 
-// A component whose run is t, with its words from place from on: a byte that counts scalers, its numbers, and ones.
+// Puts a component whose run is t, with its words from place from on: a byte that counts scalers, its numbers, and bits
+// 1.
 fn put_component(
     out: &mut [u8],
     w: BitWriter,
@@ -34,7 +35,7 @@ fn put_component(
     codewords::bitio::put_ones(out, b, 8 * (n * scaler as u64) - t.bits)
 }
 
-// n prefix bytes, which are zeros.
+// Puts n prefix bytes, which are zeros.
 fn put_prefix(out: &mut [u8], w: BitWriter, n: u32) -> BitWriter
     requires { ⌜ Room (now out) w (8 * n) × (n ≤ 255) ⌝ }
     ensures { λ r. ⌜ Wrote (now (out .entry)) w (zeroBits (8 * n)) (now (out .exit)) r ⌝ }
@@ -48,7 +49,7 @@ fn put_prefix(out: &mut [u8], w: BitWriter, n: u32) -> BitWriter
     s
 }
 
-// The three components of choice c.
+// Puts the three components of choice c.
 fn put_components(
     out: &mut [u8],
     w: BitWriter,
@@ -69,7 +70,7 @@ fn put_components(
     put_component(out, b, work, behind + c1.words, c2, scaler)
 }
 
-// The slice of choice c from place at on: where it ends.
+// Writes the slice of choice c from place at on, and gives the place where it ends.
 pub(crate) fn put_hq_slice(
     out: &mut [u8],
     at: usize,
@@ -94,7 +95,7 @@ pub(crate) fn put_hq_slice(
     z.at
 }
 
-// All slices from place at on, by the words and the choices that stand in the work slice.
+// Writes all slices from place at on, by the words and the choices that stand in the work slice.
 pub(crate) fn put_hq_slices(
     out: &mut [u8],
     at: usize,

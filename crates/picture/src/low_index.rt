@@ -1,4 +1,4 @@
-// The index of a low-delay slice: its size, its candidates in the work slice, and the election. All of it is for the picture call.
+// The index of a low-delay slice: its size, its candidates in the work slice, and the election.
 use crate::cost::Cost;
 use crate::high_index::Range;
 use crate::high_index::Trimmed;
@@ -39,23 +39,24 @@ pub(crate) struct Rest {
     pub colour: Trimmed,
 }
 
-// Whether a slice fits at an index, and its runs at two indices: as a rule low did not fit and high did. What is proved needs no such rule, and no order.
+// Whether a slice fits at an index, and its runs at two indices: as a rule low did not fit and high did. What is proved
+// needs no such rule, and no order.
 struct Trial {
-    pub fits: bool,
-    pub low: Rest,
-    pub high: Rest,
+    fits: bool,
+    low: Rest,
+    high: Rest,
 }
 
 // Whether a slice fits at an index, and its runs there.
 struct Probe {
-    pub fits: bool,
-    pub rest: Rest,
+    fits: bool,
+    rest: Rest,
 }
 
 // A slice's runs at two indices, as in a trial.
 struct Bracket {
-    pub low: Rest,
-    pub high: Rest,
+    low: Rest,
+    high: Rest,
 }
 
 // The elected index, and the slice's runs at an index.
@@ -89,7 +90,7 @@ pub(crate) fn length_bits(n: u64) -> u32
     crate::sizes::intlog2(8 * n - 7)
 }
 
-// How many are left for numbers.
+// How many bits of a slice of n bytes are left for numbers.
 pub(crate) fn room_of(n: u64) -> u64
     requires { ⌜ (1 ≤ n) × (n ≤ 2 ^ 30) ⌝ }
     ensures { λ r. ⌜ (r ≡ roomOf n) × (r ≤ 2 ^ 33) ⌝ }
@@ -134,7 +135,7 @@ pub(crate) fn rebuild_planes(work: &mut [i64], p: Picture, k: u32, q: u32, v: Wi
     crate::run::rebuild_run(work, p.front, p.end, l, c2, k, q, colour);
 }
 
-// What luma costs, with room for a run.
+// What a slice's luma costs, with room for a run.
 pub(crate) fn luma_cost(work: &[i64], p: Picture, k: u32, q: u32, room: u64) -> Cost
     requires { ⌜ SliceIn p (now work) k q ⌝ }
     ensures { λ r. ⌜ r ≡ addAll (noCost room) (lumaIn (now (work .entry)) p k q) ⌝ }
@@ -145,7 +146,7 @@ pub(crate) fn luma_cost(work: &[i64], p: Picture, k: u32, q: u32, room: u64) -> 
     crate::run::cost_run(work, p.front, p.end, l, y, y, false, k, q, none)
 }
 
-// What the two colours cost.
+// What a slice's two colours cost, with room for a run.
 pub(crate) fn colour_cost(work: &[i64], p: Picture, k: u32, q: u32, room: u64) -> Cost
     requires { ⌜ SliceIn p (now work) k q ⌝ }
     ensures { λ r. ⌜ r ≡ addAll (noCost room) (colourIn (now (work .entry)) p k q) ⌝ }
@@ -198,7 +199,8 @@ fn rest_run(
     crate::tally::trimmed_of(t)
 }
 
-// Slice k's runs of the subbands behind the first at index q. No prediction is in them, so that they do not depend on the rebuilt planes.
+// Slice k's runs of the subbands behind the first at index q. No prediction is in them, so that they do not depend on
+// the rebuilt planes.
 fn rest_of(work: &[i64], p: Picture, k: u32, q: u32, v: Windows) -> Rest
     requires { ⌜ SliceIn p (now work) k q × (v ≡ windowsOf p k) ⌝ }
     ensures { λ r. ⌜ Known (now (work .entry)) p k r × (r .index ≡ q) ⌝ }
@@ -244,8 +246,8 @@ fn bits_with(f: First, r: Rest) -> u64
     y.bits + c.bits
 }
 
-// Whether a slice whose level-0 numbers at index q are tallied in f surely fits, since the other numbers at q take no more bits than those of r at a
-// lower index.
+// Whether a slice whose level-0 numbers at index q are tallied in f surely fits, since the other numbers at q take no
+// more bits than those of r at a lower index.
 fn surely_fits(f: First, r: Rest, q: u32, room: u64) -> bool
     requires { ⌜ Joins (f .luma) (r .luma) × Joins (f .colour) (r .colour) ⌝ }
     ensures { λ b. ⌜ b ≡ (leb (r .index) q && leb (bitsWith f r) room) ⌝ }
@@ -256,7 +258,8 @@ fn surely_fits(f: First, r: Rest, q: u32, room: u64) -> bool
     bits_with(f, r) <= room
 }
 
-// Whether it surely does not, since they take no fewer than those of r at a higher index.
+// Whether a slice whose level-0 numbers at index q are tallied in f surely does not fit, since the other numbers at q
+// take no fewer bits than those of r at a higher index.
 fn never_fits(f: First, r: Rest, q: u32, room: u64) -> bool
     requires { ⌜ Joins (f .luma) (r .luma) × Joins (f .colour) (r .colour) ⌝ }
     ensures { λ b. ⌜ b ≡ (leb q (r .index) && ltb room (bitsWith f r)) ⌝ }
@@ -267,8 +270,8 @@ fn never_fits(f: First, r: Rest, q: u32, room: u64) -> bool
     bits_with(f, r) > room
 }
 
-// Whether slice k takes at most room bits at index q, with the runs of two indices at hand; the runs at q take the place of those on its side where they
-// had to be worked out. The rebuilt planes are left as this index makes them.
+// Whether slice k takes at most room bits at index q, with the runs of two indices at hand; the runs at q take the
+// place of those on its side where they had to be worked out. The rebuilt planes are left as this index makes them.
 fn fits(
     work: &mut [i64],
     p: Picture,
@@ -315,7 +318,8 @@ fn fits(
     }
 }
 
-// Whether slice k takes at most room bits at index q, and its runs there. The rebuilt planes are left as this index makes them.
+// Whether slice k takes at most room bits at index q, and its runs there. The rebuilt planes are left as this index
+// makes them.
 fn probe_at(work: &mut [i64], p: Picture, room: u64, k: u32, q: u32, v: Windows) -> Probe
     requires { ⌜ SliceIn p (now work) k q × (v ≡ windowsOf p k) ⌝ }
     ensures { λ r. ⌜ (now (work .exit) ≡ rebuiltIn (now (work .entry)) p k q) × (Small (p .front) (p .end) (now (work .exit)) × Known (now (work .exit)) p k (r .rest)) ⌝ }
@@ -343,7 +347,7 @@ fn moved(q: u32, step: u32, down: bool) -> u32
     }
 }
 
-// One turn less, or none.
+// A count of turns less one, not below 0.
 fn turns_left(left: u32, again: bool) -> u32
     requires { ⌜ 0 < left ⌝ }
     ensures { λ r. ⌜ r < left ⌝ }
@@ -363,8 +367,8 @@ fn widened(step: u32, left: u32) -> u32
     }
 }
 
-// Runs at two indices near the guess g, in widening steps from there down where it fits and up where it does not, until that changes. The election's
-// index does not depend on them.
+// Runs at two indices near the guess g, in widening steps from there down where it fits and up where it does not, until
+// that changes. The election's index does not depend on them.
 fn bracket_at(work: &mut [i64], p: Picture, room: u64, k: u32, g: u32, v: Windows) -> Bracket
     requires { ⌜ SliceIn p (now work) k 0 × ((g ≤ 127) × (v ≡ windowsOf p k)) ⌝ }
     ensures { λ r. ⌜ Tried p k (now (work .entry)) (now (work .exit)) × (Known (now (work .exit)) p k (r .low) × Known (now (work .exit)) p k (r .high)) ⌝ }
@@ -400,8 +404,16 @@ fn middle(r: Range) -> u32
     (r.lo + r.hi) / 2
 }
 
-// The election from 0 to 127: its index, and runs at an index. The bracket begins at the guess g. The last index that was tried need not be the elected one.
-pub(crate) fn elect_qindex(work: &mut [i64], p: Picture, room: u64, k: u32, g: u32, v: Windows) -> Elected
+// The election from 0 to 127: its index, and runs at an index. The bracket begins at the guess g. The last index that
+// was tried need not be the elected one.
+pub(crate) fn elect_qindex(
+    work: &mut [i64],
+    p: Picture,
+    room: u64,
+    k: u32,
+    g: u32,
+    v: Windows,
+) -> Elected
     requires { ⌜ SliceIn p (now work) k 0 × ((g ≤ 127) × (v ≡ windowsOf p k)) ⌝ }
     ensures { λ r. ⌜ (r .index ≡ elect 0 127 (lowFitsIn (now (work .entry)) p room k)) × ((r .index ≤ 127)
         × (Tried p k (now (work .entry)) (now (work .exit)) × Known (now (work .exit)) p k (r .rest))) ⌝ }
@@ -423,7 +435,7 @@ pub(crate) fn elect_qindex(work: &mut [i64], p: Picture, room: u64, k: u32, g: u
     }
 }
 
-// The runs at index q: those at hand, where they are of this index.
+// Slice k's runs at index q: those at hand, where they are of this index.
 pub(crate) fn rest_at(work: &[i64], p: Picture, k: u32, q: u32, v: Windows, r: Rest) -> Rest
     requires { ⌜ SliceIn p (now work) k q × (Known (now work) p k r × (v ≡ windowsOf p k)) ⌝ }
     ensures { λ z. ⌜ Known (now (work .entry)) p k z × (z .index ≡ q) ⌝ }
@@ -434,7 +446,7 @@ pub(crate) fn rest_at(work: &[i64], p: Picture, k: u32, q: u32, v: Windows, r: R
     rest_of(work, p, k, q, v)
 }
 
-// A guess that is an index of low delay.
+// The index where the bracket of a slice begins: that of the slice before, at most 127.
 pub(crate) fn guess(index: u32) -> u32
     ensures { λ r. ⌜ (r ≡ min index 127) × (r ≤ 127) ⌝ }
 {

@@ -1,4 +1,4 @@
-// A low-delay slice, cut where it does not fit, and written. All of it is for the picture call.
+// Low-delay slices, cut where they do not fit, and written to the output.
 use crate::cost::Cost;
 use crate::layout::Picture;
 use crate::low_index::Rest;
@@ -18,18 +18,18 @@ ghost use Rattle.picture.specs.Picture.{slicesIn, SliceIn};
 ghost use Rattle.picture.specs.LowRest.{windowsOf, Known};
 ghost use Rattle.picture.specs.Low.{lumaIn, colourIn, runBits, lowBitsBy, lowRuns, workAt, cutsIn, KeptOf, LowIn, Shorter, CutIn};
 
-// How many numbers are written of luma and of the colours, and their bits.
+// The runs that are written: how many numbers of luma and of the colours, and their bits.
 struct Kept {
-    pub luma: usize,
-    pub luma_bits: u64,
-    pub colour: usize,
-    pub colour_bits: u64,
+    luma: usize,
+    luma_bits: u64,
+    colour: usize,
+    colour_bits: u64,
 }
 
-// How many numbers, and their bits.
+// A run: how many numbers, and their bits.
 struct Run {
-    pub count: usize,
-    pub bits: u64,
+    count: usize,
+    bits: u64,
 }
 
 // The shorter one of the kept run and the longest run that fits.
@@ -65,7 +65,8 @@ fn cut(work: &[i64], p: Picture, room: u64, k: u32, q: u32, y: Cost) -> Kept
     }
 }
 
-// The runs that are written in room bits: all but trailing zeros where that fits, else a cut. The runs behind level 0 are r.
+// The runs that are written in room bits: all but trailing zeros where that fits, else a cut. The runs behind level 0
+// are r.
 fn kept_runs(work: &[i64], p: Picture, room: u64, k: u32, q: u32, v: Windows, r: Rest) -> Kept
     requires { ⌜ SliceIn p (now work) k q × ((Known (now work) p k r × (r .index ≡ q)) × (v ≡ windowsOf p k)) ⌝ }
     ensures { λ z. ⌜ KeptOf room (lumaIn (now (work .entry)) p k q) (colourIn (now (work .entry)) p k q) z ⌝ }
@@ -95,7 +96,7 @@ fn kept_runs(work: &[i64], p: Picture, room: u64, k: u32, q: u32, v: Windows, r:
     )
 }
 
-// The numbers of the two runs.
+// Puts the numbers of the two runs.
 fn put_runs(
     out: &mut [u8],
     w: BitWriter,
@@ -148,7 +149,8 @@ fn put_runs(
     b.writer
 }
 
-// Slice k of n bytes at index q from place at on: where it ends. rest has its runs behind level 0 at q or at another index.
+// Writes slice k of n bytes at index q from place at on, and gives the place where it ends. rest has its runs behind
+// level 0 at q or at another index.
 pub(crate) fn put_ld_slice(
     out: &mut [u8],
     at: usize,
@@ -186,8 +188,14 @@ pub(crate) fn put_ld_slice(
     z.at
 }
 
-// All slices from place at on; n is the numerator.
-pub(crate) fn put_ld_slices(out: &mut [u8], at: usize, work: &mut [i64], p: Picture, n: u32) -> SliceCoder
+// Writes all slices from place at on; n is the numerator.
+pub(crate) fn put_ld_slices(
+    out: &mut [u8],
+    at: usize,
+    work: &mut [i64],
+    p: Picture,
+    n: u32,
+) -> SliceCoder
     requires { ⌜ LowIn p n (now work) × (at + n ≤ length (now out)) ⌝ }
     ensures { λ r. ⌜ Lays (now (out .entry)) at (lowRuns p n (now (work .entry)) (slicesIn p)) (now (out .exit)) (r .at)
         × ((r .«cut_slices» ≡ cutsIn p n (now (work .entry)) (slicesIn p)) × (now (work .exit) ≡ workAt p n (now (work .entry)) (slicesIn p))) ⌝ }

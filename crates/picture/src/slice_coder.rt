@@ -1,4 +1,4 @@
-// The state that goes from slice to slice. All of it is for the picture call.
+// The slice coder: the state that goes from slice to slice.
 use crate::high_index::Choice;
 use crate::high_index::Terms;
 use crate::layout::Picture;
@@ -12,8 +12,9 @@ ghost use Rattle.picture.specs.Picture.{slicesIn};
 ghost use Rattle.picture.specs.High.{planIn, choiceIn, wordsIn, wordsTo, sliceNumberCount, noteIn, plannedBy, FewBits, TermsIn, PlanIn, PlansOn, Notes};
 ghost use Rattle.picture.specs.Low.{isLast, lowIndexIn, lowBitsIn, lowWorkIn, LowIn};
 
-// Where the next slice goes in the output, how many low-delay slices carry index 127, the largest need of a component, the index of the slice before,
-// from which the search in high quality and the bracket in low delay begin, and where the words of the next slice stand in the work slice.
+// Where the next slice goes in the output, how many low-delay slices carry index 127, the largest need of a component,
+// the index of the slice before, from which the search in high quality and the bracket in low delay begin, and where
+// the words of the next slice stand in the work slice.
 pub(crate) struct SliceCoder {
     pub at: usize,
     pub cut_slices: u32,
@@ -23,7 +24,7 @@ pub(crate) struct SliceCoder {
 }
 
 impl SliceCoder {
-    // No slice yet; the first one goes to at.
+    // The state before the first slice, which goes to place at.
     pub(crate) fn new(at: usize) -> SliceCoder
         ensures { λ r. ⌜ (r .at ≡ at) × ((r .«cut_slices» ≡ 0) × ((r .largest ≡ 0) × ((r .words ≡ 0) × (r .index ≡ 0)))) ⌝ }
     {
@@ -36,7 +37,7 @@ impl SliceCoder {
         }
     }
 
-    // A high-quality slice of choice c, planned.
+    // Plans a high-quality slice of choice c.
     fn plan_choice(self, t: Terms, c: Choice) -> SliceCoder
         requires { ⌜ TermsIn t × (FewBits c × ((self .at < 2 ^ 60) × (self .words < 2 ^ 60))) ⌝ }
         ensures { λ r. ⌜ (r ≡ plannedBy t c self) × (r .at ≤ self .at + 2 ^ 34) ⌝ }
@@ -54,7 +55,7 @@ impl SliceCoder {
         }
     }
 
-    // High-quality slice k, planned, its words packed and its choice noted.
+    // Plans high-quality slice k, packs its words and notes its choice.
     pub(crate) fn plan_hq_slice(self, work: &mut [i64], p: Picture, t: Terms, k: u32) -> SliceCoder
         requires { ⌜ PlanIn p t (now work) × ((k < slicesIn p) × ((self .at < 2 ^ 60) × (self .words + sliceNumberCount p k ≤ p .front))) ⌝ }
         ensures { λ r. ⌜ PlansOn (planIn (now (work .entry)) p t k) self r
@@ -66,8 +67,14 @@ impl SliceCoder {
         self.plan_choice(t, c)
     }
 
-    // High-quality slice k, planned by the choice noted.
-    pub(crate) fn plan_noted_slice(self, work: &mut [i64], p: Picture, t: Terms, k: u32) -> SliceCoder
+    // Plans high-quality slice k by the choice noted.
+    pub(crate) fn plan_noted_slice(
+        self,
+        work: &mut [i64],
+        p: Picture,
+        t: Terms,
+        k: u32,
+    ) -> SliceCoder
         requires { ⌜ PlanIn p t (now work) × ((k < slicesIn p) × (Notes (now work) p t (slicesIn p) (now work)
             × ((self .at < 2 ^ 60) × (self .words ≡ length (wordsTo (now work) p t k))))) ⌝ }
         ensures { λ r. ⌜ PlansOn (planIn (now (work .entry)) p t k) self r × (now (work .exit) ≡ now (work .entry)) ⌝ }
@@ -76,7 +83,7 @@ impl SliceCoder {
         self.plan_choice(t, c)
     }
 
-    // High-quality slice k, written.
+    // Writes high-quality slice k.
     pub(crate) fn code_hq_slice(
         self,
         out: &mut [u8],
@@ -101,7 +108,7 @@ impl SliceCoder {
         }
     }
 
-    // Low-delay slice k, written; n is the numerator.
+    // Writes low-delay slice k; n is the numerator.
     pub(crate) fn code_ld_slice(
         self,
         out: &mut [u8],

@@ -1,5 +1,5 @@
--- Annex D of ST 2042-1: the default quantisation matrices. A table has a block for each horizontal-only depth, and a block a matrix for
--- each depth: the values in subband order. Where there is no block or no matrix there is no default. Assumes nothing.
+-- Annex D of ST 2042-1: the default quantisation matrices. A table has a block for each horizontal-only depth, and a
+-- block a matrix for each depth: the values in subband order. Where there is no block or no matrix there is no default.
 use mathlib.Core.Bool.{Bool, cond, _&&_}
 use mathlib.Core.List.{List, [], _∷_}
 use mathlib.Core.Option.{Option, none, some}
@@ -205,6 +205,6 @@ tables = tableD1 ∷ tableD2 ∷ tableD3 ∷ tableD4 ∷ tableD5 ∷ tableD6 ∷
 abbrev pub tableOf : ℕ → ℕ → Option Table
 tableOf w h = cond (eqb w h) (getElem? tables w) (cond (eqb w 3 && eqb h 1) (some tableD8) none)
 
--- wavelet, horizontal-only wavelet, depth, horizontal-only depth
+-- the default matrix for a wavelet, a horizontal-only wavelet, a depth and a horizontal-only depth, if there is one
 unfoldable pub defaultMatrix : ℕ → ℕ → ℕ → ℕ → Option (List ℕ)
 defaultMatrix w h d k = andThen (tableOf w h) (λ t. andThen (getElem? t k) (λ b. getElem? b d))

@@ -1,4 +1,4 @@
--- The answers of the four quantiser calls, by document 01's numbers. Assumes nothing.
+-- The answers of the four quantiser calls, by document 01's numbers.
 use mathlib.Core.Path.{_≡_}
 use mathlib.Core.Bool.{Bool, true, false, cond}
 use Prim.Native.Nat.{ℕ}
@@ -12,7 +12,7 @@ abbrev pub numberOf : QuantAnswer → ℕ
 numberOf (Value z) = 0
 numberOf (Refused n) = n
 
--- its value, 0 where the call is refused
+-- an answer's value, 0 where the call is refused
 abbrev pub valueOf : QuantAnswer → ℤ
 valueOf (Value z) = z
 valueOf (Refused n) = pos 0

@@ -1,4 +1,4 @@
--- Laws of the cap, of factors and of offsets. Assumes nothing.
+-- Laws of the cap, of factors and of offsets.
 use mathlib.Core.Path.{_≡_, refl, sym}
 use Prim.Native.Nat.{ℕ, zero, suc, _+_, _*_, _-_, _/_, _%_, _^_, _≤_, _<_}
 use native.Mathlib.Nat.{pow-suc}

@@ -1,4 +1,4 @@
--- Laws of the places of Annex D's matrices, which join the code's table to the definition's. Assumes nothing.
+-- Laws of the places of Annex D's matrices, which join the code's table to the definition's.
 use mathlib.Core.Path.{_≡_, refl, sym, ap, _∙_}
 use mathlib.Core.Bool.{true}
 use mathlib.Core.List.{List, [], _∷_, _++_, map, flatten}

@@ -1,5 +1,5 @@
--- The eight tables of Annex D one after the other, and where the code's numbers find a matrix: the table's number, and the matrix's place in
--- the table. Assumes nothing.
+-- The eight tables of Annex D one after the other, and where the code's numbers find a matrix: the table's number, and
+-- the matrix's place in the table.
 use mathlib.Core.Bool.{cond}
 use mathlib.Core.List.{List, [], _∷_, _++_, flatten}
 use Prim.Native.Nat.{ℕ, suc, _+_}

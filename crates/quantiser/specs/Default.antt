@@ -1,4 +1,4 @@
--- The default matrix as the code hands it out. Assumes nothing.
+-- The default matrix as the code hands it out.
 use mathlib.Core.Bool.{Bool, true, false}
 use mathlib.Core.List.{List, [], _∷_, _++_}
 use mathlib.Core.Option.{Option, none, some}
@@ -7,7 +7,7 @@ use lib.ListN.{length, replicate}
 use Rattle.quantiser.specs.declared.annex_d.DefaultMatrix.{DefaultMatrix}
 use Rattle.quantiser.specs.AnnexD.{defaultMatrix}
 
--- 25 places: the values, and zeros behind them
+-- 25 places: the values, and zeros after them
 abbrev pub places : List ℕ → List ℕ
 places vs = vs ++ replicate (25 - length vs) 0
 
@@ -15,6 +15,6 @@ abbrev pub handed : Option (List ℕ) → DefaultMatrix
 handed none = record { found = false; values = places [] }
 handed (some vs) = record { found = true; values = places vs }
 
--- for a wavelet, a horizontal-only wavelet, a depth and a horizontal-only depth
+-- the default matrix for a wavelet, a horizontal-only wavelet, a depth and a horizontal-only depth
 unfoldable pub defaultOf : ℕ → ℕ → ℕ → ℕ → DefaultMatrix
 defaultOf w h d k = handed (defaultMatrix w h d k)

@@ -1,4 +1,4 @@
--- The length of a number's code word without the quotient: the leading one of n / f by those of n and f. Assumes nothing.
+-- The length of a number's code word without the quotient: the leading one of n / f by those of n and f.
 use mathlib.Core.Path.{_≡_, sym, ap}
 use Prim.Native.Nat.{ℕ, zero, suc, _+_, _*_, _-_, _/_, _%_, _^_, _≤_, _<_}
 use native.Mathlib.Nat.{pow-suc, lt-of-not-le, le-of-suc-le-suc, mod-eq-of-lt, mul-le-mul-right, mul-lt-mul-of-pos-right, le-div-iff-mul-le, div-lt-iff-lt-mul, div-le-self, add-div-right}

@@ -1,5 +1,6 @@
--- The quantiser of document 01, "Factors and matrices": the standard's formulas with a factor worked out whole and it and each later step
--- capped at 2^63 - 1; quantising truncates four times the coefficient over the factor, capped alike. Assumes nothing.
+-- The quantiser of document 01, "Factors and matrices": the standard's formulas with a factor worked out whole and it
+-- and each later step capped at 2^63 - 1; quantising truncates four times the coefficient over the factor, capped
+-- alike.
 use Prim.Native.Nat.{ℕ, zero, suc, _+_, _*_, _-_, _/_, _^_, min}
 use lib.IntN.{ℤ, pos, natAbs}
 use Rattle.quantiser.specs.Standard.{factor, signed}
@@ -18,14 +19,14 @@ cappedOffsetBy (suc (suc i)) f = cap (f + 1) / 2
 unfoldable pub quantOffset : ℕ → ℕ
 quantOffset i = cappedOffsetBy i (quantFactor i)
 
--- by the factor f
+-- a coefficient quantised by the factor f
 unfoldable pub forwardBy : ℕ → ℤ → ℤ
 forwardBy f c = signed c (cap (4 * natAbs c / f))
 
 unfoldable pub forwardQuant : ℤ → ℕ → ℤ
 forwardQuant c i = forwardBy (quantFactor i) c
 
--- by the factor f and the offset off: the magnitude, its product, and each sum capped
+-- a number rebuilt by the factor f and the offset off: the magnitude, its product, and each sum capped
 abbrev pub cappedInverseAbs : ℕ → ℕ → ℕ → ℕ
 cappedInverseAbs f off zero = 0
 cappedInverseAbs f off (suc m) = cap (cap (cap (cap (suc m) * f) + off) + 2) / 4

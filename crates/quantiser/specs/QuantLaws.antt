@@ -1,5 +1,5 @@
--- What the layers above cite of the quantiser: how near, how large and of which sign a rebuilt coefficient is, that no cap touches a coefficient
--- below 2^53, and the bounds of factors and numbers. Assumes nothing.
+-- What the layers above cite of the quantiser: how near, how large and of which sign a rebuilt coefficient is, that no
+-- cap touches a coefficient below 2^53, and the bounds of factors and numbers.
 use mathlib.Core.Path.{_≡_, refl, sym, ap, _∙_}
 use Prim.Native.Nat.{ℕ, zero, suc, _+_, _*_, _/_, _%_, _^_, _≤_, _<_}
 use native.Mathlib.Nat.{mod-lt, div-add-mod', div-eq-of-lt, div-le-of-le-mul, mul-le-mul-right, suc-mul, zero-mul, mul-le-mul-left}

@@ -1,4 +1,5 @@
--- A larger index has no smaller factor, a larger factor makes no larger number, and a smaller number has no longer code word. Assumes nothing.
+-- A larger index has no smaller factor, a larger factor makes no larger number, and a smaller number has no longer code
+-- word.
 use mathlib.Core.Path.{_≡_}
 use Prim.Native.Nat.{ℕ, zero, suc, _+_, _*_, _-_, _/_, _%_, _^_, _≤_, _<_}
 use native.Mathlib.Nat.{zero-add, suc-add, le-refl, le-trans, pow-suc, le-div-iff-mul-le, div-mul-le-self, mul-le-mul-left}

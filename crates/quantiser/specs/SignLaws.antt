@@ -1,4 +1,4 @@
--- Laws of a sign on a magnitude, and the code word by the two. Assumes nothing.
+-- Laws of a sign on a magnitude, and the code word by the two.
 use mathlib.Core.Path.{_≡_, refl, sym, ap, _∙_}
 use mathlib.Core.Bool.{true, false}
 use Prim.Native.Nat.{ℕ, zero, suc, _+_, _*_, _/_, _<_}

@@ -1,4 +1,4 @@
--- A quotient and a remainder doubled. Assumes nothing.
+-- A quotient and a remainder doubled.
 use mathlib.Core.Path.{_≡_}
 use Prim.Native.Nat.{ℕ, _+_, _*_, _<_, _≤_}
 use Rattle.quantiser.specs.declared.Quotient.{Quotient}

@@ -1,5 +1,5 @@
--- What the code's steps rest on: a quotient by doubling, a product that is capped by a quotient, and the calls' answers.
--- Assumes nothing.
+-- What the code's steps rest on: a quotient by doubling, a product that is capped by a quotient, and the calls'
+-- answers.
 use mathlib.Core.Path.{_≡_, refl, sym, _∙_}
 use Prim.Native.Nat.{ℕ, zero, suc, _+_, _*_, _-_, _/_, _%_, _^_, _≤_, _<_}
 use native.Mathlib.Nat.{div-add-mod', le-div-iff-mul-le, div-lt-iff-lt-mul, mul-le-mul-right, le-trans, div-le-self, div-le-of-le-mul}
@@ -52,7 +52,7 @@ pub forward-is : (f m n q : ℕ) (c : ℤ) → m ≡ natAbs c → q ≡ 4 * m / 
 unfolding forwardBy
 forward-is f m n q c em eq en = rw (en, eq, em)
 
--- its magnitude where nothing is capped
+-- the number's magnitude where nothing is capped
 pub forward-abs : (f : ℕ) (c : ℤ) → natAbs c < 2 ^ 60 → natAbs (forwardBy f c) ≡ 4 * natAbs c / f
 unfolding forwardBy
 forward-abs f c b =

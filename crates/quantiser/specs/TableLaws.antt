@@ -1,4 +1,5 @@
--- A table's rule: a list that antt computes to a function's first values has the function's value at each of its places. Assumes nothing.
+-- A table's rule: a list that antt computes to a function's first values has the function's value at each of its
+-- places.
 use mathlib.Core.Path.{_≡_, ap, _∙_}
 use Prim.Native.Nat.{ℕ, _<_}
 use native.Mathlib.Nat.{zero-add}

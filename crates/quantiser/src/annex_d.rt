@@ -6,8 +6,8 @@ ghost use Rattle.quantiser.specs.AnnexD.{tableOf};
 ghost use Rattle.quantiser.specs.Default.{places, defaultOf};
 ghost use Rattle.quantiser.specs.Cells.{allTables, cellOf, matrixAt};
 
-// Annex D, a matrix to a line: 14 bytes, with zeros behind the values. A table has 19: those for horizontal-only depth 0 and depths
-// 0 to 4, for 1 and 0 to 4, for 2 and 0 to 3, for 3 and 0 to 2, for 4 and 0 to 1.
+// Annex D, a matrix to a line: 14 bytes, with zeros behind the values. A table has 19: those for horizontal-only depth
+// 0 and depths 0 to 4, for 1 and 0 to 4, for 2 and 0 to 3, for 3 and 0 to 2, for 4 and 0 to 1.
 const MATRICES: [[u8; 266]; 8] = [
     // Table D.1: Deslauriers-Dubuc (9,7)
     *b"\
@@ -196,7 +196,8 @@ pub struct DefaultMatrix {
     pub values: [u32; 25],
 }
 
-// For a wavelet, a horizontal-only wavelet, a depth and a horizontal-only depth. For the layers above.
+// The default matrix for a wavelet, a horizontal-only wavelet, a depth and a horizontal-only depth. For the layers
+// above.
 pub fn default_quant_matrix(
     wavelet: u32,
     wavelet_ho: u32,
@@ -265,7 +266,7 @@ fn matrix_at(table: u32, cell: u32) -> [u32; 25]
     values
 }
 
-// One of its first 14 values, 0 behind the last.
+// Value i of a matrix, of its first 14: 0 after the last.
 fn value_at(table: u32, cell: u32, i: usize) -> u32
     requires { ⌜ (table < 8) × ((cell < 19) × (i < 14)) ⌝ }
     ensures { λ r. ⌜ r ≡ getD (matrixAt table cell) i 0 ⌝ }

@@ -288,8 +288,9 @@ fn factor_by(remainder: u32, base: u64) -> u64
     (440253 * base + 32722) / 65444
 }
 
-// The same factor without the table below index 128, by the standard's formulas, whose terms stay below 2^64 there; from 128 on by the table.
-// For the layers above, which ask for a factor once for each band of a slice: a table that is read is written anew at every call.
+// A factor without the table below index 128, by the standard's formulas, whose terms stay below 2^64 there; from 128
+// on by the table. For the layers above, which ask for a factor once for each band of a slice: the compiler writes a
+// constant table anew at every call that reads it.
 pub fn factor_at(index: u32) -> u64
     requires { ⌜ index ≤ 255 ⌝ }
     ensures { λ r. ⌜ (r ≡ quantFactor index) × ((4 ≤ r) × (r < 2 ^ 63)) ⌝ }

@@ -54,7 +54,7 @@ pub fn inverse_quant(number: i64, index: u32) -> QuantAnswer
     QuantAnswer::Value(inverse_by(number, factors::table_at(index), factors::offset_at(index)))
 }
 
-// The sign of z on the magnitude m.
+// The magnitude m with the sign of z.
 fn signed(z: i64, m: u64) -> i64
     requires { ⌜ m < 2 ^ 63 ⌝ }
     ensures { λ r. ⌜ r ≡ signed z m ⌝ }
@@ -63,7 +63,7 @@ fn signed(z: i64, m: u64) -> i64
     if z < 0 { 0 - n } else { n }
 }
 
-// A number at most 2^63 - 1.
+// n, capped at 2^63 - 1.
 fn cap(n: u64) -> u64
     ensures { λ r. ⌜ (r ≡ cap n) × (r < 2 ^ 63) ⌝ }
 {
@@ -76,11 +76,11 @@ fn cap(n: u64) -> u64
 
 // A quotient and its remainder.
 struct Quotient {
-    pub quotient: u64,
-    pub remainder: u64,
+    quotient: u64,
+    remainder: u64,
 }
 
-// Those of twice the dividend.
+// The quotient and the remainder of twice the dividend.
 fn doubled(q: Quotient, f: u64) -> Quotient
     requires { ⌜ (q .quotient < 2 ^ 63) × ((q .remainder < f) × (f < 2 ^ 63)) ⌝ }
     ensures { λ r. ⌜ Doubles f q r ⌝ }
@@ -100,7 +100,8 @@ fn doubled(q: Quotient, f: u64) -> Quotient
     }
 }
 
-// Four times m over f: one division where four times m is a number of 64 bits, else a quotient and a remainder doubled twice.
+// Four times m over f: one division where four times m is a number of 64 bits, else a quotient and a remainder doubled
+// twice.
 fn four_over(m: u64, f: u64) -> u64
     requires { ⌜ ((4 ≤ f) × (f < 2 ^ 63)) × (m ≤ 2 ^ 63) ⌝ }
     ensures { λ r. ⌜ r ≡ 4 * m / f ⌝ }
@@ -128,7 +129,8 @@ pub fn forward_by(c: i64, f: u64) -> i64
     signed(c, cap(four_over(m, f)))
 }
 
-// How far forward_by's number is from 0, where nothing is capped; without a division where it is 0. For the layers above.
+// How far forward_by's number is from 0, where nothing is capped; without a division where it is 0. For the layers
+// above.
 pub fn forward_size(c: i64, f: u64) -> u64
     requires { ⌜ ((4 ≤ f) × (f < 2 ^ 63)) × (natAbs c < 2 ^ 60) ⌝ }
     ensures { λ r. ⌜ (r ≡ natAbs (forwardBy f c)) × (r ≤ 2 ^ 60) ⌝ }
@@ -148,7 +150,8 @@ pub fn forward_small(c: i64, f: u64) -> i64
     signed(c, forward_size(c, f))
 }
 
-// The place of the leading one of n / f, without the quotient: f, moved up until its leading one is at n's place, is above n or not.
+// The place of the leading one of n / f, without the quotient: f, moved up until its leading one is at n's place, is
+// above n or not.
 fn quotient_log2(n: u64, f: u64) -> u32
     requires { ⌜ (0 < f) × (f ≤ n) ⌝ }
     ensures { λ r. ⌜ r ≡ log2 (n / f) ⌝ }
@@ -157,8 +160,8 @@ fn quotient_log2(n: u64, f: u64) -> u32
     if n < (f << d) { d - 1 } else { d }
 }
 
-// How many bits the code word of forward_by's number has, without the quotient: the number's magnitude and one are (4 |c| + f) / f. For the
-// layers above.
+// How many bits the code word of forward_by's number has, without the quotient: the number's magnitude and one are (4
+// |c| + f) / f. For the layers above.
 pub fn forward_len_by(c: i64, f: u64) -> u32
     requires { ⌜ ((4 ≤ f) × (f < 2 ^ 63)) × (natAbs c < 2 ^ 60) ⌝ }
     ensures { λ r. ⌜ r ≡ length (codeS (forwardBy f c)) ⌝ }
@@ -168,7 +171,7 @@ pub fn forward_len_by(c: i64, f: u64) -> u32
     if e == 0 { 1 } else { 2 * e + 2 }
 }
 
-// The product, capped.
+// A product, capped.
 fn capped_mul(a: u64, b: u64) -> u64
     requires { ⌜ 0 < b ⌝ }
     ensures { λ r. ⌜ (r ≡ cap (a * b)) × (r < 2 ^ 63) ⌝ }

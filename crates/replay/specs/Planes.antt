@@ -1,4 +1,4 @@
--- What the transform of a case asks. Assumes nothing.
+-- What the transform of a case asks.
 use mathlib.Core.Path.{_≡_}
 use Prim.Native.Nat.{ℕ, _+_, _*_, _≤_, _^_, _-_, _<_}
 use native.Mathlib.Nat.{mul-le-mul, div-mul-le-self}

@@ -1,4 +1,4 @@
--- What a case puts behind its ones. Assumes nothing.
+-- What a case puts behind its ones.
 use mathlib.Core.Path.{_≡_}
 use Prim.Native.Nat.{ℕ, _+_, _≤_, _<_, _^_}
 use native.Mathlib.Omega.{arith}

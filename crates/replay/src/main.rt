@@ -1,7 +1,9 @@
-// Replays recorded answers of the Rust: each case on standard input is run here, and what comes out is compared with what was recorded.
+// Replays recorded answers of the Rust: each case on standard input is run here, and what comes out is compared with
+// what was recorded.
 //
-// The input is 64-bit words, high byte first. A case is a word K * 2^32 + N, its kind and the number of words that follow, and then
-// these words. Signed numbers are in two's complement. Packed bytes stand eight to a word, high byte first, zeros behind the last.
+// The input is 64-bit words, high byte first. A case is a word K * 2^32 + N, its kind and the number of words that
+// follow, and then these words. Signed numbers are in two's complement. Packed bytes stand eight to a word, high byte
+// first, zeros behind the last.
 //   1  uint_code_len: v, length
 //   2  sint_code_len: v, length
 //   3  put_uint: s, v, bits, packed bytes. s ones (0 to 7) are put first; bits counts all, and zeros fill the last byte
@@ -17,9 +19,9 @@
 //       coefficients of the padded component in subband order, each band row by row
 //   34  long row: wavelet, n, answer (0, 1 or 15) for a row of n zeros
 //   48  job: bytes of the job, the job packed, bytes of the printed text, the text packed
-// What is printed: a line for each case that differs or is malformed, with its number from 1 on and its kind; then for each kind how
-// many were run and how many differ, and how many cases were malformed. A case of another kind or form is malformed; one that is cut
-// off, or longer than 8,192 words, is malformed and ends the run.
+// What is printed: a line for each case that differs or is malformed, with its number from 1 on and its kind; then for
+// each kind how many were run and how many differ, and how many cases were malformed. A case of another kind or form is
+// malformed; one that is cut off, or longer than 8,192 words, is malformed and ends the run.
 mod case;
 mod job;
 mod quant;

@@ -53,7 +53,7 @@ fn run_row(row: &mut [i64], w: &[u64]) -> Verdict
     same_row(row, w, from)
 }
 
-// In the first n of numbers.
+// The case's row is run in the first n of numbers.
 fn run_row_in(numbers: &mut [i64], w: &[u64], n: usize) -> Verdict
     requires { ⌜ (n ≤ length (now numbers)) × (3 + 2 * n ≤ length (now w)) ⌝ }
 {
@@ -146,7 +146,7 @@ fn full_sides(c: Component, t: Transform) -> Component
     }
 }
 
-// In lent numbers and samples.
+// The case's transform is run in lent numbers and samples.
 fn run_dwt_in(
     numbers: &mut [i64],
     samples: &mut [u16],

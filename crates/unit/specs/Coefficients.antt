@@ -1,4 +1,4 @@
--- The coefficients of a picture: document 01, "Coefficients". Assumes nothing.
+-- The coefficients of a picture: document 01, "Coefficients".
 use mathlib.Core.List.{List}
 use Prim.Native.Nat.{ℕ}
 use Rattle.wavelet.specs.Lifting.{exact}

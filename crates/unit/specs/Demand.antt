@@ -1,4 +1,4 @@
--- Demand 3: what the reader gives back of an accepted picture's unit. One statement about a call and the whole reading. Assumes nothing.
+-- Demand 3: what the reader gives back of an accepted picture's unit. One statement about a call and the whole reading.
 use mathlib.Core.Path.{_≡_}
 use mathlib.Core.List.{List, [], _∷_, map}
 use Prim.Native.Nat.{ℕ, zero, suc, _+_, _*_, _-_, _/_, _≤_, _<_}
@@ -25,19 +25,23 @@ use Rattle.unit.specs.Plan.{SlicePlan, Plan}
 use Rattle.unit.specs.Unit.{majorVersion, gridOf, planOf}
 use Rattle.unit.specs.Reader.{SliceRead, Reading, readUnit, readBands, readSamples}
 
+-- P holds of every element
 abbrev pub All : {A : Type 0} → (A → Type 0) → List A → Type 0
 All P [] = Unit {0}
 All P (x ∷ xs) = P x × All P xs
 
+-- how many bytes a slice takes
 abbrev pub bytesOf : SlicePlan → ℕ
 bytesOf a = length (a .bits) / 8
 
--- what is read of a slice is what was planned: its index, its numbers, with zeros for those after the runs that a cut keeps, and its bytes
+-- what is read of a slice is what was planned: its index, its numbers, with zeros for those after the runs that a cut
+-- keeps, and its bytes
 pub record SameSlice (a : SlicePlan) (r : SliceRead) : Type 0 where
   pub index : r .index ≡ a .index
   pub numbers : r .numbers ≡ a .kept
   pub bytes : r .byteCount ≡ bytesOf a
 
+-- what is read of all slices is what was planned
 abbrev pub SameSlices : List SlicePlan → List SliceRead → Type 0
 SameSlices [] [] = Unit {0}
 SameSlices [] (r ∷ rs) = ⊥
@@ -54,10 +58,12 @@ abbrev pub Bytes : SliceParameters → List SliceRead → Type 0
 Bytes (highQuality p c) ss = Unit {0}
 Bytes (lowDelay n d) ss = (map (λ (r : SliceRead). r .byteCount) ss ≡ span (sliceBytes n d) 0 (length ss)) × (total (map (λ (r : SliceRead). r .byteCount) ss) ≡ n)
 
--- no slice has dropped a number that is not 0
+-- no slice has dropped a number that is not 0: a reader gets what was quantised. Document 01's dropped numbers are
+-- those after the runs that a cut keeps
 abbrev pub Undropped : Plan → Type 0
 Undropped a = All (λ (s : SlicePlan). s .kept ≡ s .numbers) (a .slices)
 
+-- every slice carries index 0
 abbrev pub AllZero : Plan → Type 0
 AllZero a = All (λ (s : SlicePlan). s .index ≡ 0) (a .slices)
 
@@ -70,16 +76,18 @@ pub record LowDrops (a : SlicePlan) : Type 0 where
   pub whole : FitsIn a → a .kept ≡ a .numbers
   pub fits : a .index < 127 → FitsIn a
 
--- which slices can drop numbers: none of high quality
+-- which slices drop no number: a low-delay one that fits, and every one of high quality
 abbrev pub Drops : PictureKind → SlicePlan → Type 0
 Drops LowDelay a = LowDrops a
 Drops HighQuality a = a .kept ≡ a .numbers
 
+-- the index of slice k
 abbrev pub planIndex : Plan → ℕ → ℕ
 planIndex a k = getD (map (λ (s : SlicePlan). s .index) (a .slices)) k 0
 
--- a subband b and the one read, r, which has its sides: at every place, padding included, four times the error is less than the factor of the
--- band's index there. The error is document 01's: the coefficient less the reader's. n is the subband's number, m are the matrix values
+-- a subband b and the one read, r, which has its sides: at every place, padding included, four times the error is
+-- less than the factor of the band's index there. Document 01's error is the coefficient less the reader's; n is the
+-- subband's number, m are the matrix values
 pub record NearBand (g : Grid) (m : List ℕ) (index : ℕ → ℕ) (n : ℕ) (b r : Band) : Type 0 where
   pub high : b .high ≡ r .high
   pub wide : b .wide ≡ r .wide

@@ -1,4 +1,4 @@
--- Demand 3 holds of the unit of every accepted call. Assumes nothing.
+-- Demand 3 holds of the unit of every accepted call.
 use mathlib.Core.Path.{_≡_, refl, sym, ap, ap₂, _∙_}
 use mathlib.Core.Bool.{Bool, true, false, _||_}
 use mathlib.Core.List.{List, [], _∷_, _++_, map}
@@ -205,8 +205,8 @@ module _ (s : Settings) (m : List ℕ) (p : Three (List ℕ)) (work : List ℤ) 
       samples = λ u z. (samples-all u z Y, samples-all u z C1, samples-all u z C2);
     }
 
--- for every accepted call: settings, lent matrix, planes and work slice that none of refusals 1 to 13 turns away, and a unit that a
--- length of 32 bits can tell
+-- for every accepted call: settings, lent matrix, planes and work slice that none of refusals 1 to 13 turns away, and a
+-- unit that a length of 32 bits can tell
 pub demand : (s : Settings) (m : List ℕ) (p : Three (List ℕ)) (work : List ℤ) → Typed s p → refusalOf s m p work ≡ 0 → lengthOf s (planOf s m p) < 2 ^ 32
     → Demand3 s m p (unitOf s (planOf s m p))
 demand s m p work t e long = holds s m p work (valid s m p work e) t long

@@ -1,4 +1,4 @@
--- Which slices can drop numbers. Assumes nothing.
+-- Which slices can drop numbers.
 use mathlib.Core.Path.{_≡_, refl, sym, ap, _∙_}
 use mathlib.Core.List.{List, [], _∷_, map}
 use Prim.Native.Nat.{ℕ, zero, suc, _+_, _*_, _/_, _≤_, _<_}

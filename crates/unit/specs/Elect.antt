@@ -1,4 +1,4 @@
--- The election of an index, elect_qindex: document 01, "Slices and unit". Assumes nothing.
+-- The election of an index, elect_qindex: document 01, "Slices and unit".
 use mathlib.Core.Bool.{Bool, true, false}
 use Prim.Native.Nat.{ℕ, zero, suc, _+_, _-_, _/_}
 use lib.Dec.{ltb}
@@ -13,10 +13,11 @@ halve fits (suc n) lo hi =
       | false ↦ lo
     ]
 
--- then upward from q until a fit or the end, n steps above q
-unfoldable pub climb : (ℕ → Bool) → ℕ → ℕ → ℕ
-climb fits zero q = q
-climb fits (suc n) q = elim (fits q) [ true ↦ q | false ↦ climb fits n (q + 1) ]
+-- upward from q until a fit or the end, which is n steps above q
+unfoldable pub upward : (ℕ → Bool) → ℕ → ℕ → ℕ
+upward fits zero q = q
+upward fits (suc n) q = elim (fits q) [ true ↦ q | false ↦ upward fits n (q + 1) ]
 
+-- from lo to hi: halving, then upward
 unfoldable pub elect : ℕ → ℕ → (ℕ → Bool) → ℕ
-elect lo hi fits = let q = halve fits (hi - lo) lo hi in climb fits (hi - q) q
+elect lo hi fits = let q = halve fits (hi - lo) lo hi in upward fits (hi - q) q

@@ -1,5 +1,5 @@
 -- Laws of the election of an index: it stays between its ends, below the upper end it fits, and where fitting
--- stays, it is the least that fits. Assumes nothing.
+-- stays, it is the least that fits.
 use mathlib.Core.Path.{_≡_, refl, sym, ap, _∙_, subst}
 use mathlib.Core.Bool.{Bool, true, false}
 use Prim.Native.Nat.{ℕ, zero, suc, _+_, _-_, _/_, _≤_, _<_}
@@ -9,7 +9,7 @@ use native.Mathlib.Nat.{le-antisymm, le-of-suc-le-suc, lt-of-not-le}
 use borrow.Author.Tests.{ltb-true, ltb-false}
 use lib.Dec.{ltb}
 use Rattle.unit.specs.TestLaws.{no-truth}
-use Rattle.unit.specs.Elect.{halve, climb, elect}
+use Rattle.unit.specs.Elect.{halve, upward, elect}
 
 -- an index q between lo and hi that fits, unless it is top, which is never tried
 pub record Elected (fits : ℕ → Bool) (lo hi top q : ℕ) : Type 0 where
@@ -50,11 +50,11 @@ module _ (fits : ℕ → Bool) where
       (λ h e. halve-elects n lo mid top (omega arith) (omega arith) (λ l. e))
       (λ h. halve-elects n (mid + 1) hi top (omega arith) (omega arith) f)
 
-  -- the way up ends where it began
-  climb-stays : (n q : ℕ) → (0 < n → fits q ≡ true) → climb fits n q ≡ q
-  unfolding climb
-  climb-stays zero q f = refl
-  climb-stays (suc n) q f = rw (f (omega arith), climb)
+  -- the upward search ends where it began, where that fits
+  upward-stays : (n q : ℕ) → (0 < n → fits q ≡ true) → upward fits n q ≡ q
+  unfolding upward
+  upward-stays zero q f = refl
+  upward-stays (suc n) q f = rw (f (omega arith), upward)
 
   halved : (lo hi : ℕ) → lo ≤ hi → Elected fits lo hi hi (halve fits (hi - lo) lo hi)
   halved lo hi h = halve-elects (hi - lo) lo hi hi h (omega arith) (λ l. absurd (omega arith))
@@ -64,7 +64,7 @@ module _ (fits : ℕ → Bool) where
   elect-halves lo hi h =
       let r = halved lo hi h in
       let q = halve fits (hi - lo) lo hi in
-      climb-stays (hi - q) q (λ l. r .fit (omega arith))
+      upward-stays (hi - q) q (λ l. r .fit (omega arith))
 
   pub elected : (lo hi : ℕ) → lo ≤ hi → Elected fits lo hi hi (elect lo hi fits)
   elected lo hi h = subst (Elected fits lo hi hi) (sym (elect-halves lo hi h)) (halved lo hi h)

@@ -1,4 +1,4 @@
--- Document 01's table of marked examples, proved together. Assumes nothing.
+-- Document 01's table of marked examples, proved together.
 use mathlib.Core.Path.{_≡_, refl, ap, _∙_}
 use mathlib.Core.Bool.{Bool, true, false, not, _&&_}
 use mathlib.Core.List.{List, [], _∷_, map, append-nil}

@@ -1,4 +1,4 @@
--- High quality: document 01, "Slices and unit"; ST 2042-1, 13.5.4. Assumes nothing.
+-- High quality: document 01, "Slices and unit"; ST 2042-1, 13.5.4.
 use mathlib.Core.Bool.{Bool, true, false, cond}
 use mathlib.Core.List.{List, [], _∷_, _++_, map}
 use Prim.Native.Nat.{ℕ, zero, suc, _+_, _*_, _-_, _/_, _%_, max}
@@ -23,10 +23,11 @@ use Rattle.unit.specs.Plan.{SlicePlan}
 abbrev pub ceiling : ℕ → ℕ → ℕ
 ceiling n m = (n + (m - 1)) / m
 
--- the bytes that a component needs, and these in whole scalers c
+-- the bytes that a component needs
 abbrev pub needOf : List ℤ → ℕ
 needOf xs = ceiling (trimmedCost xs) 8
 
+-- the scalers c that a component needs
 abbrev pub scalersOf : ℕ → List ℤ → ℕ
 scalersOf c xs = ceiling (needOf xs) c
 
@@ -42,11 +43,12 @@ highBits p c q z = zeroBits (8 * p) ++ (lit 8 q ++ (componentBits c (z .y) ++ (c
 unfoldable pub sliceSize : ℕ → ℕ → Three (List ℤ) → ℕ
 sliceSize p c z = 4 + p + (scalersOf c (z .y) * c + scalersOf c (z .c1) * c + scalersOf c (z .c2) * c)
 
--- slice k's share of n bytes among d slices: the earlier ones are larger by at most one
+-- document 01's share: that of slice k in n bytes among d slices; the earlier ones are larger by at most one
 unfoldable pub shareOf : ℕ → ℕ → ℕ → ℕ
 shareOf n d k = n / d + cond (ltb k (n % d)) 1 0
 
 module _ (g : Grid) (m : List ℕ) (b : Three (List Band)) (p : ℕ) where
+  -- the quantised numbers of slice k at index q
   unfoldable pub highNumbers : ℕ → ℕ → Three (List ℤ)
   highNumbers k q = record {
     y = numbersHQ g m (b .y) q k;
@@ -60,9 +62,11 @@ module _ (g : Grid) (m : List ℕ) (b : Three (List Band)) (p : ℕ) where
   highIndex (FixedQuantIndex q) c n k = q
   highIndex (PictureBytes t) c n k = elect 0 255 (λ q. leb (sliceSize p c (highNumbers k q)) (shareOf n (sliceCount g) k))
 
+  -- slice k at index q with scaler c: it drops no number
   unfoldable pub highPlan : ℕ → ℕ → ℕ → SlicePlan
   highPlan c k q = let z = highNumbers k q in record { index = q; numbers = z; kept = z; bits = highBits p c q z }
 
+  -- all slices, with scaler c and n bytes for them
   abbrev pub highSlices : RateControl → ℕ → ℕ → List SlicePlan
   highSlices r c n = span (λ k. highPlan c k (highIndex r c n k)) 0 (sliceCount g)
 
@@ -71,8 +75,8 @@ unfoldable pub largestNeed : List SlicePlan → ℕ
 largestNeed [] = 0
 largestNeed (s ∷ ss) = max (max (needOf (s .numbers .y)) (max (needOf (s .numbers .c1)) (needOf (s .numbers .c2)))) (largestNeed ss)
 
--- While a component needs more than 255 scalers the scaler becomes the largest need over 255, rounded up; slices gives the slices by their
--- scaler, f bounds the turns.
+-- While a component needs more than 255 scalers the scaler becomes the largest need over 255, rounded up; slices gives
+-- the slices by their scaler, f bounds the turns.
 unfoldable pub scalerFrom : (ℕ → List SlicePlan) → ℕ → ℕ → ℕ
 scalerFrom slices zero c = c
 scalerFrom slices (suc f) c =

@@ -1,4 +1,4 @@
--- High quality: what is read of a slice, a slice's size, the scaler that the needs end at, and the shares of a target. Assumes nothing.
+-- High quality: what is read of a slice, a slice's size, the scaler that the needs end at, and the shares of a target.
 use mathlib.Core.Path.{_≡_, refl, ap, _∙_, subst}
 use mathlib.Core.Bool.{Bool, true, false, cond}
 use mathlib.Core.List.{List, _∷_, _++_, map}
@@ -131,7 +131,7 @@ module _ (g : Grid) (m : List ℕ) where
       (λ k. record { y = need-most (b .y) _ k most (w .y); c1 = need-most (b .c1) _ k most (w .c1); c2 = need-most (b .c2) _ k most (w .c2) })
 
 -- ---- the scaler
--- it rises with each turn
+-- the scaler rises with each turn
 pub next-rises : (n c : ℕ) → 255 * c < n → c < ceiling n 255
 next-rises n c h = omega arith
 

@@ -1,4 +1,4 @@
--- Laws of the standard's intlog2 and of sample offsets: intlog2 n is the least m with n at most 2^m. Assumes nothing.
+-- Laws of the standard's intlog2 and of sample offsets: intlog2 n is the least m with n at most 2^m.
 use mathlib.Core.Path.{_≡_, refl}
 use mathlib.Core.Bool.{Bool, true, false}
 use Prim.Native.Nat.{ℕ, zero, suc, _+_, _^_, _≤_, _<_}

@@ -1,4 +1,4 @@
--- Low delay: document 01, "Slices and unit"; ST 2042-1, 13.5.3. Assumes nothing.
+-- Low delay: document 01, "Slices and unit"; ST 2042-1, 13.5.3.
 use mathlib.Core.Bool.{Bool, true, false}
 use mathlib.Core.List.{List, [], _∷_, _++_}
 use Prim.Native.Nat.{ℕ, zero, suc, _+_, _*_, _-_, _/_, max}
@@ -22,15 +22,17 @@ use Rattle.unit.specs.Plan.{SlicePlan}
 unfoldable pub sliceBytes : ℕ → ℕ → ℕ → ℕ
 sliceBytes n d k = suc k * n / d - k * n / d
 
--- 13.5.3.1: how many bits the luma length of a slice of n bytes has, and how many are left for numbers
+-- 13.5.3.1: how many bits the luma length of a slice of n bytes has
 abbrev pub lengthBits : ℕ → ℕ
 lengthBits n = intlog2 (8 * n - 7)
 
+-- how many bits of a slice of n bytes are left for numbers
 abbrev pub roomOf : ℕ → ℕ
 roomOf n = 8 * n - 7 - lengthBits n
 
--- The numerator: the target less the overhead (17 bytes and the transform parameters), not below the slice count. It is worked out twice,
--- first with the target as the numerator in the parameters; t gives the parameters by their numerator.
+-- The numerator: the target less the overhead (17 bytes and the transform parameters), not below the slice count. It is
+-- worked out twice, first with the target as the numerator in the parameters; t gives the parameters by their
+-- numerator.
 module _ (version target slices : ℕ) (t : ℕ → Parameters) where
   abbrev pub numeratorBy : ℕ → ℕ
   numeratorBy n = max (target - (17 + parameterBytes version (t n))) slices
@@ -44,6 +46,7 @@ alternated [] vs = []
 alternated (u ∷ us) [] = []
 alternated (u ∷ us) (v ∷ vs) = u ∷ v ∷ alternated us vs
 
+-- the first, third, .. number, and the second, fourth, ..: the two colours of an alternated run
 unfoldable pub evens : List ℤ → List ℤ
 evens [] = []
 evens (x ∷ []) = x ∷ []
@@ -64,7 +67,8 @@ pub record Runs : Type 0 where
   pub luma : List ℤ
   pub colour : List ℤ
 
--- all but trailing zeros where that fits; else a cut: the longest luma run that fits, then the longest colour run in the bits left
+-- all but trailing zeros where that fits; else a cut: the longest luma run that fits, then the longest colour run in
+-- the bits left
 unfoldable pub keptRuns : ℕ → List ℤ → List ℤ → Runs
 keptRuns room ys cs =
     elim (leb (trimmedCost ys + trimmedCost cs) room) [
@@ -81,6 +85,7 @@ module _ (g : Grid) (m : List ℕ) (b : Three (List Band)) where
     c2 = numbersLD g m (b .c2) (r .c2) q k;
   }
 
+  -- the rebuilt planes that slice k leaves at index q: they are made from the numbers before any cut
   abbrev pub lowLeft : Three Plane → ℕ → ℕ → Three Plane
   lowLeft r k q = record {
     y = leftLD g m (b .y) (r .y) q k;
@@ -88,6 +93,7 @@ module _ (g : Grid) (m : List ℕ) (b : Three (List Band)) where
     c2 = leftLD g m (b .c2) (r .c2) q k;
   }
 
+  -- whether slice k fits at index q: its numbers cost at most room bits
   abbrev pub lowFits : ℕ → Three Plane → ℕ → ℕ → Bool
   lowFits room r k q = let z = lowNumbers r k q in leb (trimmedCost (z .y) + trimmedCost (alternated (z .c1) (z .c2))) room
 
@@ -95,6 +101,7 @@ module _ (g : Grid) (m : List ℕ) (b : Three (List Band)) where
   unfoldable pub lowIndex : ℕ → Three Plane → ℕ → ℕ
   lowIndex n r k = elect 0 127 (lowFits (roomOf n) r k)
 
+  -- a slice of n bytes with the numbers z at index q
   abbrev pub lowPlanOf : ℕ → ℕ → Three (List ℤ) → SlicePlan
   lowPlanOf n q z =
       let w = keptRuns (roomOf n) (z .y) (alternated (z .c1) (z .c2)) in
@@ -106,10 +113,11 @@ module _ (g : Grid) (m : List ℕ) (b : Three (List Band)) where
         bits = lowBits n q (w .luma) (w .colour);
       }
 
+  -- slice k of n bytes at index q
   unfoldable pub lowPlan : ℕ → Three Plane → ℕ → ℕ → SlicePlan
   lowPlan n r k q = lowPlanOf n q (lowNumbers r k q)
 
-  -- count slices from slice k on; n is the numerator, and the slice count the denominator
+  -- j slices from slice k on; n is the numerator, and the slice count the denominator
   unfoldable pub lowSlices : ℕ → Three Plane → ℕ → ℕ → List SlicePlan
   lowSlices n r k zero = []
   lowSlices n r k (suc j) =

@@ -1,4 +1,4 @@
--- Low delay: a slice's bytes, the runs that are written fit, and what is read of them. Assumes nothing.
+-- Low delay: a slice's bytes, the runs that are written fit, and what is read of them.
 use mathlib.Core.Path.{_≡_, refl, sym, ap, ap₂, _∙_, subst, subst₂}
 use mathlib.Core.Bool.{Bool, true, false}
 use mathlib.Core.List.{List, [], _∷_, _++_, append-nil, map}

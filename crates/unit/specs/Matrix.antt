@@ -1,4 +1,5 @@
--- The quantisation matrix of a call, and whether its unit carries it: document 01, "Settings the box is given"; Annex D. Assumes nothing.
+-- The quantisation matrix of a call, and whether its unit carries it: document 01, "Settings the box is given"; Annex
+-- D.
 use mathlib.Core.Bool.{true, false}
 use mathlib.Core.List.{List, []}
 use mathlib.Core.Option.{Option, none, some}

@@ -1,4 +1,4 @@
--- Annex D's matrices have as many values as there are subbands, none above 255. Assumes nothing.
+-- Annex D's matrices have as many values as there are subbands, none above 255.
 use mathlib.Core.Path.{_≡_, refl, ap}
 use mathlib.Core.Bool.{Bool, true, false, not, cond, _&&_, _||_}
 use mathlib.Core.List.{List, [], _∷_}

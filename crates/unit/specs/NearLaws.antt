@@ -1,4 +1,5 @@
--- What the reader rebuilds of the slices' numbers is near the encoder's coefficients, and equal to them where every index is 0. Assumes nothing.
+-- What the reader rebuilds of the slices' numbers is near the encoder's coefficients, and equal to them where every
+-- index is 0.
 use mathlib.Core.Path.{_≡_, refl, sym, ap, ap₂, _∙_}
 use mathlib.Core.List.{List, [], _∷_, map}
 use Prim.Native.Nat.{ℕ, suc, _*_, _^_, _≤_, _<_}

@@ -1,4 +1,4 @@
--- The outcome of a picture call: document 01, "Answers that turn a call away". Assumes nothing.
+-- The outcome of a picture call: document 01, "Answers that turn a call away".
 use mathlib.Core.Bool.{Bool, true, false, _||_}
 use mathlib.Core.List.{List, [], _∷_, _++_}
 use Prim.Native.Nat.{ℕ, zero, suc, _+_}
@@ -22,16 +22,17 @@ abbrev pub numberOf : Answer → ℕ
 numberOf (Accepted c) = 0
 numberOf (Refused n) = n
 
--- its number and, for an accepted call, its values: length, cut slices and final scaler
+-- what an answer tells: its number and, for an accepted call, its values: length, cut slices and final scaler
 abbrev pub tells : Answer → List ℕ
 tells (Accepted c) = 0 ∷ c .written ∷ c .«cut_slices» ∷ c .«slice_size_scaler» ∷ []
 tells (Refused n) = n ∷ []
 
--- the low-delay slices that carry index 127
+-- how many slices carry index 127
 abbrev pub lastIndices : List SlicePlan → ℕ
 lastIndices [] = 0
 lastIndices (s ∷ ss) = elim (eqb (s .index) 127) [ true ↦ suc (lastIndices ss) | false ↦ lastIndices ss ]
 
+-- document 01's cut slices: the low-delay slices that carry index 127; 0 in high quality
 unfoldable pub cutCount : PictureKind → Plan → ℕ
 cutCount LowDelay a = lastIndices (a .slices)
 cutCount HighQuality a = 0
@@ -41,6 +42,7 @@ abbrev pub scalerIn : SliceParameters → ℕ → ℕ
 scalerIn (lowDelay n d) c = c
 scalerIn (highQuality p c) d = c
 
+-- what an accepted call gives: length, cut slices and final scaler
 unfoldable pub codedOf : Settings → Plan → Coded
 codedOf s a = record {
   written = lengthOf s a;
@@ -48,6 +50,7 @@ codedOf s a = record {
   «slice_size_scaler» = scalerIn (a .parameters .sliceParameters) (s .«slice_size_scaler»);
 }
 
+-- the answer, and the output and work slices as they are left
 pub record Outcome : Type 0 where
   pub answer : Answer
   pub output : List ℕ
@@ -57,8 +60,8 @@ pub record Outcome : Type 0 where
 abbrev pub zeroed : List ℕ → List ℤ → Outcome
 zeroed out work = record { answer = Refused 14; output = replicate (length out) 0; work = replicate (length work) (pos 0) }
 
--- the unit goes to the output's start, the rest stays, and the work slice is filled with zeros; 14 where the unit is longer than the output
--- or than 2^32 - 1 bytes
+-- the unit goes to the output's start, the rest stays, and the work slice is filled with zeros; 14 where the unit is
+-- longer than the output or than 2^32 - 1 bytes
 abbrev pub coded : Settings → Plan → List ℕ → List ℤ → Outcome
 coded s a out work =
     let n = lengthOf s a in

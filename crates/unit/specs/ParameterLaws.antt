@@ -1,4 +1,4 @@
--- The transform parameters are read back as they were written. Assumes nothing.
+-- The transform parameters are read back as they were written.
 use mathlib.Core.Path.{_≡_, refl, sym, ap, ap₂, _∙_, subst}
 use mathlib.Core.Bool.{Bool, true, false, not, cond, _||_, _&&_}
 use mathlib.Core.List.{List, [], _∷_, _++_}

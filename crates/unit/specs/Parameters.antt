@@ -1,4 +1,5 @@
--- The transform parameters and their bits: ST 2042-1, 12.4; the major version: document 01, "Settings the box is given". Assumes nothing.
+-- The transform parameters and their bits: ST 2042-1, 12.4; the major version: document 01, "Settings the box is
+-- given".
 use mathlib.Core.Bool.{Bool, true, false, not, cond, _||_}
 use mathlib.Core.List.{List, [], _∷_, _++_}
 use mathlib.Core.Option.{Option, none, some}
@@ -29,24 +30,26 @@ abbrev pub flagged : Bool → ℕ → Bits
 flagged true n = true ∷ codeU n
 flagged false n = false ∷ []
 
--- 12.4.4, from version 3 on
+-- 12.4.4: the extended parameters, from version 3 on
 unfoldable pub extendedBits : Parameters → Bits
 extendedBits t = flagged (not (eqb (t .waveletHo) (t .wavelet))) (t .waveletHo) ++ flagged (not (eqb (t .depthHo) 0)) (t .depthHo)
 
+-- 12.4.5.2: the slice parameters
 abbrev pub sliceParameterBits : SliceParameters → Bits
 sliceParameterBits (lowDelay n d) = codeU n ++ codeU d
 sliceParameterBits (highQuality p c) = codeU p ++ codeU c
 
+-- unsigned code words, one after the other
 unfoldable pub codesU : List ℕ → Bits
 codesU [] = []
 codesU (v ∷ vs) = codeU v ++ codesU vs
 
--- 12.4.5.3
+-- 12.4.5.3: a flag, and a custom matrix if one is carried
 abbrev pub matrixBits : Option (List ℕ) → Bits
 matrixBits none = false ∷ []
 matrixBits (some vs) = true ∷ codesU vs
 
--- 12.4.1; version is the major version
+-- 12.4.1: the transform parameters; version is the major version
 unfoldable pub parameterBits : ℕ → Parameters → Bits
 parameterBits version t =
     codeU (t .wavelet) ++ (codeU (t .depth) ++ (cond (leb 3 version) (extendedBits t) [] ++ (codeU (t .across) ++ (codeU (t .down)
@@ -56,6 +59,6 @@ parameterBits version t =
 abbrev pub fill : ℕ → Bits
 fill n = zeroBits ((8 - n % 8) % 8)
 
--- the bytes that they take
+-- how many bytes the transform parameters take
 unfoldable pub parameterBytes : ℕ → Parameters → ℕ
 parameterBytes version t = (length (parameterBits version t) + 7) / 8

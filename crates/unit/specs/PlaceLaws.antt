@@ -1,5 +1,5 @@
--- Every place of a subband is in the window of one slice, its own, and its number stands at its own place there; the standard's loop of
--- stores, slice after slice, leaves that plane. Assumes nothing.
+-- Every place of a subband is in the window of one slice, its own, and its number stands at its own place there; the
+-- standard's loop of stores, slice after slice, leaves that plane.
 use mathlib.Core.Path.{_≡_, refl, sym, ap, ap₂, _∙_, subst}
 use mathlib.Core.Bool.{Bool, true, false, _&&_}
 use mathlib.Core.Logic.{_≢_}
@@ -44,7 +44,7 @@ module _ (n w x : ℕ) (hn : 0 < n) (hx : x < w) where
       let k : ℕ = (suc x * n - 1) / w in
       le-div-iff-mul-le hn .1 (omega (arith, last-eq, lt-div-mul-add {a = suc x * n - 1} {b = w} (omega arith), mul-comm w (suc k), suc-mul k w))
 
-  -- and no other one does
+  -- no other part has x
   pub part-unique : (k : ℕ) → bound n w k ≤ x → x < bound n w (suc k) → k ≡ partOf n w x
   unfolding partOf
   part-unique k lo hi =
@@ -123,7 +123,7 @@ module _ (g : Grid) (z : Size) (hm : 0 < g .down) (hn : 0 < g .across) (y x : �
     left-of = rw slice-column (part-high (g .across) (z .width) x hn hx);
   }
 
-  -- and in no other one's
+  -- a place lies in no other slice's window
   pub only : (k : ℕ) → Within g z k y x → k ≡ sliceOf g z y x
   only k i =
       sym (div-add-mod' k (g .across))

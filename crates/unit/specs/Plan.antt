@@ -1,4 +1,4 @@
--- What an encoder has decided of a picture: the parameters, and for each slice its index, its numbers and its bits. Assumes nothing.
+-- What an encoder has decided of a picture: the parameters, and for each slice its index, its numbers and its bits.
 use mathlib.Core.Path.{_≡_}
 use mathlib.Core.List.{List, [], _∷_}
 use Prim.Native.Nat.{ℕ}
@@ -11,7 +11,7 @@ pub record SlicePlan : Type 0 where
   pub index : ℕ
   -- the quantised numbers, before any cut
   pub numbers : Three (List ℤ)
-  -- what a reader gets of them: those after the runs that a cut keeps are zeros
+  -- what a reader gets of them: zeros for document 01's dropped numbers, those after the runs that a cut keeps
   pub kept : Three (List ℤ)
   pub bits : Bits
 

@@ -1,5 +1,5 @@
--- The slices of a plan, low delay and high quality alike: slice k has its component's numbers at the indices of the slices up to it. So what is
--- read of a unit's slices is near the coefficients that the plan was made of. Assumes nothing.
+-- The slices of a plan, low delay and high quality alike: slice k has its component's numbers at the indices of the
+-- slices up to it. So what is read of a unit's slices is near the coefficients that the plan was made of.
 use mathlib.Core.Path.{_≡_, refl, sym, ap, ap₂, _∙_, fun-ext}
 use mathlib.Core.List.{List, [], _∷_, map}
 use Prim.Native.Nat.{ℕ, zero, suc, _^_, _<_}
@@ -175,7 +175,8 @@ zero-index [] z k = refl
 zero-index (p ∷ ps) z zero = z .0
 zero-index (p ∷ ps) z (suc k) = zero-index ps (z .1) k
 
--- the kind, grid, matrix values and subbands' sizes of a reading of components of sizes z are those of the coefficients b
+-- the kind, grid, matrix values and subbands' sizes of a reading of components of sizes z are those of the coefficients
+-- b
 pub record ReadAs (kind : PictureKind) (g : Grid) (m : List ℕ) (b : Three (List Band)) (z : Three Size) (r : Reading) : Type 0 where
   pub same-kind : r .kind ≡ kind
   pub grid : gridIn (r .parameters) ≡ g
@@ -213,7 +214,7 @@ module _ (kind : PictureKind) (g : Grid) (m : List ℕ) (b : Three (List Band)) 
     pub planned-near : (c : Component) → NearBands g m (indexIn ps) 0 (pick c b) (pick c (readBands z r))
     planned-near c = near-bands g m (indexIn ps) 0 (pick c b) (pick c (readBands z r)) (planned-read c)
 
-    -- and equal to it where every index is 0
+    -- what is read is equal to the coefficients where every index is 0
     pub planned-equal : All (λ (s : SlicePlan). s .index ≡ 0) ps → (c : Component) → EqualBands (pick c b) (pick c (readBands z r))
     planned-equal zeros c =
         equal-bands g hm hn m (indexIn ps) (λ k hk. zero-index ps zeros k) 0 (pick c b) (pick c (readBands z r)) (planned-read c)

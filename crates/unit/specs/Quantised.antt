@@ -1,4 +1,4 @@
--- The quantised numbers of a slice: document 01, "Slices and unit" and "How demand 3 reads a unit". Assumes nothing.
+-- The quantised numbers of a slice: document 01, "Slices and unit" and "How demand 3 reads a unit".
 use mathlib.Core.Bool.{Bool, true, false, _&&_}
 use mathlib.Core.List.{List, [], _∷_, _++_}
 use Prim.Native.Nat.{ℕ, zero, suc, _+_}

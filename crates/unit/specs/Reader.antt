@@ -1,7 +1,7 @@
--- How a unit is read: ST 2042-1, and document 01, "How demand 3 reads a unit". The reader is fed the unit, the component sizes, the sample
--- depths and the major version. With the encoder's definitions it shares rules of the standard alone: the form of the parameters and Annex D,
--- the subbands' sizes, the slices' windows and bytes, the bits of the luma length, the order of the colours, the prediction, the factor without
--- caps, the filters and the offset. Assumes nothing.
+-- How a unit is read: ST 2042-1, and document 01, "How demand 3 reads a unit". The reader is fed the unit, the
+-- component sizes, the sample depths and the major version. With the encoder's definitions it shares rules of the
+-- standard alone: the form of the parameters and Annex D, the subbands' sizes, the slices' windows and bytes, the bits
+-- of the luma length, the order of the colours, the prediction, the factor without caps, the filters and the offset.
 use mathlib.Core.Bool.{Bool, true, false, not, cond, _||_, _&&_}
 use mathlib.Core.List.{List, [], _∷_, _++_}
 use mathlib.Core.Option.{Option, none, some}
@@ -60,11 +60,12 @@ readExtended version w =
       | false ↦ give (record { wavelet = w; depth = 0 })
     ]
 
--- 12.4.5.2
+-- 12.4.5.2: the slice parameters
 abbrev pub readSliceParameters : PictureKind → Parser SliceParameters
 readSliceParameters LowDelay = readUint >>= λ n. such readUint (λ d. leb 1 d && leb d n) >>= λ d. give (lowDelay n d)
 readSliceParameters HighQuality = readUint >>= λ p. such readUint (leb 1) >>= λ c. give (highQuality p c)
 
+-- n unsigned numbers
 unfoldable pub readUints : ℕ → Parser (List ℕ)
 readUints zero = give []
 readUints (suc n) = readUint >>= λ v. readUints n >>= λ vs. give (v ∷ vs)
@@ -78,7 +79,7 @@ unfoldable pub readMatrix : Bool → ℕ → Parser (Option (List ℕ))
 readMatrix default n =
     such readBool (λ f. f || default) >>= λ f. elim f [ true ↦ readUints n >>= λ vs. give (some vs) | false ↦ give none ]
 
--- 12.4.1
+-- 12.4.1: the transform parameters
 unfoldable pub readParameters : PictureKind → ℕ → Parser Parameters
 readParameters kind version =
     such readUint (λ n. leb n 6) >>= λ w.
@@ -125,6 +126,7 @@ readHigh prefix scaler c =
     readComponent scaler (c .c2) >>= λ v.
     give (record { index = q; numbers = record { y = y; c1 = u; c2 = v } })
 
+-- slice k, which has c numbers of each component
 abbrev pub readSliceBy : SliceParameters → ℕ → Three ℕ → Parser SliceNumbers
 readSliceBy (lowDelay n d) k c = readLow (sliceBytes n d k) c
 readSliceBy (highQuality p s) k c = readHigh p s c
@@ -164,11 +166,12 @@ countsIn z t k = let b = bandSizesIn z t in record {
 abbrev pub kindOf : ℕ → PictureKind
 kindOf c = elim (eqb c 0xC8) [ true ↦ LowDelay | false ↦ HighQuality ]
 
--- nothing is left
+-- no bit is left
 unfoldable pub readEnd : Parser (Unit {0})
 readEnd [] = got tt []
 readEnd (b ∷ s) = stop (b ∷ s)
 
+-- a picture unit of so many bytes: parse information, picture number, transform parameters, slices
 unfoldable pub readBits8 : Three Size → ℕ → ℕ → Parser Reading
 readBits8 z version bytes =
     such (readNbits 32) (eqb 0x42424344) >>= λ prefix.
@@ -182,6 +185,7 @@ readBits8 z version bytes =
     readEnd >>= λ end.
     give (record { kind = kindOf c; number = number; parameters = t; slices = ss })
 
+-- the reading of a unit, by the component sizes and the major version
 unfoldable pub readUnit : Three Size → ℕ → List ℕ → Read Reading
 readUnit z version bytes = readBits8 z version (length bytes) (fromBytes bytes)
 
@@ -201,7 +205,8 @@ valuesBy none none = []
 abbrev pub valuesIn : Parameters → List ℕ
 valuesIn t = valuesBy (t .matrix) (defaultMatrix (t .wavelet) (t .waveletHo) (t .depth) (t .depthHo))
 
--- the numbers of a subband: each from its own slice, at its own place there; s gives the slices' numbers from this subband on
+-- the numbers of a subband: each from its own slice, at its own place there; s gives the slices' numbers from this
+-- subband on
 abbrev pub numberPlane : Grid → Size → (ℕ → List ℤ) → Plane
 numberPlane g z s y x = getD (s (sliceOf g z y x)) (placeIn g z y x) (pos 0)
 

@@ -1,5 +1,5 @@
--- Low delay, level 0: the slices leave, one after the other, the plane of one recurrence, in which every place is rebuilt at its own slice's index;
--- its values stay small, and the reader makes the same plane of the slices' numbers. Assumes nothing.
+-- Low delay, level 0: the slices leave, one after the other, the plane of one recurrence, in which every place is
+-- rebuilt at its own slice's index; its values stay small, and the reader makes the same plane of the slices' numbers.
 use mathlib.Core.Path.{_≡_, refl, sym, ap, ap₂, _∙_}
 use mathlib.Core.Bool.{Bool, true, false}
 use mathlib.Core.Logic.{_≢_}
@@ -162,7 +162,7 @@ module _ (n : ℕ) (room : n < 2 ^ 51) where
         rw (whole-recurs g m q b .recurs y x hy hx)
         (step-most (b .plane y x) (predict w y x) (indexAt g m q 0 (sizeOf b) y x) (small y x hy hx) (predict-most w (3 * n + 2) y x e)))
 
-    -- and what is quantised is within the quantiser's room
+    -- a coefficient less its prediction is within the quantiser's room
     pub whole-room : (y x : ℕ) → y < b .high → x < b .wide → natAbs (b .plane y x -ℤ predict (whole g m q b) y x) < 2 ^ 53
     whole-room y x hy hx =
         let w = whole g m q b in

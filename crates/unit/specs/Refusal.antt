@@ -1,4 +1,4 @@
--- Refusals 1 to 13 in checking order: document 01, "Answers that turn a call away". Assumes nothing.
+-- Refusals 1 to 13 in checking order: document 01, "Answers that turn a call away".
 use mathlib.Core.Bool.{Bool, true, false, not, _&&_, _||_}
 use mathlib.Core.List.{List, [], _∷_}
 use mathlib.Core.Option.{Option, none, some}
@@ -16,28 +16,30 @@ use Rattle.unit.specs.Sizes.{Size, area, lumaSize, colourSize, sizesOf}
 use Rattle.unit.specs.Subbands.{paddedSize, subbandCount}
 use Rattle.unit.specs.Matrix.{defaultOf}
 
--- n is not from 1 to most
+-- whether n is not from 1 to most
 abbrev pub outside : ℕ → ℕ → Bool
 outside most n = eqb n 0 || ltb most n
 
--- 5: low delay without a picture's bytes
+-- rule 5: low delay without a picture's bytes
 abbrev pub noTarget : PictureKind → RateControl → Bool
 noTarget HighQuality r = false
 noTarget LowDelay Lossless = true
 noTarget LowDelay (FixedQuantIndex i) = true
 noTarget LowDelay (PictureBytes n) = false
 
--- 6 and 7
+-- rule 6: the fixed index
 abbrev pub badIndex : RateControl → Bool
 badIndex Lossless = false
 badIndex (FixedQuantIndex i) = ltb 255 i
 badIndex (PictureBytes n) = false
 
+-- rule 7: the picture's bytes
 abbrev pub badTarget : RateControl → Bool
 badTarget Lossless = false
 badTarget (FixedQuantIndex i) = false
 badTarget (PictureBytes n) = ltb 1073741824 n
 
+-- whether a value is above most
 abbrev pub anyAbove : ℕ → List ℕ → Bool
 anyAbove most [] = false
 anyAbove most (v ∷ vs) = ltb most v || anyAbove most vs
@@ -46,14 +48,15 @@ abbrev pub isNone : {A : Type 0} → Option A → Bool
 isNone none = true
 isNone (some x) = false
 
+-- the area of a component's padded plane
 abbrev pub paddedArea : Settings → Size → ℕ
 paddedArea s z = area (paddedSize (s .«dwt_depth_ho») (s .«dwt_depth») z)
 
--- three times the sum of the padded areas
+-- how many numbers the work slice must have: three times the sum of the padded areas
 unfoldable pub workNeeded : Settings → ℕ
 workNeeded s = 3 * (paddedArea s (lumaSize s) + paddedArea s (colourSize s) + paddedArea s (colourSize s))
 
--- the rules that turn a call away, 1 first
+-- whether each rule that turns a call away is broken, rule 1 first
 abbrev pub broken : Settings → List ℕ → Three (List ℕ) → List ℤ → List Bool
 broken s m p work =
     let z = lumaSize s in
@@ -81,5 +84,6 @@ abbrev pub firstFrom : ℕ → List Bool → ℕ
 firstFrom n [] = 0
 firstFrom n (b ∷ bs) = elim b [ true ↦ n | false ↦ firstFrom (suc n) bs ]
 
+-- the number of the first of rules 1 to 13 that is broken; 0 where none is
 unfoldable pub refusalOf : Settings → List ℕ → Three (List ℕ) → List ℤ → ℕ
 refusalOf s m p work = firstFrom 1 (broken s m p work)

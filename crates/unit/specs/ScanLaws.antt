@@ -1,4 +1,5 @@
--- A plane whose values are made from their predictions, row by row: it satisfies the recurrence, and no other plane does. Assumes nothing.
+-- A plane whose values are made from their predictions, row by row: it satisfies the recurrence, and no other plane
+-- does.
 use mathlib.Core.Path.{_≡_, refl, sym, ap, ap₂, _∙_}
 use mathlib.Core.List.{List, []}
 use Prim.Native.Nat.{ℕ, zero, suc, _+_, _≤_, _<_}
@@ -34,7 +35,7 @@ neighbours P (suc y) zero f = f y zero (omega arith) (omega arith)
 neighbours P (suc y) (suc x) f =
     (f (suc y) x (omega arith) (omega arith), f y x (omega arith) (omega arith), f y (suc x) (omega arith) (omega arith))
 
--- and they come before it: what passes on from neighbours holds on h rows of w
+-- the neighbours of a place come before it: what passes on from neighbours holds on h rows of w
 pub by-neighbours : (h w : ℕ) (P : ℕ → ℕ → Type 0) → ((y x : ℕ) → y < h → x < w → Neighbours P y x → P y x) → (y x : ℕ) → y < h → x < w → P y x
 by-neighbours h w P f zero zero hy hx = f zero zero hy hx tt
 by-neighbours h w P f zero (suc x) hy hx = f zero (suc x) hy hx (by-neighbours h w P f zero x hy (omega arith))
@@ -65,7 +66,7 @@ mean-most a b c n ha hb hc =
     let m = parts (mean a b c) in
     omega (arith, v .law, f .low, f .high, parts a .abs, parts b .abs, parts c .abs, m .abs, m .one-side)
 
--- and is not larger than they are
+-- a prediction is not larger than the neighbours are
 pub predict-most : (p : Plane) (n y x : ℕ) → Neighbours (λ b a. natAbs (p b a) ≤ n) y x → natAbs (predict p y x) ≤ n
 unfolding predict
 predict-most p n zero zero e = omega arith

@@ -1,6 +1,6 @@
--- What is asked of slices beside demand 3: the shares of a high-quality target; a low-delay slice of one byte, which holds no number; and the
--- standard's loop of stores, row by row, which PlaceLaws' put-plane is about: its putAll goes over the slices, its put over the numbers of a
--- slice's window, as two loops over rows and columns do. Assumes nothing.
+-- What is asked of slices beside demand 3: the shares of a high-quality target; a low-delay slice of one byte, which
+-- holds no number; and the standard's loop of stores, row by row, which PlaceLaws' put-plane is about: its putAll goes
+-- over the slices, its put over the numbers of a slice's window, as two loops over rows and columns do.
 use mathlib.Core.Path.{_≡_, refl, sym, ap, ap₂, _∙_, subst, subst₂}
 use mathlib.Core.Bool.{Bool, true, false}
 use mathlib.Core.List.{List, [], _∷_, _++_, append-assoc}

@@ -1,4 +1,4 @@
--- Component sizes and sample depths: document 01, "Settings the box is given"; ST 2042-1, set_coding_parameters. Assumes nothing.
+-- Component sizes and sample depths: document 01, "Settings the box is given"; ST 2042-1, set_coding_parameters.
 use mathlib.Core.Bool.{Bool, true, false}
 use Prim.Native.Nat.{ℕ, zero, suc, _+_, _*_, _/_, _^_}
 use lib.Dec.{eqb, leb, ltb}
@@ -20,6 +20,7 @@ halvedIf false n = n
 abbrev pub fields : Settings → Bool
 fields s = eqb (s .«picture_coding_mode») 1
 
+-- luma has the frame's width, and in fields half of its height
 unfoldable pub lumaSize : Settings → Size
 lumaSize s = record { width = s .«frame_width»; height = halvedIf (fields s) (s .«frame_height») }
 
@@ -42,6 +43,7 @@ leastFrom (suc f) k n = elim (leb n (2 ^ k)) [ true ↦ k | false ↦ leastFrom 
 unfoldable pub intlog2 : ℕ → ℕ
 intlog2 n = leastFrom n 0 n
 
+-- the sample depths: the least d where 2^d is at least the excursion and one
 unfoldable pub depthsOf : Settings → Three ℕ
 depthsOf s =
     let l = intlog2 (s .«luma_excursion» + 1) in

@@ -1,4 +1,5 @@
--- Laws of the slices' windows: bounds rise and stay within the side; how many numbers a slice has, and how large; colours that alternate. Assumes nothing.
+-- Laws of the slices' windows: bounds rise and stay within the side; how many numbers a slice has, and how large;
+-- colours that alternate.
 use mathlib.Core.Path.{_≡_, refl, ap, ap₂, _∙_}
 use mathlib.Core.List.{List, [], _∷_, _++_, map}
 use Prim.Native.Nat.{ℕ, zero, suc, _+_, _*_, _-_, _/_, _%_, _^_, _≤_}

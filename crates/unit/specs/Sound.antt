@@ -1,4 +1,4 @@
--- What the reading of a unit needs of the plan that it was made of. Assumes nothing.
+-- What the reading of a unit needs of the plan that it was made of.
 use mathlib.Core.Path.{_≡_}
 use mathlib.Core.Bool.{Bool, true, false}
 use mathlib.Core.List.{List, [], _∷_}

@@ -1,4 +1,4 @@
--- The plan of an accepted call is sound: its parameters are legal, and its slices can be read. Assumes nothing.
+-- The plan of an accepted call is sound: its parameters are legal, and its slices can be read.
 use mathlib.Core.Path.{_≡_, refl, sym, ap, ap₂, _∙_, subst}
 use mathlib.Core.List.{List, [], _∷_, map}
 use Prim.Native.Nat.{ℕ, zero, suc, _+_, _*_, _-_, _^_, _≤_, _<_}
@@ -260,8 +260,8 @@ module _ (s : Settings) (m : List ℕ) (p : Three (List ℕ)) (work : List ℤ) 
       ∙ ap (λ (ns : List ℕ). highOverhead s m p + total ns)
       (high-bytes (gridOf s) (matrixValues s m) b (s .«slice_prefix_bytes») (s .rate) c (highBytes s m c) (scaler-some s m b (v .scaler .some)))
 
-  -- if every high-quality slice fits its share of the target less the overhead, the unit is at most the target: where the overhead is more than the
-  -- target, the share is 0, and no slice fits it
+  -- if every high-quality slice fits its share of the target less the overhead, the unit is at most the target: where
+  -- the overhead is more than the target, the share is 0, and no slice fits it
   pub target-kept : s .kind ≡ HighQuality
       → ((k : ℕ) → k < sliceCount (gridOf s) → takenBy s m p k ≤ shareOf (targetOf (s .rate) - highOverhead s m p) (sliceCount (gridOf s)) k)
       → lengthOf s (planOf s m p) ≤ targetOf (s .rate)

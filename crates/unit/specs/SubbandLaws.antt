@@ -1,4 +1,4 @@
--- The bands of the analysis have the standard's sizes, and together no more numbers than the padded component. Assumes nothing.
+-- The bands of the analysis have the standard's sizes, and together no more numbers than the padded component.
 use mathlib.Core.Path.{_≡_, refl, sym, ap, ap₂, _∙_}
 use mathlib.Core.Bool.{cond}
 use mathlib.Core.List.{List, [], _∷_, _++_, map, map-append, append-assoc, append-nil}

@@ -1,4 +1,4 @@
--- Padded sides and the sides of the subbands: ST 2042-1, 13.2.1 and 13.2.3, by horizontal-only depth k and depth d. Assumes nothing.
+-- Padded sides and the sides of the subbands: ST 2042-1, 13.2.1 and 13.2.3, by horizontal-only depth k and depth d.
 use mathlib.Core.Bool.{true, false, cond}
 use mathlib.Core.List.{List, [], _∷_, _++_}
 use Prim.Native.Nat.{ℕ, zero, suc, _+_, _*_, _-_, _/_, _^_}
@@ -25,7 +25,8 @@ abbrev pub triples : {A : Type 0} → (ℕ → A) → ℕ → ℕ → List A
 triples f n zero = []
 triples f n (suc m) = f n ∷ f n ∷ f n ∷ triples f (suc n) m
 
--- the subbands' sizes in the stream's order: level 0 (LL or L), the horizontal-only levels (H), and at each further level HL, LH, HH
+-- the subbands' sizes in the stream's order: level 0 (LL or L), the horizontal-only levels (H), and at each further
+-- level HL, LH, HH
 unfoldable pub subbandSizes : ℕ → ℕ → Size → List Size
 subbandSizes k d z = let f = subbandSize k d z in f 0 ∷ (span f 1 k ++ triples f (suc k) d)
 

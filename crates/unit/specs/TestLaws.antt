@@ -1,4 +1,4 @@
--- A test that fails, and what it says. Assumes nothing.
+-- A test that fails, and what it says.
 use mathlib.Core.Path.{_≡_, refl}
 use mathlib.Core.Logic.{_↔_}
 use mathlib.Core.Bool.{Bool, true, false, not, _||_}

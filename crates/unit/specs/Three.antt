@@ -1,4 +1,4 @@
--- One thing for each component: luma and the two colour differences. Assumes nothing.
+-- One thing for each component: luma and the two colour differences.
 
 pub record Three (A : Type 0) : Type 0 where
   pub y : A

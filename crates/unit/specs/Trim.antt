@@ -1,4 +1,4 @@
--- Trailing zeros dropped, what a run costs, and the longest run that fits: document 01, "Slices and unit". Assumes nothing.
+-- Runs without their trailing zeros, what a run costs, and the longest run that fits: document 01, "Slices and unit".
 use mathlib.Core.Bool.{true, false}
 use mathlib.Core.List.{List, [], _∷_}
 use Prim.Native.Nat.{ℕ, zero, suc, _-_}
@@ -14,15 +14,16 @@ trimCons (pos zero) [] = []
 trimCons (pos (suc n)) [] = pos (suc n) ∷ []
 trimCons (negsuc n) [] = negsuc n ∷ []
 
+-- a run without its trailing zeros
 unfoldable pub trimmed : List ℤ → List ℤ
 trimmed [] = []
 trimmed (x ∷ xs) = trimCons x (trimmed xs)
 
--- bits of a run's code words
+-- the bits of a run's code words
 abbrev pub bitsOf : List ℤ → ℕ
 bitsOf xs = length (codes xs)
 
--- trimmed_cost
+-- trimmed_cost: the bits of a run without its trailing zeros
 unfoldable pub trimmedCost : List ℤ → ℕ
 trimmedCost xs = bitsOf (trimmed xs)
 

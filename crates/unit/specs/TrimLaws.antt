@@ -1,4 +1,4 @@
--- Laws of runs: trailing zeros dropped and filled in again, what a run costs, and the longest run that fits. Assumes nothing.
+-- Laws of runs: trailing zeros dropped and filled in again, what a run costs, and the longest run that fits.
 use mathlib.Core.Path.{_≡_, refl, ap, _∙_}
 use mathlib.Core.Bool.{Bool, true, false}
 use mathlib.Core.List.{List, [], _∷_, _++_}
@@ -80,7 +80,7 @@ fit-bits (x ∷ xs) n = by (leb (length (codeS x)) n) refl (fit-bits xs (n - len
         rw (length-append (codeS x) (codes (fitPrefix xs (n - length (codeS x))))) (omega (arith, leb-true (length (codeS x)) n e))
     by false e h = omega arith
 
--- it is a run from the start
+-- the longest prefix that fits is a run from the start
 pub fit-prefix : (xs : List ℤ) (n : ℕ) → fitPrefix xs n ≡ take (length (fitPrefix xs n)) xs
 unfolding fitPrefix
 fit-prefix [] n = refl
@@ -92,7 +92,7 @@ fit-prefix (x ∷ xs) n = by (leb (length (codeS x)) n) (fit-prefix xs (n - leng
     by false h = refl
 
 -- ---- a run of at most one bit
--- it is empty or a single 0: it reads as no numbers do, and its bit is a 1
+-- a run of at most one bit is empty or a single 0: it reads as no numbers do, and its bit is a 1
 none-in : (x : ℤ) (xs : List ℤ) → length (codeS x) + bitsOf xs ≤ 1 → xs ≡ []
 unfolding codes
 none-in x [] h = refl

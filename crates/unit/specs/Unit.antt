@@ -1,4 +1,4 @@
--- The unit that a call writes: document 01, "Slices and unit". Assumes nothing.
+-- The unit that a call writes: document 01, "Slices and unit".
 use mathlib.Core.Bool.{Bool, true, false, not, cond, _||_}
 use mathlib.Core.List.{List, [], _∷_, _++_, map}
 use Prim.Native.Nat.{ℕ, zero, suc, _+_, _*_, _-_, _/_}
@@ -23,19 +23,24 @@ use Rattle.unit.specs.Plan.{SlicePlan, Plan}
 use Rattle.unit.specs.LowDelay.{numerator, lowSlices, zeroPlanes}
 use Rattle.unit.specs.HighQuality.{highSlices, scalerFrom}
 
--- 3 if extended or asymmetric, else 2 for high quality, else 1
+-- document 01's asymmetric: the wavelet indices differ, or the horizontal-only depth is not 0
+abbrev pub asymmetric : Settings → Bool
+asymmetric s = not (eqb (s .«wavelet_index») (s .«wavelet_index_ho»)) || not (eqb (s .«dwt_depth_ho») 0)
+
 abbrev pub versionBy : Bool → PictureKind → ℕ
 versionBy true k = 3
 versionBy false HighQuality = 2
 versionBy false LowDelay = 1
 
+-- major_version: 3 if extended or asymmetric, else 2 for high quality, else 1
 unfoldable pub majorVersion : Settings → ℕ
-majorVersion s =
-    versionBy (s .extended || (not (eqb (s .«wavelet_index») (s .«wavelet_index_ho»)) || not (eqb (s .«dwt_depth_ho») 0))) (s .kind)
+majorVersion s = versionBy (s .extended || asymmetric s) (s .kind)
 
+-- the slices across and down
 abbrev pub gridOf : Settings → Grid
 gridOf s = record { down = s .«slices_y»; across = s .«slices_x» }
 
+-- the transform parameters of a call, by its slice parameters; m is the lent matrix
 abbrev pub parametersBy : Settings → List ℕ → SliceParameters → Parameters
 parametersBy s m p = record {
   wavelet = s .«wavelet_index»;
@@ -48,7 +53,7 @@ parametersBy s m p = record {
   matrix = carriedMatrix s m;
 }
 
--- a picture's bytes, 0 for other rates
+-- the byte target: a picture's bytes, 0 for other rates
 abbrev pub targetOf : RateControl → ℕ
 targetOf Lossless = 0
 targetOf (FixedQuantIndex q) = 0
@@ -61,6 +66,7 @@ module _ (s : Settings) (m : List ℕ) where
   abbrev pub highParameters : ℕ → Parameters
   highParameters c = parametersBy s m (highQuality (s .«slice_prefix_bytes») c)
 
+  -- the low-delay numerator
   unfoldable pub numeratorOf : ℕ
   numeratorOf = numerator (majorVersion s) (targetOf (s .rate)) (sliceCount (gridOf s)) lowParameters
 
@@ -75,16 +81,18 @@ module _ (s : Settings) (m : List ℕ) where
   unfoldable pub scalerOf : Three (List Band) → ℕ
   scalerOf b = scalerFrom (highSlicesOf b) (16 * paddedArea s (lumaSize s)) (s .«slice_size_scaler»)
 
+  -- the plan of a picture whose coefficients are b
   abbrev pub planBy : PictureKind → Three (List Band) → Plan
   planBy LowDelay b =
       let n = numeratorOf in
       record { parameters = lowParameters n; slices = lowSlices (gridOf s) (matrixValues s m) b n zeroPlanes 0 (sliceCount (gridOf s)) }
   planBy HighQuality b = let c = scalerOf b in record { parameters = highParameters c; slices = highSlicesOf b c }
 
--- s are the settings, m the lent matrix, p the planes
+-- the plan of a call: s are the settings, m the lent matrix, p the planes
 unfoldable pub planOf : Settings → List ℕ → Three (List ℕ) → Plan
 planOf s m p = let b = coefficientsOf s p in planBy s m (s .kind) b
 
+-- the parse code of a picture of this kind
 abbrev pub parseCode : PictureKind → ℕ
 parseCode LowDelay = 0xC8
 parseCode HighQuality = 0xE8
@@ -108,5 +116,6 @@ headBits s n t =
 unfoldable pub lengthOf : Settings → Plan → ℕ
 lengthOf s a = 17 + parameterBytes (majorVersion s) (a .parameters) + length (joined (sliceRuns (a .slices)))
 
+-- the unit: its head, and the slices' bytes
 unfoldable pub unitOf : Settings → Plan → List ℕ
 unitOf s a = let rs = joined (sliceRuns (a .slices)) in toBytes (headBits s (lengthOf s a) (a .parameters)) ++ rs

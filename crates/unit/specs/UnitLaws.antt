@@ -1,4 +1,4 @@
--- The reading of a unit made of a sound plan: nothing stops it, and it ends at the last byte. Assumes nothing.
+-- The reading of a unit made of a sound plan: nothing stops it, and it ends at the last byte.
 use mathlib.Core.Path.{_≡_, refl, sym, ap, ap₂, _∙_, subst}
 use mathlib.Core.Bool.{Bool, true, false, _||_}
 use mathlib.Core.List.{List, [], _∷_, _++_, map, append-assoc, append-nil}

@@ -1,4 +1,4 @@
--- What is known of a call that none of refusals 1 to 13 turns away. Assumes nothing.
+-- What is known of a call that none of refusals 1 to 13 turns away.
 use mathlib.Core.Path.{_≡_}
 use mathlib.Core.Bool.{Bool, true, false}
 use mathlib.Core.List.{List, [], _∷_}

@@ -1,5 +1,5 @@
--- A call is valid just where none of refusals 1 to 13 turns it away; and what follows for sizes, depths, matrix, slices and version.
--- Assumes nothing.
+-- A call is valid just where none of refusals 1 to 13 turns it away; and what follows for sizes, depths, matrix, slices
+-- and version.
 use mathlib.Core.Path.{_≡_, refl, sym}
 use mathlib.Core.Logic.{_↔_}
 use mathlib.Core.Bool.{Bool, true, false, not, _&&_, _||_}

@@ -1,4 +1,4 @@
--- Settings as 21 words, in the job program's order: document 01, "Table of marked examples", its last part. Assumes nothing.
+-- Settings as 21 words, in the job program's order: document 01, "Table of marked examples", its last part.
 use mathlib.Core.Bool.{Bool, _&&_}
 use mathlib.Core.List.{List}
 use Prim.Native.Nat.{ℕ, zero, suc}

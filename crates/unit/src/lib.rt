@@ -1,5 +1,5 @@
-// The settings of a picture call and its answers. What they mean, the unit that a call writes, the standard's reader and what it
-// gives back of a unit stand in specs/. There is no code here.
+// The settings of a picture call and its answers. What they mean, the unit that a call writes, the standard's reader
+// and what it gives back of a unit stand in specs/. There is no code here.
 
 pub enum PictureKind {
     LowDelay,

@@ -1,5 +1,5 @@
--- The bands of a plane by level and orientation: their place in the stream's order and their sides, ST 2042-1, 13.2.1 and 13.2.3; and where
--- the numbers of a band stand among the coefficients. Assumes nothing.
+-- The bands of a plane by level and orientation: their place in the stream's order and their sides, ST 2042-1, 13.2.1
+-- and 13.2.3; and where the numbers of a band stand among the coefficients.
 use mathlib.Core.Path.{_≡_, refl, sym, ap, _∙_}
 use Prim.Native.Nat.{ℕ, zero, suc, _+_, _*_, _-_, _/_, _^_, _≤_, _<_}
 use native.Mathlib.Omega.{arith}

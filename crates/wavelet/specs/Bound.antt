@@ -1,5 +1,5 @@
--- How large the analysis of a row makes its numbers, stage by stage, and that every sum and product of it is a number of 64 bits while the
--- bounds stay below 2 ^ 63: what `wr` does with any other number changes nothing. Assumes nothing.
+-- How large the analysis of a row makes its numbers, stage by stage, and that every sum and product of it is a number
+-- of 64 bits while the bounds stay below 2 ^ 63: what `wr` does with any other number changes nothing.
 use mathlib.Core.Path.{_≡_, refl, sym, ap, _∙_}
 use mathlib.Core.Bool.{Bool, true, false, not, cond}
 use Prim.Native.Nat.{ℕ, zero, suc, _+_, _*_, _-_, _/_, _%_, _^_, _≤_, _<_}
@@ -182,7 +182,8 @@ all-stages wr keeps M (st ∷ ss) (v ∷ vs) t xs l b =
         rw (ne-eqb (k % 2) (st .to) n, e) (z .others k e)
 
 -- ---- the seven filters
--- for each stage of filter i, in thousandths of the largest number of the row, how large it leaves the places that it updates
+-- for each stage of filter i, in thousandths of the largest number of the row, how large it leaves the places that it
+-- updates
 unfoldable pub margins : ℕ → List ℕ
 margins i = getD ((3000 ∷ 3000 ∷ []) ∷ (3000 ∷ 3000 ∷ []) ∷ (3000 ∷ 3000 ∷ []) ∷ (3000 ∷ 3000 ∷ []) ∷ (3000 ∷ 3000 ∷ [])
     ∷ (4000 ∷ 3000 ∷ []) ∷ (7408 ∷ 6722 ∷ 1443 ∷ 4173 ∷ []) ∷ []) i []

@@ -1,4 +1,4 @@
--- A lifting stage of every column of a plane, row by row, and all stages of a filter. Assumes nothing.
+-- A lifting stage of every column of a plane, row by row, and all stages of a filter.
 use mathlib.Core.Path.{_≡_, refl, sym, ap, ap₂, _∙_}
 use mathlib.Core.Bool.{Bool, not}
 use mathlib.Core.Logic.{_≢_}

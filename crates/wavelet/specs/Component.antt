@@ -1,4 +1,4 @@
--- A component from its samples to its coefficients, and components one after the other. Assumes nothing.
+-- A component from its samples to its coefficients, and components one after the other.
 use mathlib.Core.Path.{_≡_, refl, sym, ap, ap₂, _∙_}
 use Prim.Native.Nat.{ℕ, _+_, _*_, _-_, _≤_}
 use native.Mathlib.Omega.{arith}

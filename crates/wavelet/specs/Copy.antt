@@ -1,4 +1,4 @@
--- Numbers copied from one place of a list into a part of it, and the bands of a plane that are so made. Assumes nothing.
+-- Numbers copied from one place of a list into a part of it, and the bands of a plane that are so made.
 use mathlib.Core.Path.{_≡_, sym, ap, ap₂, _∙_}
 use Prim.Native.Nat.{ℕ, _+_, _*_, _-_, _/_, _%_, _^_, _≤_, _<_}
 use native.Mathlib.Omega.{arith}
@@ -21,7 +21,7 @@ use Rattle.wavelet.specs.PlaneLists.{rows-list}
 abbrev pub copied : ℕ → List ℤ → ℕ → ℕ → ℕ → List ℤ
 copied b l from step len = row len (λ k. raise wrap b (at l (from + step * k)))
 
--- they may go into the part a .. e of l, from its place to on
+-- the numbers may go into the part a .. e of l, from its place to on
 pub record Copies (l : List ℤ) (a e to len from step : ℕ) : Type 0 where
   pub part : (a ≤ e) × (e ≤ length l)
   pub fits : a + to + len ≤ e

@@ -1,4 +1,4 @@
--- The seven filters: ST 2042-1, Tables 16 to 22, by the wavelet index of Table 15. Assumes nothing.
+-- The seven filters: ST 2042-1, Tables 16 to 22, by the wavelet index of Table 15.
 use mathlib.Core.Bool.{true, false}
 use Prim.Native.Nat.{ℕ}
 use mathlib.Core.List.{List, [], _∷_}

@@ -1,4 +1,4 @@
--- One level on a list with scratch in front: rows into the scratch, columns there, bands back to the plane's place. Assumes nothing.
+-- One level on a list with scratch in front: rows into the scratch, columns there, bands back to the plane's place.
 use mathlib.Core.Path.{_≡_, refl, sym, ap, ap₂, _∙_}
 use Prim.Native.Nat.{ℕ, _+_, _*_, _-_, _/_, _%_, _≤_, _<_}
 use native.Mathlib.Omega.{arith}

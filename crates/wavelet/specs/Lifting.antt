@@ -1,6 +1,6 @@
--- One lifting stage of ST 2042-1, 15.4.4.1, on a row of any length; the synthesis of a row (15.4.4) and its analysis, document 01,
--- "Coefficients". The parameter `wr` says what is done with every sum and product: nothing (`exact`, the standard's integers), or the wrap at
--- 64 bits (the encoder's numbers). Assumes nothing.
+-- One lifting stage of ST 2042-1, 15.4.4.1, on a row of any length; the synthesis of a row (15.4.4) and its analysis,
+-- document 01, "Coefficients". The parameter `wr` says what is done with every sum and product: nothing (`exact`, the
+-- standard's integers), or the wrap at 64 bits (the encoder's numbers).
 use mathlib.Core.Path.{_≡_}
 use mathlib.Core.Bool.{Bool, true, false, not, cond, _&&_}
 use Prim.Native.Nat.{ℕ, zero, suc, _+_, _*_, _-_, _/_, _%_, _^_, min, max}
@@ -13,8 +13,8 @@ use mir.Syntax.{w64}
 use mir.Val.{SFits}
 use Rattle.laws.specs.Rows.{at, row}
 
--- a stage: types 1 and 2 go to the even places (to is 0), types 3 and 4 to the odd ones (to is 1); types 1 and 3 add, 2 and 4 subtract;
--- shift is the standard's S, and its D is ahead less back
+-- a stage: types 1 and 2 go to the even places (to is 0), types 3 and 4 to the odd ones (to is 1); types 1 and 3 add, 2
+-- and 4 subtract; shift is the standard's S, and its D is ahead less back
 pub record Stage : Type 0 where
   pub to : ℕ
   pub adds : Bool
@@ -23,7 +23,8 @@ pub record Stage : Type 0 where
   pub back : ℕ
   pub taps : List ℤ
 
--- a place near c of the other parity than to, kept inside a row of len: 2 c - 1 from 1 to len - 1 where to is 0, 2 c from 0 to len - 2 where to is 1
+-- a place near c of the other parity than to, kept inside a row of len: 2 c - 1 from 1 to len - 1 where to is 0, 2 c
+-- from 0 to len - 2 where to is 1
 unfoldable pub within : ℕ → ℕ → ℕ → ℕ
 within to len c = max (1 - to) (min (2 * c - (1 - to)) (len - 1 - to))
 
@@ -31,7 +32,7 @@ within to len c = max (1 - to) (min (2 * c - (1 - to)) (len - 1 - to))
 abbrev pub place : Stage → ℕ → ℕ → ℕ → ℕ
 place st len n k = within (st .to) len (n + k + st .ahead - st .back)
 
--- without wrap
+-- sums and products without wrap
 abbrev pub exact : ℤ → ℤ
 exact z = z
 
@@ -57,7 +58,8 @@ module _ (wr : ℤ → ℤ) where
   change true x y = wr (x +ℤ y)
   change false x y = wr (x -ℤ y)
 
-  -- place k of the row xs after its first m updates, each of which reads the row as it was; plus: whether the deltas are added
+  -- place k of the row xs after its first m updates, each of which reads the row as it was; plus: whether the deltas
+  -- are added
   abbrev pub newAt : Stage → Bool → ℕ → List ℤ → ℕ → ℤ
   newAt st plus m xs k = cond (eqb (k % 2) (st .to) && ltb (k / 2) m) (change plus (at xs k) (delta st xs (k / 2))) (at xs k)
 
@@ -71,12 +73,12 @@ module _ (wr : ℤ → ℤ) where
   abbrev pub unlift : Stage → List ℤ → List ℤ
   unlift st xs = lifted st (not (st .adds)) (length xs / 2) xs
 
-  -- 15.4.4: all stages in order
+  -- 15.4.4: the synthesis of a row, all stages in order
   unfoldable pub synthesis : List Stage → List ℤ → List ℤ
   synthesis [] xs = xs
   synthesis (st ∷ ss) xs = synthesis ss (lift st xs)
 
-  -- every stage undone, the last one first
+  -- the analysis of a row: every stage undone, the last one first
   unfoldable pub analysis : List Stage → List ℤ → List ℤ
   analysis [] xs = xs
   analysis (st ∷ ss) xs = unlift st (analysis ss xs)

@@ -1,4 +1,4 @@
--- What a stage does to each place of a row, and that synthesis undoes analysis. Assumes nothing.
+-- What a stage does to each place of a row, and that synthesis undoes analysis.
 use mathlib.Core.Path.{_≡_, refl, sym, ap, ap₂, _∙_}
 use mathlib.Core.Bool.{Bool, true, false, not, cond, _&&_}
 use mathlib.Core.Logic.{_≢_}

@@ -1,5 +1,5 @@
--- The padded plane of a component and its coefficients: document 01, "Coefficients" and the sample offset of "Settings"; ST 2042-1, 13.2.3
--- and 15.5. Assumes nothing.
+-- The padded plane of a component and its coefficients: document 01, "Coefficients" and the sample offset of
+-- "Settings"; ST 2042-1, 13.2.3 and 15.5.
 use Prim.Native.Nat.{ℕ, _+_, _*_, _-_, _/_, _^_, min}
 use mathlib.Core.List.{List}
 use lib.ListN.{getD}
@@ -24,7 +24,7 @@ roundedUp m n = (n + (m - 1)) / m * m
 unfoldable pub paddedSide : ℕ → ℕ → ℕ
 paddedSide n side = roundedUp (2 ^ n) side
 
--- the coefficients of a component, in the stream's order: rows by filter i, columns by filter j, k horizontal-only levels and d both ways,
--- from ph rows of pw
+-- the coefficients of a component, in the stream's order: rows by filter i, columns by filter j, k horizontal-only
+-- levels and d both ways, from ph rows of pw
 abbrev pub componentOf : ℕ → ℕ → ℕ → ℕ → List ℕ → ℕ → ℕ → ℕ → ℕ → ℕ → List ℤ
 componentOf i j k d s o w h pw ph = coefficients (dwt wrap i j k d ph pw (padded s o w h))

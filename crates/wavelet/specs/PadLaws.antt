@@ -1,4 +1,4 @@
--- Padding row by row, and that padded sides are multiples of powers of two. Assumes nothing.
+-- Padding row by row, and that padded sides are multiples of powers of two.
 use mathlib.Core.Path.{_≡_, refl, sym, ap, ap₂, _∙_}
 use Prim.Native.Nat.{ℕ, suc, _+_, _*_, _-_, _/_, _^_, _≤_, _<_, min}
 use native.Mathlib.Omega.{arith}

@@ -1,5 +1,5 @@
--- How large the analysis of a plane makes its numbers, filter by filter, and that every sum and product of it is a number of 64 bits while they stay within
--- 2 ^ 51: what `wr` does with any other number changes nothing. Assumes nothing.
+-- How large the analysis of a plane makes its numbers, filter by filter, and that every sum and product of it is a
+-- number of 64 bits while they stay within 2 ^ 51: what `wr` does with any other number changes nothing.
 use mathlib.Core.Path.{_≡_, refl, ap, _∙_}
 use Prim.Native.Nat.{ℕ, zero, suc, _+_, _*_, _-_, _/_, _%_, _^_, _≤_, _<_}
 use native.Mathlib.Omega.{arith}
@@ -34,7 +34,8 @@ pub record Unwrapped (N : ℕ) (bs cs : List Band) : Type 0 where
   pub same : bs ≡ cs
   pub small : AllSmall N cs
 
--- how large numbers of at most M become: by the rows of a level, with the shift of filter i; by a level both ways; by k levels; by k and d levels
+-- how large numbers of at most M become: by the rows of a level, with the shift of filter i; by a level both ways; by k
+-- levels; by k and d levels
 abbrev pub hGrown : ℕ → ℕ → ℕ
 hGrown i M = grown i (2 ^ filterOf i .bits * M)
 
@@ -162,8 +163,8 @@ dwtH-unwrapped wr keeps i (suc k) M h w f hi lo up e s =
           ((λ y x hy hx. le-trans (a .small y (2 * x + 1) hy (omega arith)) top), tt);
     }
 
--- rows by filter i, columns by filter j: from numbers of at most M the analysis wraps nowhere, whatever a wrap would give, and leaves none above the bound that
--- their growth gives
+-- rows by filter i, columns by filter j: from numbers of at most M the analysis wraps nowhere, whatever a wrap would
+-- give, and leaves none above the bound that their growth gives
 pub dwt-wraps-nowhere : (wr : ℤ → ℤ) → Keeps wr → (i j k d M h w : ℕ) (f : Plane) → i ≤ 6 → j ≤ 6 → 2 ^ 16 ≤ M → dwtGrown i j k d M ≤ 2 ^ 51 → Padded k d h w → Small M h w f
     → Unwrapped (dwtGrown i j k d M) (dwt wr i j k d h w f) (dwt exact i j k d h w f)
 unfolding dwt dwtGrown

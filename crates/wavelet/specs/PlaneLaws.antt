@@ -1,4 +1,4 @@
--- The standard's synthesis undoes the analysis of planes, at every number of levels. Assumes nothing.
+-- The standard's synthesis undoes the analysis of planes, at every number of levels.
 use mathlib.Core.Path.{_≡_, refl, sym, ap, ap₂, _∙_}
 use Prim.Native.Nat.{ℕ, zero, suc, _+_, _*_, _/_, _%_, _^_, _≤_, _<_}
 use native.Mathlib.Omega.{arith}

@@ -1,4 +1,4 @@
--- Planes as lists. Assumes nothing.
+-- Planes as lists.
 use mathlib.Core.Path.{_≡_, sym, _∙_}
 use Prim.Native.Nat.{ℕ, _*_}
 use mathlib.Core.List.{List}

@@ -1,5 +1,5 @@
--- Analysis and synthesis of planes: document 01, "Coefficients", and ST 2042-1, 15.4.1 to 15.4.3. Rows by filter i, columns by filter j;
--- k is the horizontal-only depth and d the depth. Assumes nothing.
+-- Analysis and synthesis of planes: document 01, "Coefficients", and ST 2042-1, 15.4.1 to 15.4.3. Rows by filter i,
+-- columns by filter j; k is the horizontal-only depth and d the depth.
 use mathlib.Core.Path.{_≡_}
 use mathlib.Core.Bool.{cond}
 use Prim.Native.Nat.{ℕ, zero, suc, _+_, _*_, _/_, _%_, _^_}
@@ -65,7 +65,8 @@ module _ (wr : ℤ → ℤ) (i j : ℕ) where
   abbrev pub vhPass : ℕ → ℕ → Plane → Plane
   vhPass h w f = columnsBy (analysisBy wr j) h w (hPass wr i h w f)
 
-  -- d levels both ways, and then k horizontal-only ones: the bands in the stream's order, level by level LL or L, H .., then HL, LH, HH
+  -- d levels both ways, and then k horizontal-only ones: the bands in the stream's order, level by level LL or L, H ..,
+  -- then HL, LH, HH
   unfoldable pub dwt : ℕ → ℕ → ℕ → ℕ → Plane → List Band
   dwt k zero h w f = dwtH wr i k h w f
   dwt k (suc d) h w f =

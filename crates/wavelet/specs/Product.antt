@@ -1,4 +1,4 @@
--- The wrapped product of two 64-bit numbers, by halves of 32 bits; a tap times the wrapped sum of two numbers. Assumes nothing.
+-- The wrapped product of two 64-bit numbers, by halves of 32 bits; a tap times the wrapped sum of two numbers.
 use mathlib.Core.Path.{_≡_, sym, ap, _∙_}
 use Prim.Native.Nat.{ℕ, suc, _+_, _*_, _-_, _/_, _%_, _^_, _≤_, _<_}
 use native.Mathlib.Omega.{arith}

@@ -1,4 +1,4 @@
--- What the row call answers and leaves: document 01, refusals 1 and 15. Assumes nothing.
+-- What the row call answers and leaves: document 01, refusals 1 and 15.
 use mathlib.Core.Path.{_≡_}
 use mathlib.Core.Bool.{cond}
 use Prim.Native.Nat.{ℕ, _≤_, _<_}
@@ -10,11 +10,11 @@ use borrow.Author.Tests.{lt-ltb, le-ltb}
 use Rattle.laws.specs.Wrap.{wrap}
 use Rattle.wavelet.specs.Filters.{analysisBy}
 
--- 1: there is no such wavelet index; 15: the row has more than 65,536 numbers
+-- the row call's answer: 1, there is no such wavelet index; 15, the row has more than 65,536 numbers; else 0
 unfoldable pub answerOf : ℕ → List ℤ → ℕ
 answerOf i xs = cond (ltb 6 i) 1 (cond (ltb 65536 (length xs)) 15 0)
 
--- by wavelet index i, the row before and after, and the answer: a refused row is unchanged
+-- the row call by wavelet index i: the row before and after, and the answer; a refused row is unchanged
 pub record Analysed (i : ℕ) (xs ys : List ℤ) (r : ℕ) : Type 0 where
   pub answer : r ≡ answerOf i xs
   pub row : ys ≡ cond (eqb (answerOf i xs) 0) (analysisBy wrap i xs) xs

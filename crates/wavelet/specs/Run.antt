@@ -1,4 +1,4 @@
--- What the code's runs of updates leave, and that they make up a lifting stage of a row. Assumes nothing.
+-- What the code's runs of updates leave, and that they make up a lifting stage of a row.
 use mathlib.Core.Path.{_≡_, refl, sym, ap, ap₂, _∙_}
 use mathlib.Core.Bool.{Bool, false, not}
 use mathlib.Core.Logic.{_≢_}
@@ -198,7 +198,7 @@ module _ (s : LiftStage) (t : ℤ) (o : List ℕ) (two : s .count ≡ 2) where
     later = λ h i j hh hi hj. rw (same-place o j hj) (r .later h i j hh hi (rw two hj));
   }
 
-  -- and it leaves the same
+  -- updates by two equal taps leave what the updates by all taps leave
   pub two-ran : at (s .taps) 0 ≡ t → at (s .taps) 1 ≡ t → Legal s → (plus : Bool) (p step m : ℕ) (xs : List ℤ)
       → ran (stageOf (twoTaps t (s .shift))) plus (twoPlaces (getD o 0 0) (getD o 1 0)) p step m xs ≡ ran (stageOf s) plus o p step m xs
   unfolding ran stageOf

@@ -1,4 +1,4 @@
--- The code's table of stages is that of the definitions. Assumes nothing.
+-- The code's table of stages is that of the definitions.
 use mathlib.Core.Path.{_≡_, refl, ap, _∙_}
 use mathlib.Core.Bool.{Bool, true, false, _&&_, _||_}
 use Prim.Native.Nat.{ℕ, zero, suc, _+_, _*_, _-_, _≤_, _<_}
@@ -134,7 +134,7 @@ eq-stages [] j ls h k l = absurd (omega arith)
 eq-stages (s ∷ ss) j ls h zero l = ap (λ (m : ℕ). getD ls m (type1 0 0 0 [])) (omega arith) ∙ h .0
 eq-stages (s ∷ ss) j ls h (suc k) l = ap (λ (m : ℕ). getD ls m (type1 0 0 0 [])) (omega arith) ∙ eq-stages ss (suc j) ls (h .1) k (omega arith)
 
--- they are there, and as many as the code counts
+-- the stages of filter i stand in the table, as many as the code counts
 pub record InTable (i : ℕ) : Type 0 where
   pub stage-of : (k : ℕ) → k < length (filterOf i .stages) → stageAt (2 * i + k) ≡ getD (filterOf i .stages) k (type1 0 0 0 [])
   pub room : 2 * i + length (filterOf i .stages) ≤ 16

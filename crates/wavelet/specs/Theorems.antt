@@ -1,5 +1,5 @@
--- The layer's theorems, for the layer above: the standard's synthesis gives the plane back, and from samples to coefficients nothing wraps and
--- every coefficient is below 2 ^ 51. Assumes nothing.
+-- The layer's theorems, for the layer above: the standard's synthesis gives the plane back, and from samples to
+-- coefficients nothing wraps and every coefficient is below 2 ^ 51.
 use mathlib.Core.Path.{_≡_}
 use Prim.Native.Nat.{ℕ, _+_, _*_, _-_, _^_, _≤_, _<_, min}
 use native.Mathlib.Omega.{arith}
@@ -18,12 +18,14 @@ use Rattle.wavelet.specs.PlaneLaws as laws
 use Rattle.wavelet.specs.PlaneBound as bound
 use Rattle.wavelet.specs.PlaneBound.{Small, AllSmall, Unwrapped, dwtGrown, Factor, times, dwt-times, any-factor, coefficients-small}
 
--- 15.4.1 undoes the analysis, for every pair of filters, all depths and all padded sides: rows by filter i, columns by filter j
+-- 15.4.1 undoes the analysis, for every pair of filters, all depths and all padded sides: rows by filter i, columns by
+-- filter j
 pub idwt-undoes-dwt : (i j k d h w : ℕ) (f : Plane) → i ≤ 6 → j ≤ 6 → Padded k d h w → Agree h w (idwt i j (dwt exact i j k d h w f) k d) f
 idwt-undoes-dwt i j k d h w f hi hj p = laws.idwt-undoes-dwt i j hi hj k d h w f p
 
--- numbers of at most M: while the bound that the growth of the filters gives stays within 2 ^ 51, nothing wraps, and no coefficient is above it. Nothing wraps:
--- whatever wr gives for numbers that do not fit in 64 bits, the bands are those of the standard's integers
+-- numbers of at most M: while the bound that the growth of the filters gives stays within 2 ^ 51, nothing wraps, and no
+-- coefficient is above it. Nothing wraps: whatever wr gives for numbers that do not fit in 64 bits, the bands are those
+-- of the standard's integers
 pub dwt-wraps-nowhere : (wr : ℤ → ℤ) → Keeps wr → (i j k d M h w : ℕ) (f : Plane) → i ≤ 6 → j ≤ 6 → 2 ^ 16 ≤ M → dwtGrown i j k d M ≤ 2 ^ 51 → Padded k d h w → Small M h w f
     → Unwrapped (dwtGrown i j k d M) (dwt wr i j k d h w f) (dwt exact i j k d h w f)
 dwt-wraps-nowhere = bound.dwt-wraps-nowhere
@@ -40,9 +42,10 @@ all-below M N (b ∷ bs) h s = ((λ y x hy hx. lt-of-le-of-lt (s .0 y x hy hx) h
 
 -- what is known of a component: rows by filter i, columns by filter j
 pub record Exact (i j k d : ℕ) (s : List ℕ) (o w h pw ph : ℕ) : Type 0 where
-  -- nothing wraps: whatever wr gives for numbers that do not fit in 64 bits, the bands are those of the standard's integers
+  -- nothing wraps: whatever wr gives for numbers that do not fit in 64 bits, the bands are those of the standard's
+  -- integers
   pub nowhere : (wr : ℤ → ℤ) → Keeps wr → dwt wr i j k d ph pw (padded s o w h) ≡ dwt exact i j k d ph pw (padded s o w h)
-  -- so they are with the wrap at 64 bits
+  -- with the wrap at 64 bits the bands are the same
   pub same : dwt wrap i j k d ph pw (padded s o w h) ≡ dwt exact i j k d ph pw (padded s o w h)
   -- every coefficient is below 2 ^ 51, by band and place, and in the list of all
   pub below : AllBelow (2 ^ 51) (dwt exact i j k d ph pw (padded s o w h))

@@ -1,4 +1,4 @@
--- Level after level: what the walk leaves are the definition's bands. Assumes nothing.
+-- Level after level: what the walk leaves are the definition's bands.
 use mathlib.Core.Path.{_≡_, refl, sym, ap, ap₂, _∙_}
 use Prim.Native.Nat.{ℕ, zero, suc, _+_, _*_, _-_, _/_, _%_, _≤_, _<_}
 use native.Mathlib.Omega.{arith}

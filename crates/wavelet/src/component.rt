@@ -73,8 +73,8 @@ fn vh_component(work: &mut [i64], n: usize, off: usize, samples: &[u16], c: Comp
     plane::vh_bands(work, n, off, c.ph, c.pw, t.iv);
 }
 
-// A component, padded and analysed: its coefficients stand off places behind the n of scratch, and nothing else there changes. The first
-// level takes the samples, and the level below its first band.
+// A component, padded and analysed: its coefficients stand off places behind the n of scratch, and nothing else there
+// changes. The first level takes the samples, and the level below its first band.
 pub fn analyse_component(
     work: &mut [i64],
     n: usize,

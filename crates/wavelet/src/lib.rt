@@ -7,7 +7,8 @@ mod lift;
 pub mod pad;
 mod plane;
 
-// The analysis of a row by a wavelet index, in place: 0, or with the row unchanged 1 (no such index) or 15 (the row is too long). Open to the box.
+// The analysis of a row by a wavelet index, in place: 0, or with the row unchanged 1 (no such index) or 15 (the row is
+// too long). Open to the box.
 pub fn oned_analysis(row: &mut [i64], index: u32) -> u32
     ensures { λ r. ⌜ Analysed index (now (row .entry)) (now (row .exit)) r ⌝ }
 {

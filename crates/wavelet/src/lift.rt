@@ -11,8 +11,8 @@ ghost use Rattle.wavelet.specs.Table.{stageOf, Legal, Staged};
 ghost use Rattle.wavelet.specs.Run.{tapsTo, ran, Placed, Moves, TapsIn, TapIn, RunIn, twoTaps, twoPlaces};
 use crate::arith;
 
-// A stage: to is 0 where it goes to the even places and 1 where it goes to the odd ones; the standard's D is ahead less back; the first count
-// of the taps are its own.
+// A stage: to is 0 where it goes to the even places and 1 where it goes to the odd ones; the standard's D is ahead less
+// back; the first count of the taps are its own.
 pub(crate) struct LiftStage {
     pub to: usize,
     pub adds: bool,
@@ -178,7 +178,7 @@ const STAGES: [LiftStage; 16] = [
     },
 ];
 
-// Stage j of the table. Public for the planes, as are the other public functions here.
+// Stage j of the table.
 pub(crate) fn stage(j: usize) -> LiftStage
     requires { ⌜ j < 16 ⌝ }
     ensures { λ r. ⌜ Staged j r ⌝ }
@@ -221,7 +221,8 @@ pub(crate) fn places(s: LiftStage, len: usize, n: usize, w: usize) -> [usize; 8]
     o
 }
 
-// How many updates from n on read places that move on by 2 with each: in the middle of a row, where no place is clamped, all up to its end.
+// How many updates from n on read places that move on by 2 with each: in the middle of a row, where no place is
+// clamped, all up to its end.
 fn run_length(s: LiftStage, len: usize, n: usize) -> usize
     requires { ⌜ Legal s × ((len ≤ 65536) × (n < len / 2)) ⌝ }
     ensures { λ r. ⌜ Moves (stageOf s) len n r ⌝ }
@@ -234,7 +235,8 @@ fn run_length(s: LiftStage, len: usize, n: usize) -> usize
     arith::most(1, arith::monus(arith::least(half, end), n))
 }
 
-// One tap more: tap k times the number at its place, moved by x. Two and four taps are built of it, so that a sum has no loop.
+// A sum with one tap more: tap k times the number at its place, moved by x. Two and four taps are built of it, so that
+// a sum has no loop.
 fn one_tap(a: &[i64], s: LiftStage, o: [usize; 8], x: usize, k: usize, sum: i64) -> i64
     requires { ⌜ TapIn (now a) s o x k sum 1 ⌝ }
     ensures { λ r. ⌜ r ≡ tapsTo (s .taps) o x (now (a .entry)) (k + 1) ⌝ }
@@ -334,7 +336,8 @@ fn run_taps(
     }
 }
 
-// The updates of run for two taps, both t, that read the places i and j: one multiplication, of the sum, and no array of places.
+// The updates of run for two taps, both t, that read the places i and j: one multiplication, of the sum, and no array
+// of places.
 fn run_two(
     a: &mut [i64],
     plus: bool,
@@ -368,7 +371,8 @@ fn run_two(
     }
 }
 
-// count updates, of the places p, p + step, .., whose taps read the places o, moved on likewise. No place is read after it is updated.
+// count updates, of the places p, p + step, .., whose taps read the places o, moved on likewise. No place is read after
+// it is updated.
 pub(crate) fn run(
     a: &mut [i64],
     s: LiftStage,

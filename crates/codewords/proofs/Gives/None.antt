@@ -1,5 +1,5 @@
--- The functions that lend their writer to a callee with no plain argument: each meets its contract, on the writer by value, if the callee meets the same one.
--- Assumes nothing.
+-- The functions that lend their writer to a callee with no plain argument: each meets its contract, on the writer by
+-- value, if the callee meets the same one.
 use mathlib.Core.Path.{_≡_, refl}
 use Prim.Native.Nat.{ℕ, zero}
 use mathlib.Core.List.{[], _∷_, List}
@@ -43,7 +43,8 @@ Stayed = stayed ([]) tt tt
 abbrev code : Name → Fn
 code f = function f ([]) ([]) 2 3 4 5 6 7
 
--- pre is what is required of the output, the writer and the arguments, and post what is ensured of those and of the output and the writer after
+-- pre is what is required of the output, the writer and the arguments, and post what is ensured of those and of the
+-- output and the writer after
 module _ (pre : List ℕ → BitWriter → Type 0) (post : List ℕ → BitWriter → List ℕ → BitWriter → Type 0) {M : Type 1} (𝓤 : URA M) (H : Heap 𝓤) (A : Atoms 𝓤) where
   -- the callee's contract
   abbrev pub Put : Contract 𝓤
@@ -63,7 +64,8 @@ module _ (pre : List ℕ → BitWriter → Type 0) (post : List ℕ → BitWrite
       abbrev Post : Val → SProp 𝓤
       Post = walkOf 𝓤 H A Covered Stayed (covered-clauses pre post 𝓤) .post (((κ, tt), (q, tt), tt, a, vals), tt)
 
-      -- what the callee's triple binds outside: the output's own lifetime, share and value, and the writer lent from block l for the lifetime α under the name δ
+      -- what the callee's triple binds outside: the output's own lifetime, share and value, and the writer lent from
+      -- block l for the lifetime α under the name δ
       abbrev to : (l α : ℕ) (δ : GName) → Put .Ghost
       to l α δ = (((κ, (α ∷ [], tt)), (q, (fullShare, tt)), tt, (a .0, (ref l zero δ h, tt)), (s ∷ [], (vptr l zero ∷ [], tt))), tt)
 

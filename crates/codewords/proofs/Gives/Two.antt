@@ -1,5 +1,5 @@
--- The functions that lend their writer to a callee with two plain arguments: each meets its contract, on the writer by value, if the callee meets the same one.
--- Assumes nothing.
+-- The functions that lend their writer to a callee with two plain arguments: each meets its contract, on the writer by
+-- value, if the callee meets the same one.
 use mathlib.Core.Path.{_≡_, refl}
 use Prim.Native.Nat.{ℕ, zero}
 use mathlib.Core.List.{[], _∷_, List}
@@ -45,7 +45,8 @@ module _ (R₁ R₂ : Arg) where
   abbrev code : Name → Fn
   code f = function f (R₁ .ty ∷ R₂ .ty ∷ []) (copy (place 3 []) ∷ copy (place 4 []) ∷ []) 4 5 6 7 8 9
 
-  -- pre is what is required of the output, the writer and the arguments, and post what is ensured of those and of the output and the writer after
+  -- pre is what is required of the output, the writer and the arguments, and post what is ensured of those and of the
+  -- output and the writer after
   module _ (pre : List ℕ → BitWriter → R₁ .X → R₂ .X → Type 0) (post : List ℕ → BitWriter → R₁ .X → R₂ .X → List ℕ → BitWriter → Type 0) {M : Type 1} (𝓤 : URA M) (H : Heap 𝓤) (A : Atoms 𝓤) where
     -- the callee's contract
     abbrev pub Put : Contract 𝓤
@@ -65,7 +66,8 @@ module _ (R₁ R₂ : Arg) where
         abbrev Post : Val → SProp 𝓤
         Post = walkOf 𝓤 H A (Covered R₁ R₂) Stayed (covered-clauses R₁ R₂ pre post 𝓤) .post (((κ, tt), (q, tt), tt, a, vals), tt)
 
-        -- what the callee's triple binds outside: the output's own lifetime, share and value, and the writer lent from block l for the lifetime α under the name δ
+        -- what the callee's triple binds outside: the output's own lifetime, share and value, and the writer lent from
+        -- block l for the lifetime α under the name δ
         abbrev to : (l α : ℕ) (δ : GName) → Put .Ghost
         to l α δ = (((κ, (α ∷ [], tt)), (q, (fullShare, tt)), tt, (a .0, (ref l zero δ h, (u, (v, tt)))), (s ∷ [], (vptr l zero ∷ [], (R₁ .val u ∷ [], (R₂ .val v ∷ [], tt))))), tt)
 

@@ -1,5 +1,5 @@
--- The functions that lend the writer to a callee with two plain arguments: each meets its contract if the callee meets the same one, on the writer by value.
--- Assumes nothing.
+-- The functions that lend the writer to a callee with two plain arguments: each meets its contract if the callee meets
+-- the same one, on the writer by value.
 use mathlib.Core.Path.{_≡_, refl}
 use Prim.Native.Nat.{ℕ}
 use mathlib.Core.List.{[], _∷_, List}
@@ -48,7 +48,8 @@ module _ (R₁ R₂ : Arg) where
   abbrev code : Name → Fn
   code f = function f (R₁ .ty ∷ R₂ .ty ∷ []) (copy (place 3 []) ∷ copy (place 4 []) ∷ []) 4 5 6 7 8
 
-  -- pre is what is required of the output, the writer and the arguments, and post what is ensured of those and of the output and the writer after
+  -- pre is what is required of the output, the writer and the arguments, and post what is ensured of those and of the
+  -- output and the writer after
   module _ (pre : List ℕ → BitWriter → R₁ .X → R₂ .X → Type 0) (post : List ℕ → BitWriter → R₁ .X → R₂ .X → List ℕ → BitWriter → Type 0) {M : Type 1} (𝓤 : URA M) where
     abbrev pub covered-clauses : Clauses 𝓤 Covered
     covered-clauses = λ κs a. record { ghost = Unit {0}; requires = λ g. fact 𝓤 (pre (now (a .0)) (a .1 .0) (a .1 .1 .0) (a .1 .1 .1 .0)); ensures = λ g r e. fact 𝓤 (post (now (a .0)) (a .1 .0) (a .1 .1 .0) (a .1 .1 .1 .0) (now (e .0)) r) }

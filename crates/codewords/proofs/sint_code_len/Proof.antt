@@ -1,4 +1,4 @@
--- `codewords::sint_code_len` meets its contract. Assumes nothing.
+-- `codewords::sint_code_len` meets its contract.
 use mathlib.Core.Path.{_≡_, sym, _∙_, ap}
 use Prim.Native.Nat.{ℕ, _+_, _<_}
 use native.Mathlib.Omega.{arith}

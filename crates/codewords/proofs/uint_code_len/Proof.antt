@@ -1,4 +1,4 @@
--- `codewords::uint_code_len` meets its contract. Assumes nothing.
+-- `codewords::uint_code_len` meets its contract.
 use borrow.Author.Needs.{needs}
 use native.Mathlib.Omega.{arith}
 use Prim.Native.Nat.{_+_}

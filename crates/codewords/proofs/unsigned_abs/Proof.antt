@@ -1,4 +1,4 @@
--- `codewords::unsigned_abs` meets its contract. Assumes nothing.
+-- `codewords::unsigned_abs` meets its contract.
 use native.Mathlib.Omega.{arith}
 use mathlib.Core.Path.{_≡_, refl, sym, ap, _∙_}
 use mir.Syntax.{w64}

@@ -1,4 +1,4 @@
--- `vc2_encode_picture` meets its contract. Assumes nothing.
+-- `vc2_encode_picture` meets its contract.
 use mathlib.Core.Path.{_≡_, sym, _∙_}
 use mathlib.Core.Bool.{true}
 use borrow.Author.Tests.{not-true, not-false}

@@ -1,4 +1,4 @@
--- `vc2_inverse_quant` meets its contract. Assumes nothing.
+-- `vc2_inverse_quant` meets its contract.
 use mathlib.Core.Path.{subst}
 use lib.IntN.{ℤ}
 use mir.Syntax.{w64}

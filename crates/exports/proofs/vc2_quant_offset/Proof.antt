@@ -1,4 +1,4 @@
--- `vc2_quant_offset` meets its contract. Assumes nothing.
+-- `vc2_quant_offset` meets its contract.
 use Rattle.exports.specs.CallsLaws.{gives-value, gives-refused}
 use borrow.Author.Needs.{needs}
 use Rattle.exports.proofs.vc2_quant_offset.Statement.{statement}

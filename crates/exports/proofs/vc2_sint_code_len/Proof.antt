@@ -1,4 +1,4 @@
--- `vc2_sint_code_len` meets its contract. Assumes nothing.
+-- `vc2_sint_code_len` meets its contract.
 use mathlib.Core.Path.{_∙_}
 use mir.Syntax.{w64}
 use mir.Facts.{toZ-ofZ}

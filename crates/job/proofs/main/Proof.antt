@@ -1,4 +1,4 @@
--- `job::main` is safe: what is printed lies within the text. Assumes nothing.
+-- `job::main` is safe: what is printed lies within the text.
 use mathlib.Core.Path.{sym}
 use lib.Seq.{length-take-le}
 use borrow.Author.Needs.{needs}

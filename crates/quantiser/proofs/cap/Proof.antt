@@ -1,4 +1,4 @@
--- `quantiser::cap` meets its contract. Assumes nothing.
+-- `quantiser::cap` meets its contract.
 use mathlib.Core.Path.{sym}
 use native.Mathlib.Omega.{arith}
 use Rattle.quantiser.specs.CapLaws.{cap-same, cap-most}

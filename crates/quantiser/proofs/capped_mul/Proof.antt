@@ -1,4 +1,4 @@
--- `quantiser::capped_mul` meets its contract. Assumes nothing.
+-- `quantiser::capped_mul` meets its contract.
 use mathlib.Core.Path.{sym}
 use Prim.Native.Nat.{_*_, _^_, _<_}
 use native.Mathlib.Omega.{arith}

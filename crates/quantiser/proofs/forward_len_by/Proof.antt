@@ -1,4 +1,4 @@
--- `quantiser::forward_len_by` meets its contract. Assumes nothing.
+-- `quantiser::forward_len_by` meets its contract.
 use mathlib.Core.Path.{_≡_}
 use native.Mathlib.Omega.{arith}
 use lib.IntN.{natAbs}

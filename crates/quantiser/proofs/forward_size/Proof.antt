@@ -1,4 +1,4 @@
--- `quantiser::forward_size` meets its contract. Assumes nothing.
+-- `quantiser::forward_size` meets its contract.
 use mathlib.Core.Path.{_≡_, sym, ap, _∙_}
 use Prim.Native.Nat.{ℕ, _*_, _/_}
 use native.Mathlib.Omega.{arith}

@@ -1,4 +1,4 @@
--- `quantiser::forward_small` meets its contract. Assumes nothing.
+-- `quantiser::forward_small` meets its contract.
 use mathlib.Core.Path.{_∙_}
 use native.Mathlib.Omega.{arith}
 use mir.Syntax.{w64}

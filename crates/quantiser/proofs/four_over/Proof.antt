@@ -1,4 +1,4 @@
--- `quantiser::four_over` meets its contract. Assumes nothing.
+-- `quantiser::four_over` meets its contract.
 use mathlib.Core.Path.{refl}
 use Prim.Native.Nat.{_/_, _^_, _≤_}
 use native.Mathlib.Omega.{arith}

@@ -1,4 +1,4 @@
--- `quantiser::inverse_by` meets its contract. Assumes nothing.
+-- `quantiser::inverse_by` meets its contract.
 use mathlib.Core.Path.{_≡_, sym, _∙_}
 use native.Mathlib.Omega.{arith}
 use lib.IntN.{natAbs}

@@ -1,4 +1,4 @@
--- `quantiser::inverse_quant` meets its contract. Assumes nothing.
+-- `quantiser::inverse_quant` meets its contract.
 use mathlib.Core.Path.{_∙_}
 use mir.Syntax.{w64}
 use mir.Facts.{toZ-ofZ}

@@ -1,4 +1,4 @@
--- `quantiser::quant_factor` meets its contract. Assumes nothing.
+-- `quantiser::quant_factor` meets its contract.
 use mathlib.Core.Path.{ap, _∙_}
 use lib.IntN.{pos}
 use mir.Syntax.{w64}

@@ -1,4 +1,4 @@
--- `quantiser::quant_offset` meets its contract. Assumes nothing.
+-- `quantiser::quant_offset` meets its contract.
 use mathlib.Core.Path.{ap, _∙_}
 use lib.IntN.{pos}
 use mir.Syntax.{w64}

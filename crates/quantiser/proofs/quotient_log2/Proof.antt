@@ -1,4 +1,4 @@
--- `quantiser::quotient_log2` meets its contract. Assumes nothing.
+-- `quantiser::quotient_log2` meets its contract.
 use native.Mathlib.Omega.{arith}
 use Rattle.quantiser.specs.LengthLaws.{Gap, gap-law}
 use Rattle.quantiser.proofs.quotient_log2.Statement.{statement}

@@ -1,4 +1,4 @@
--- `quantiser::signed` meets its contract. Assumes nothing.
+-- `quantiser::signed` meets its contract.
 use mathlib.Core.Path.{_∙_}
 use native.Mathlib.Omega.{arith}
 use lib.IntN.{pos, _-ℤ_}

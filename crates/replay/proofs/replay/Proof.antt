@@ -1,4 +1,4 @@
--- `replay::replay` is safe and ends: the turns that are left fall. Assumes nothing.
+-- `replay::replay` is safe and ends: the turns that are left fall.
 use mathlib.Core.Path.{_≡_, sym, ap, _∙_, refl}
 use Prim.Native.Nat.{ℕ, _+_, _-_, _*_, _^_, _<_, _≤_}
 use lib.ListN.{length}

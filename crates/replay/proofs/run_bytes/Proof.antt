@@ -1,4 +1,4 @@
--- `replay::run_bytes` is safe. Assumes nothing.
+-- `replay::run_bytes` is safe.
 use mathlib.Core.Path.{_≡_, sym, ap, _∙_, refl}
 use native.Mathlib.Omega.{arith}
 use lib.Seq.{length-take-le}

@@ -1,4 +1,4 @@
--- `replay::step` is safe. Assumes nothing.
+-- `replay::step` is safe.
 use mathlib.Core.Path.{_≡_, sym, ap, _∙_, refl}
 use native.Mathlib.Omega.{arith}
 use lib.Seq.{length-take-le, length-front}

@@ -1,4 +1,4 @@
--- `oned_analysis` meets its contract. Assumes nothing.
+-- `oned_analysis` meets its contract.
 use native.Mathlib.Omega.{arith}
 use borrow.Author.Needs.{needs}
 use Rattle.wavelet.specs.RowCall.{refuse-filter, refuse-long, analysed}

@@ -1,5 +1,4 @@
 -- `codewords::bitio::byte_align` meets its contract, by the walk that all such functions have.
--- Assumes nothing.
 use contract.Running.{givenOf, tables, tablesOf}
 use denote.Triple.Spec.{tripleOf}
 use denote.Triple.Table.{entered, cited}

@@ -1,5 +1,4 @@
 -- `codewords::lent::put_bit` meets its contract, by the walk that all such functions have.
--- Assumes nothing.
 use mathlib.Core.List.{[], _∷_}
 use contract.Running.{givenOf, tables, tablesOf}
 use denote.Triple.Spec.{tripleOf}

@@ -1,5 +1,4 @@
 -- `codewords::lent::put_uint` meets its contract, by the walk that all such functions have.
--- Assumes nothing.
 use lib.ListN.{length}
 use contract.Running.{givenOf, tables, tablesOf}
 use denote.Triple.Spec.{tripleOf}

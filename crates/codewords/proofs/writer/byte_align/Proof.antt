@@ -1,4 +1,4 @@
--- `codewords::writer::byte_align` meets its contract. Assumes nothing.
+-- `codewords::writer::byte_align` meets its contract.
 use mathlib.Core.List.{append-nil}
 use native.Mathlib.Omega.{arith}
 use borrow.Author.Needs.{needs}

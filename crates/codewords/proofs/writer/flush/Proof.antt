@@ -1,4 +1,5 @@
--- `codewords::writer::flush` meets its contract. The loop's invariant: the bytes of the bits pending from place k on are laid. Assumes nothing.
+-- `codewords::writer::flush` meets its contract. The loop's invariant: the bytes of the bits pending from place k on
+-- are laid.
 use mathlib.Core.Path.{_≡_}
 use mathlib.Core.List.{List, append-nil}
 use Prim.Native.Nat.{ℕ, _+_, _-_, _/_, _%_, _^_, _≤_, _<_}

@@ -1,4 +1,4 @@
--- `codewords::writer::put_bit` meets its contract. Assumes nothing.
+-- `codewords::writer::put_bit` meets its contract.
 use borrow.Author.Needs.{needs}
 use Rattle.codewords.specs.BitLaws.{lit-bit}
 use Rattle.codewords.proofs.writer.put_bit.Statement.{statement}

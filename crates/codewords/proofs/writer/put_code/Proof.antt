@@ -1,4 +1,4 @@
--- `codewords::writer::put_code` meets its contract. Assumes nothing.
+-- `codewords::writer::put_code` meets its contract.
 use mathlib.Core.Path.{_≡_, sym, ap, _∙_}
 use mathlib.Core.Bool.{true}
 use mathlib.Core.List.{[], _∷_, _++_}

@@ -1,4 +1,4 @@
--- `codewords::writer::put_four` meets its contract. Assumes nothing.
+-- `codewords::writer::put_four` meets its contract.
 use mathlib.Core.Path.{_≡_}
 use mathlib.Core.List.{List, [], _∷_}
 use Prim.Native.Nat.{ℕ, suc, _+_}

@@ -1,5 +1,5 @@
--- `codewords::writer::put_interleaved` meets its contract. The loop's invariant: the pairs of the bits of x from place i on are written.
--- Assumes nothing.
+-- `codewords::writer::put_interleaved` meets its contract. The loop's invariant: the pairs of the bits of x from place
+-- i on are written.
 use mathlib.Core.Path.{_≡_, ap, _∙_}
 use mathlib.Core.Bool.{true}
 use mathlib.Core.List.{List, [], _∷_, _++_, append-assoc}

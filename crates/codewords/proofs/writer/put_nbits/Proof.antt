@@ -1,4 +1,4 @@
--- `codewords::writer::put_nbits` meets its contract. Assumes nothing.
+-- `codewords::writer::put_nbits` meets its contract.
 use mathlib.Core.Path.{_≡_, ap, _∙_}
 use mathlib.Core.List.{_++_}
 use Prim.Native.Nat.{ℕ, _+_, _-_, _/_, _^_, _≤_}

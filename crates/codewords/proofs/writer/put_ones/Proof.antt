@@ -1,4 +1,4 @@
--- `codewords::writer::put_ones` meets its contract. The loop's invariant: all ones but those left are written. Assumes nothing.
+-- `codewords::writer::put_ones` meets its contract. The loop's invariant: all ones but those left are written.
 use mathlib.Core.Path.{_≡_, _∙_}
 use mathlib.Core.Bool.{true}
 use mathlib.Core.List.{List}

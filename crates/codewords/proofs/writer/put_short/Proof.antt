@@ -1,5 +1,5 @@
--- `codewords::writer::put_short` meets its contract: the bits pending and the new ones are one number, and its 32 high bits are written, if it has as many.
--- Assumes nothing.
+-- `codewords::writer::put_short` meets its contract: the bits pending and the new ones are one number, and its 32 high
+-- bits are written, if it has as many.
 use mathlib.Core.Path.{_≡_, sym}
 use Prim.Native.Nat.{_+_, _-_, _*_, _%_, _^_, _≤_, _<_}
 use native.Mathlib.Omega.{arith}

@@ -1,4 +1,4 @@
--- `codewords::writer::put_signed` meets its contract. Assumes nothing.
+-- `codewords::writer::put_signed` meets its contract.
 use mathlib.Core.Path.{_≡_, ap, _∙_}
 use mathlib.Core.Bool.{Bool}
 use mathlib.Core.List.{[], _∷_, _++_}

@@ -1,4 +1,4 @@
--- `codewords::writer::put_sint` meets its contract. Assumes nothing.
+-- `codewords::writer::put_sint` meets its contract.
 use mathlib.Core.Path.{_≡_, sym, ap, _∙_}
 use Prim.Native.Nat.{ℕ}
 use borrow.Author.Needs.{needs}

@@ -1,4 +1,4 @@
--- `codewords::writer::put_uint` meets its contract. Assumes nothing.
+-- `codewords::writer::put_uint` meets its contract.
 use native.Mathlib.Omega.{arith}
 use mathlib.Core.Path.{_≡_, sym, ap, _∙_}
 use Prim.Native.Nat.{ℕ, _+_, _-_, _<_, _≤_}

@@ -1,4 +1,4 @@
--- `codewords::writer::spread` meets its contract: antt compares the code's steps with the definition at the 256 bytes. Assumes nothing.
+-- `codewords::writer::spread` meets its contract: antt compares the code's steps with the definition at the 256 bytes.
 use mathlib.Core.Path.{_≡_, _∙_}
 use Prim.Native.Nat.{_%_}
 use native.Mathlib.Omega.{arith}

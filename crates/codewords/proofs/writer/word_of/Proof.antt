@@ -1,4 +1,4 @@
--- `codewords::writer::word_of` meets its contract. Assumes nothing.
+-- `codewords::writer::word_of` meets its contract.
 use mathlib.Core.Path.{_≡_, sym, ap, _∙_}
 use Prim.Native.Nat.{ℕ, _+_, _-_, _≤_}
 use native.Mathlib.Omega.{arith}

@@ -1,4 +1,4 @@
--- `encode::call` meets its contract. Assumes nothing.
+-- `encode::call` meets its contract.
 use mathlib.Core.Path.{sym}
 use Prim.Native.Nat.{_-_}
 use lib.ListN.{length}

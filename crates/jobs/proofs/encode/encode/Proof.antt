@@ -1,4 +1,4 @@
--- `encode::encode` meets its contract. Assumes nothing.
+-- `encode::encode` meets its contract.
 use mathlib.Core.Path.{sym}
 use native.Mathlib.Omega.{arith}
 use Prim.Native.Nat.{_-_}

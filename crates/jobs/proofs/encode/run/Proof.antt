@@ -1,4 +1,4 @@
--- `encode::run` meets its contract. Assumes nothing.
+-- `encode::run` meets its contract.
 use mathlib.Core.Path.{sym}
 use mathlib.Core.List.{List}
 use Prim.Native.Nat.{ℕ, _≤_}

@@ -1,4 +1,4 @@
--- `encode::run_words` meets its contract. Assumes nothing.
+-- `encode::run_words` meets its contract.
 use mathlib.Core.Path.{_≡_, sym, _∙_}
 use native.Mathlib.Omega.{arith}
 use lib.ListN.{length}

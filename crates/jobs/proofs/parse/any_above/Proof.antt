@@ -1,4 +1,5 @@
--- `parse::any_above` meets its contract. The invariant: what is asked of all contents is asked of those from place i on. Assumes nothing.
+-- `parse::any_above` meets its contract. The invariant: what is asked of all contents is asked of those from place i
+-- on.
 use mathlib.Core.Path.{_≡_, refl, _∙_}
 use mathlib.Core.List.{map}
 use Prim.Native.Nat.{_-_, _≤_}

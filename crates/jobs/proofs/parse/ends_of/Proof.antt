@@ -1,4 +1,4 @@
--- `parse::ends_of` meets its contract. Assumes nothing.
+-- `parse::ends_of` meets its contract.
 use Rattle.jobs.specs.ParseLaws.{ends-are}
 use borrow.Author.Needs.{needs}
 use Rattle.jobs.proofs.parse.ends_of.Statement.{statement}

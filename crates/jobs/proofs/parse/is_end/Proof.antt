@@ -1,4 +1,4 @@
--- `parse::is_end` meets its contract. Assumes nothing.
+-- `parse::is_end` meets its contract.
 use native.Mathlib.Omega.{arith}
 use Rattle.jobs.specs.ParseLaws.{end-other, end-one}
 use borrow.Author.Needs.{needs}

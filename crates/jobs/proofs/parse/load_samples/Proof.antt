@@ -1,4 +1,4 @@
--- `parse::load_samples` meets its contract. The invariant: the first i contents are laid. Assumes nothing.
+-- `parse::load_samples` meets its contract. The invariant: the first i contents are laid.
 use mathlib.Core.Path.{_∙_}
 use mathlib.Core.List.{map}
 use Prim.Native.Nat.{_-_, _≤_}

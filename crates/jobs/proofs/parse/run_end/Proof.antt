@@ -1,4 +1,4 @@
--- `parse::run_end` meets its contract. The invariant: the run from place i on ends where the whole run ends. Assumes nothing.
+-- `parse::run_end` meets its contract. The invariant: the run from place i on ends where the whole run ends.
 use mathlib.Core.Path.{_≡_, refl, sym, _∙_}
 use Prim.Native.Nat.{_-_, _≤_}
 use lib.ListN.{length}

@@ -1,4 +1,4 @@
--- `parse::unpack` meets its contract. The invariant: the first i words are laid. Assumes nothing.
+-- `parse::unpack` meets its contract. The invariant: the first i words are laid.
 use mathlib.Core.Path.{_∙_}
 use Prim.Native.Nat.{_-_, _/_, _≤_}
 use lib.ListN.{length, take}

@@ -1,4 +1,4 @@
--- `parse::well_formed` meets its contract. Assumes nothing.
+-- `parse::well_formed` meets its contract.
 use mathlib.Core.Path.{_≡_, sym, ap, _∙_}
 use mathlib.Core.Bool.{true, not}
 use Prim.Native.Nat.{_≤_}

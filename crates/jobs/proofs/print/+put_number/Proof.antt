@@ -1,4 +1,4 @@
--- `print::put_number`, which calls itself, meets its contract. The measure is the number. Assumes nothing.
+-- `print::put_number`, which calls itself, meets its contract. The measure is the number.
 use mathlib.Core.Path.{sym, ap}
 use native.Mathlib.Omega.{arith}
 use lib.ListN.{length}

@@ -1,4 +1,4 @@
--- `print::digit` meets its contract. Assumes nothing.
+-- `print::digit` meets its contract.
 use borrow.Author.Tests.{lt-ltb, le-ltb}
 use borrow.Author.Needs.{needs}
 use Rattle.jobs.proofs.print.digit.Statement.{statement}

@@ -1,4 +1,4 @@
--- `print::put` meets its contract. Assumes nothing.
+-- `print::put` meets its contract.
 use Rattle.jobs.specs.PrintLaws.{lays-one}
 use borrow.Author.Needs.{needs}
 use Rattle.jobs.proofs.print.put.Statement.{statement}

@@ -1,4 +1,4 @@
--- `print::put_answer` meets its contract: each arm is given that r is its constructor. Assumes nothing.
+-- `print::put_answer` meets its contract: each arm is given that r is its constructor.
 use mathlib.Core.Path.{sym}
 use native.Mathlib.Omega.{arith}
 use lib.ListN.{length, take}

@@ -1,4 +1,4 @@
--- `print::put_byte` meets its contract. Assumes nothing.
+-- `print::put_byte` meets its contract.
 use Rattle.jobs.specs.PrintLaws.{chunk-laid}
 use borrow.Author.Needs.{needs}
 use Rattle.jobs.proofs.print.put_byte.Statement.{statement}

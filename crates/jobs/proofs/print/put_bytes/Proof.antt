@@ -1,4 +1,4 @@
--- `print::put_bytes` meets its contract. The invariant: the text of the first i bytes is laid. Assumes nothing.
+-- `print::put_bytes` meets its contract. The invariant: the text of the first i bytes is laid.
 use mathlib.Core.Path.{_≡_, sym, ap, _∙_}
 use Prim.Native.Nat.{_-_, _≤_}
 use lib.ListN.{length}

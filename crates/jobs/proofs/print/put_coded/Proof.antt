@@ -1,4 +1,4 @@
--- `print::put_coded` meets its contract. Assumes nothing.
+-- `print::put_coded` meets its contract.
 use native.Mathlib.Omega.{arith}
 use Rattle.jobs.specs.PrintLaws.{line-laid}
 use borrow.Author.Needs.{needs}

@@ -1,4 +1,4 @@
--- `print::put_job` meets its contract. Assumes nothing.
+-- `print::put_job` meets its contract.
 use Rattle.laws.specs.Laid.{lays-on}
 use borrow.Author.Needs.{needs}
 use Rattle.jobs.proofs.print.put_job.Statement.{statement}

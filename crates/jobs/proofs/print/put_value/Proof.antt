@@ -1,4 +1,4 @@
--- `print::put_value` meets its contract. Assumes nothing.
+-- `print::put_value` meets its contract.
 use Prim.Native.Nat.{_^_, _<_}
 use native.Mathlib.Omega.{arith}
 use Rattle.laws.specs.Laid.{lays-on}

@@ -1,4 +1,4 @@
--- `analysis::analyse` meets its contract. Assumes nothing.
+-- `analysis::analyse` meets its contract.
 use Prim.Native.Nat.{ℕ, _+_, _-_, _*_}
 use lib.ListN.{drop}
 use Rattle.unit.specs.Sizes.{lumaSize, colourSize}

@@ -1,4 +1,4 @@
--- `analysis::clear` meets its contract. The invariant: the first i places are zeros. Assumes nothing.
+-- `analysis::clear` meets its contract. The invariant: the first i places are zeros.
 use mathlib.Core.Path.{_≡_, refl, _∙_}
 use mathlib.Core.List.{_++_}
 use Prim.Native.Nat.{_-_, _≤_}

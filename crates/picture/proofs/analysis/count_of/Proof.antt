@@ -1,4 +1,4 @@
--- `analysis::count_of` meets its contract. Assumes nothing.
+-- `analysis::count_of` meets its contract.
 use Rattle.picture.specs.SidesLaws.{product-fits}
 use native.Mathlib.Omega.{arith}
 use borrow.Author.Needs.{needs}

@@ -1,4 +1,4 @@
--- `analysis::layout_of` meets its contract. Assumes nothing.
+-- `analysis::layout_of` meets its contract.
 use mathlib.Core.Path.{refl}
 use Rattle.picture.specs.Analysed.{layoutOf}
 use borrow.Author.Needs.{needs}

@@ -1,4 +1,4 @@
--- `analysis::offset_of` meets its contract. Assumes nothing.
+-- `analysis::offset_of` meets its contract.
 use Rattle.unit.specs.Valid.{Between}
 use Rattle.picture.specs.AnalysisLaws.{depth-of, offset-of}
 use native.Mathlib.Omega.{arith}

@@ -1,4 +1,4 @@
--- `analysis::picture_of` meets its contract. Assumes nothing.
+-- `analysis::picture_of` meets its contract.
 use Rattle.unit.specs.Sizes.{lumaSize, colourSize}
 use Rattle.picture.specs.AnalysisLaws.{padded-asks, Measures, measures-of, picture-is}
 use native.Mathlib.Omega.{arith}

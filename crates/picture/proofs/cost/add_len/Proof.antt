@@ -1,4 +1,4 @@
--- `picture::cost::add_len` meets its contract. Assumes nothing.
+-- `picture::cost::add_len` meets its contract.
 use mathlib.Core.Path.{ap, _∙_}
 use Rattle.picture.specs.Cost.{fitted}
 use borrow.Author.Needs.{needs}

@@ -1,4 +1,4 @@
--- `picture::cost::add_second` meets its contract. Assumes nothing.
+-- `picture::cost::add_second` meets its contract.
 use mathlib.Core.Path.{refl}
 use borrow.Author.Needs.{needs}
 use Rattle.picture.specs.Run.{numberIn}

@@ -1,4 +1,4 @@
--- `picture::cost::cost_place` meets its contract. Assumes nothing.
+-- `picture::cost::cost_place` meets its contract.
 use mathlib.Core.Path.{_≡_, refl}
 use lib.IntN.{ℤ}
 use borrow.Author.Needs.{needs}

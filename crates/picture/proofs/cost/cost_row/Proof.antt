@@ -1,4 +1,4 @@
--- `picture::cost::cost_row` meets its contract. The loop's invariant: the places left of x are added. Assumes nothing.
+-- `picture::cost::cost_row` meets its contract. The loop's invariant: the places left of x are added.
 use mathlib.Core.Path.{_≡_}
 use Prim.Native.Nat.{ℕ, _+_, _-_, _≤_}
 use Rattle.laws.specs.Chunks.{chunks}

@@ -1,4 +1,4 @@
--- `picture::cost::fit_to` meets its contract. Assumes nothing.
+-- `picture::cost::fit_to` meets its contract.
 use native.Mathlib.Omega.{arith}
 use Rattle.picture.specs.CostLaws.{fitted-yes, fitted-no}
 use Rattle.picture.proofs.cost.fit_to.Statement.{statement}

@@ -1,4 +1,4 @@
--- `picture::cost::keep_to` meets its contract. Assumes nothing.
+-- `picture::cost::keep_to` meets its contract.
 use Rattle.picture.specs.CostLaws.{kept-yes, kept-no}
 use borrow.Author.Needs.{needs}
 use Rattle.picture.proofs.cost.keep_to.Statement.{statement}

@@ -1,4 +1,4 @@
--- `encoder::clear_bytes` meets its contract. The invariant: the first i places are zeros. Assumes nothing.
+-- `encoder::clear_bytes` meets its contract. The invariant: the first i places are zeros.
 use mathlib.Core.Path.{_≡_, refl, _∙_}
 use mathlib.Core.List.{_++_}
 use Prim.Native.Nat.{_-_, _≤_}

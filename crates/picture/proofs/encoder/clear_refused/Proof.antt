@@ -1,4 +1,4 @@
--- `encoder::clear_refused` meets its contract. Assumes nothing.
+-- `encoder::clear_refused` meets its contract.
 use Rattle.picture.specs.EncodedLaws.{cleared-refused}
 use borrow.Author.Needs.{needs}
 use Rattle.picture.proofs.encoder.clear_refused.Statement.{statement}

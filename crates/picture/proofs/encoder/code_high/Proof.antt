@@ -1,4 +1,4 @@
--- `encoder::code_high` meets its contract. Assumes nothing.
+-- `encoder::code_high` meets its contract.
 use mathlib.Core.Path.{_≡_, refl, sym, ap, _∙_}
 use mathlib.Core.Bool.{false}
 use native.Mathlib.Omega.{arith}

@@ -1,4 +1,4 @@
--- `picture::encoder::code_low` meets its contract. Assumes nothing.
+-- `picture::encoder::code_low` meets its contract.
 use mathlib.Core.Path.{_≡_, refl, sym, ap, _∙_}
 use mathlib.Core.Bool.{false}
 use Prim.Native.Nat.{ℕ, _+_, _≤_}

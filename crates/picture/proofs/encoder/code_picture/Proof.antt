@@ -1,4 +1,4 @@
--- `encoder::code_picture` meets its contract. Assumes nothing.
+-- `encoder::code_picture` meets its contract.
 use mathlib.Core.Path.{_∙_}
 use Rattle.picture.specs.Sides.{planes}
 use Rattle.picture.specs.AnalysedLaws.{called, ready}

@@ -1,4 +1,4 @@
--- `encoder::encode_picture` meets its contract. Assumes nothing.
+-- `encoder::encode_picture` meets its contract.
 use mathlib.Core.Path.{_≡_, sym, _∙_}
 use native.Mathlib.Omega.{arith}
 use Rattle.unit.specs.Refusal.{refusalOf}

@@ -1,4 +1,4 @@
--- `picture::header::extension_len` meets its contract. Assumes nothing.
+-- `picture::header::extension_len` meets its contract.
 use native.Mathlib.Omega.{arith}
 use mathlib.Core.Path.{ap}
 use lib.ListN.{length, length-append}

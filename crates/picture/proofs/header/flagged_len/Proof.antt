@@ -1,4 +1,4 @@
--- `picture::header::flagged_len` meets its contract. Assumes nothing.
+-- `picture::header::flagged_len` meets its contract.
 use native.Mathlib.Omega.{arith}
 use borrow.Author.Needs.{needs}
 use Rattle.picture.proofs.header.flagged_len.Statement.{statement}

@@ -1,4 +1,4 @@
--- `picture::header::front_len` meets its contract. Assumes nothing.
+-- `picture::header::front_len` meets its contract.
 use native.Mathlib.Omega.{arith}
 use Rattle.picture.specs.HeadLaws.{front-length}
 use borrow.Author.Needs.{needs}

@@ -1,4 +1,4 @@
--- `picture::header::major_version` meets its contract. Assumes nothing.
+-- `picture::header::major_version` meets its contract.
 use mathlib.Core.Logic.{inl, inr, ⊎-elim}
 use Rattle.unit.specs.declared.PictureKind.the-variants.{LowDelay, HighQuality}
 use Rattle.picture.specs.HeadLaws.{major-three, major-plain}

@@ -1,4 +1,4 @@
--- `picture::header::numerator` meets its contract. Assumes nothing.
+-- `picture::header::numerator` meets its contract.
 use mathlib.Core.Path.{sym, ap, _∙_}
 use Rattle.picture.specs.HeadLaws.{numeratorAfter, numerator-twice}
 use borrow.Author.Needs.{needs}

@@ -1,4 +1,4 @@
--- `picture::header::overhead` meets its contract. Assumes nothing.
+-- `picture::header::overhead` meets its contract.
 use native.Mathlib.Omega.{arith}
 use Rattle.picture.specs.Head.{sliceIn}
 use Rattle.picture.specs.HeadLaws.{bytes-of-parts}

@@ -1,4 +1,4 @@
--- `picture::header::put_extension` meets its contract. Assumes nothing.
+-- `picture::header::put_extension` meets its contract.
 use native.Mathlib.Omega.{arith}
 use Rattle.codewords.specs.WriterLaws.{wrote-none, wrote-then}
 use mathlib.Core.Bool.{not}

@@ -1,4 +1,4 @@
--- `picture::header::put_flagged` meets its contract. Assumes nothing.
+-- `picture::header::put_flagged` meets its contract.
 use native.Mathlib.Omega.{arith}
 use Rattle.codewords.specs.WriterLaws.{wrote-then, room-after}
 use Rattle.codewords.specs.Code.{codeU}

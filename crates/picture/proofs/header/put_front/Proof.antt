@@ -1,4 +1,4 @@
--- `picture::header::put_front` meets its contract. Assumes nothing.
+-- `picture::header::put_front` meets its contract.
 use Rattle.codewords.specs.WriterLaws.{wrote-then}
 use Rattle.codewords.specs.Code.{codeU}
 use mathlib.Core.List.{_++_}

@@ -1,4 +1,4 @@
--- `picture::header::put_header` meets its contract. Assumes nothing.
+-- `picture::header::put_header` meets its contract.
 use native.Mathlib.Omega.{arith}
 use Rattle.codewords.specs.WriterLaws.{wrote-then, room-after}
 use mathlib.Core.Path.{_≡_, sym, ap, _∙_}

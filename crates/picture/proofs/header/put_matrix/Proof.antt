@@ -1,4 +1,4 @@
--- `picture::header::put_matrix` meets its contract. Assumes nothing.
+-- `picture::header::put_matrix` meets its contract.
 use native.Mathlib.Omega.{arith}
 use Rattle.codewords.specs.WriterLaws.{wrote-then, room-after}
 use lib.ListN.{length}

@@ -1,4 +1,4 @@
--- `picture::header::put_parse_code` meets its contract. Assumes nothing.
+-- `picture::header::put_parse_code` meets its contract.
 use native.Mathlib.Omega.{arith}
 use Rattle.codewords.specs.BitLaws.{length-lit}
 use Rattle.unit.specs.Unit.{parseCode}

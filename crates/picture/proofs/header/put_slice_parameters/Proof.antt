@@ -1,4 +1,4 @@
--- `picture::header::put_slice_parameters` meets its contract. Assumes nothing.
+-- `picture::header::put_slice_parameters` meets its contract.
 
 use borrow.Author.Needs.{needs}
 use Rattle.picture.proofs.header.put_slice_parameters.Statement.{statement}

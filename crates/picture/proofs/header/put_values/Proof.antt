@@ -1,4 +1,4 @@
--- `picture::header::put_values` meets its contract. The loop's invariant: the values before place i are written. Assumes nothing.
+-- `picture::header::put_values` meets its contract. The loop's invariant: the values before place i are written.
 use Rattle.codewords.specs.WriterLaws.{wrote-none, wrote-then, room-after}
 use Rattle.codewords.specs.Code.{codeU}
 use Prim.Native.Nat.{_-_, _≤_}

@@ -1,4 +1,4 @@
--- `picture::header::put_word` meets its contract. Assumes nothing.
+-- `picture::header::put_word` meets its contract.
 use native.Mathlib.Omega.{arith}
 use Rattle.codewords.specs.BitLaws.{length-lit}
 use borrow.Author.Needs.{needs}

@@ -1,4 +1,4 @@
--- `picture::header::slice_parameters_len` meets its contract. Assumes nothing.
+-- `picture::header::slice_parameters_len` meets its contract.
 use native.Mathlib.Omega.{arith}
 use lib.ListN.{length-append}
 use Rattle.codewords.specs.Code.{codeU}

@@ -1,4 +1,4 @@
--- `picture::header::uint_len` meets its contract. Assumes nothing.
+-- `picture::header::uint_len` meets its contract.
 use native.Mathlib.Omega.{arith}
 use Rattle.picture.specs.HeadLaws.{codeU-short}
 use borrow.Author.Needs.{needs}

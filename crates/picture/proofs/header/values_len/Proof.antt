@@ -1,4 +1,5 @@
--- `picture::header::values_len` meets its contract. The loop's invariant: bits counts the bits of the values before place i. Assumes nothing.
+-- `picture::header::values_len` meets its contract. The loop's invariant: bits counts the bits of the values before
+-- place i.
 use mathlib.Core.Path.{_≡_, sym, ap, _∙_}
 use mathlib.Core.List.{List}
 use Prim.Native.Nat.{ℕ, _*_, _-_, _≤_}

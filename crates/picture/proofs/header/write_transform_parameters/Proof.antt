@@ -1,4 +1,4 @@
--- `picture::header::write_transform_parameters` meets its contract. Assumes nothing.
+-- `picture::header::write_transform_parameters` meets its contract.
 use Rattle.codewords.specs.WriterLaws.{wrote-then}
 use mathlib.Core.List.{_++_}
 use Rattle.unit.specs.Parameters.{sliceParameterBits, matrixBits}

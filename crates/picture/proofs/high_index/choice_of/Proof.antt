@@ -1,4 +1,4 @@
--- `high_index::choice_of` meets its contract. Assumes nothing.
+-- `high_index::choice_of` meets its contract.
 use mathlib.Core.Path.{ap, _∙_}
 use Prim.Native.Nat.{ℕ}
 use Rattle.laws.specs.Laid.{laid}

@@ -1,4 +1,4 @@
--- `high_index::elect_qindex` meets its contract. The invariant: the least index that fits lies in the range. Assumes nothing.
+-- `high_index::elect_qindex` meets its contract. The invariant: the least index that fits lies in the range.
 use Prim.Native.Nat.{_-_, _≤_}
 use native.Mathlib.Omega.{arith}
 use Rattle.picture.specs.Picture.{numbersIn}

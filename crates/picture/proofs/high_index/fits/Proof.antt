@@ -1,4 +1,4 @@
--- `high_index::fits` meets its contract. Assumes nothing.
+-- `high_index::fits` meets its contract.
 use native.Mathlib.Omega.{arith}
 use Rattle.picture.specs.HighIndexLaws.{run-bits, alone-not}
 use borrow.Author.Needs.{needs}

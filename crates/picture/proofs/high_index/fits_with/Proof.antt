@@ -1,4 +1,4 @@
--- `high_index::fits_with` meets its contract. Assumes nothing.
+-- `high_index::fits_with` meets its contract.
 use Rattle.picture.specs.HighIndexLaws.{bits-few, fits-by}
 use borrow.Author.Needs.{needs}
 use Rattle.picture.proofs.high_index.fits_with.Statement.{statement}

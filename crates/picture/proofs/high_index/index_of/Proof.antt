@@ -1,4 +1,4 @@
--- `high_index::index_of` meets its contract. Assumes nothing.
+-- `high_index::index_of` meets its contract.
 use native.Mathlib.Omega.{arith}
 use Rattle.picture.specs.HighIndexLaws.{index-lossless, index-fixed, index-elected, index-most}
 use borrow.Author.Needs.{needs}

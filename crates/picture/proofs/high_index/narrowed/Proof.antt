@@ -1,4 +1,4 @@
--- `high_index::narrowed` meets its contract. Assumes nothing.
+-- `high_index::narrowed` meets its contract.
 use mathlib.Core.Path.{sym, ap}
 use Rattle.picture.specs.High.{halfOf}
 use borrow.Author.Needs.{needs}

@@ -1,4 +1,4 @@
--- `high_index::needs_of` meets its contract. Assumes nothing.
+-- `high_index::needs_of` meets its contract.
 use Rattle.picture.specs.HighIndexLaws.{needs-by}
 use borrow.Author.Needs.{needs}
 use Rattle.picture.proofs.high_index.needs_of.Statement.{statement}

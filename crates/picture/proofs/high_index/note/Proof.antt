@@ -1,4 +1,4 @@
--- `high_index::note` meets its contract. Assumes nothing.
+-- `high_index::note` meets its contract.
 use mathlib.Core.Path.{sym, ap}
 use lib.ListN.{set}
 use lib.Seq.{set-out}

@@ -1,4 +1,4 @@
--- `high_index::note_run` meets its contract. Assumes nothing.
+-- `high_index::note_run` meets its contract.
 use mathlib.Core.Path.{ap, _∙_}
 use mathlib.Core.List.{List}
 use Prim.Native.Nat.{_+_}

@@ -1,4 +1,4 @@
--- `high_index::noted_choice` meets its contract. Assumes nothing.
+-- `high_index::noted_choice` meets its contract.
 use mathlib.Core.Path.{_≡_, refl, ap, _∙_}
 use Prim.Native.Nat.{ℕ, _+_, _*_, _≤_, _<_}
 use lib.IntN.{pos}

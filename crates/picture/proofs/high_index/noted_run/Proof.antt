@@ -1,4 +1,4 @@
--- `high_index::noted_run` meets its contract. Assumes nothing.
+-- `high_index::noted_run` meets its contract.
 use Prim.Native.Nat.{_+_}
 use native.Mathlib.Omega.{arith}
 use Rattle.picture.specs.NotedLaws.{read-plain}

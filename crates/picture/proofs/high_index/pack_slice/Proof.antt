@@ -1,4 +1,4 @@
--- `high_index::pack_slice` meets its contract. Assumes nothing.
+-- `high_index::pack_slice` meets its contract.
 use native.Mathlib.Omega.{arith}
 use Rattle.picture.specs.PackSliceLaws.{run-after, y-ready, c1-ready, c2-ready, slice-chosen, slice-packed}
 use borrow.Author.Needs.{needs}

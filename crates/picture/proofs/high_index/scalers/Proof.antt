@@ -1,4 +1,4 @@
--- `high_index::scalers` meets its contract. Assumes nothing.
+-- `high_index::scalers` meets its contract.
 use mathlib.Core.Path.{refl}
 use Rattle.picture.specs.HighIndexLaws.{ceiling-near}
 use borrow.Author.Needs.{needs}

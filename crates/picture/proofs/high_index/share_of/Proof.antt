@@ -1,4 +1,4 @@
--- `high_index::share_of` meets its contract. Assumes nothing.
+-- `high_index::share_of` meets its contract.
 use native.Mathlib.Nat.{div-le-self}
 use Rattle.picture.specs.HighIndexLaws.{share-more, share-plain}
 use native.Mathlib.Omega.{arith}

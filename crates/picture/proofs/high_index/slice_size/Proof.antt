@@ -1,4 +1,4 @@
--- `high_index::slice_size` meets its contract. Assumes nothing.
+-- `high_index::slice_size` meets its contract.
 use Rattle.picture.specs.HighIndexLaws.{size-is}
 use borrow.Author.Needs.{needs}
 use Rattle.picture.proofs.high_index.slice_size.Statement.{statement}

@@ -1,4 +1,4 @@
--- `high_index::trimmed_run` meets its contract. Assumes nothing.
+-- `high_index::trimmed_run` meets its contract.
 use mathlib.Core.Path.{_∙_}
 use mathlib.Core.Bool.{false}
 use native.Mathlib.Omega.{arith}

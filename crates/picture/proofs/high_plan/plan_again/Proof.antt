@@ -1,4 +1,4 @@
--- `high_plan::plan_again` meets its contract. Assumes nothing.
+-- `high_plan::plan_again` meets its contract.
 use mathlib.Core.Path.{refl, sym, ap, _∙_, subst}
 use mathlib.Core.List.{List}
 use lib.IntN.{ℤ}

@@ -1,4 +1,5 @@
--- `high_plan::plan_noted_slices` meets its contract. The invariant: the slices before the k-th are planned, and the work slice is as it was. Assumes nothing.
+-- `high_plan::plan_noted_slices` meets its contract. The invariant: the slices before the k-th are planned, and the
+-- work slice is as it was.
 use mathlib.Core.Path.{_≡_, refl, sym, ap, _∙_, subst}
 use mathlib.Core.List.{List}
 use Prim.Native.Nat.{ℕ, _-_, _^_, _≤_, _<_}

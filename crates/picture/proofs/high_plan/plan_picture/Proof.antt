@@ -1,4 +1,4 @@
--- `high_plan::plan_picture` meets its contract. Assumes nothing.
+-- `high_plan::plan_picture` meets its contract.
 use mathlib.Core.Path.{subst}
 use Rattle.picture.specs.declared.high_index.Terms.{Terms}
 use Rattle.picture.specs.Picture.{slicesIn}

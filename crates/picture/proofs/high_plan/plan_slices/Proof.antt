@@ -1,4 +1,5 @@
--- `high_plan::plan_slices` meets its contract. The invariant: the slices before the k-th are planned, their words packed and their choices noted. Assumes nothing.
+-- `high_plan::plan_slices` meets its contract. The invariant: the slices before the k-th are planned, their words
+-- packed and their choices noted.
 use mathlib.Core.Path.{_≡_, subst}
 use Prim.Native.Nat.{ℕ, _-_, _≤_, _<_}
 use Rattle.picture.specs.Picture.{slicesIn}

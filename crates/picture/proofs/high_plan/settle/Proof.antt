@@ -1,5 +1,5 @@
--- `high_plan::settle` meets its contract. The invariant: r is the plan with scaler c, whose choices are noted, and the turns from c end where those
--- from the first scaler do. Assumes nothing.
+-- `high_plan::settle` meets its contract. The invariant: r is the plan with scaler c, whose choices are noted, and the
+-- turns from c end where those from the first scaler do.
 use mathlib.Core.Path.{refl, _∙_}
 use Prim.Native.Nat.{_-_, _^_}
 use Rattle.picture.specs.Picture.{slicesIn}

@@ -1,4 +1,4 @@
--- `high_plan::terms_of` meets its contract. Assumes nothing.
+-- `high_plan::terms_of` meets its contract.
 use Rattle.picture.specs.HighPlanLaws.{terms-are}
 use borrow.Author.Needs.{needs}
 use Rattle.picture.proofs.high_plan.terms_of.Statement.{statement}

@@ -1,4 +1,4 @@
--- `high_slice::put_component` meets its contract. Assumes nothing.
+-- `high_slice::put_component` meets its contract.
 use mathlib.Core.Path.{ap, _∙_}
 use Prim.Native.Nat.{ℕ}
 use native.Mathlib.Omega.{arith}

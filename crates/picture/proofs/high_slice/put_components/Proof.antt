@@ -1,4 +1,4 @@
--- `high_slice::put_components` meets its contract. Assumes nothing.
+-- `high_slice::put_components` meets its contract.
 use borrow.Author.Needs.{needs}
 use Rattle.picture.specs.High.{numbersAt}
 use Rattle.picture.specs.HighSliceLaws.{y-room, c1-room, c2-room, three-wrote}

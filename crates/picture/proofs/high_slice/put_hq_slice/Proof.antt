@@ -1,4 +1,4 @@
--- `high_slice::put_hq_slice` meets its contract. Assumes nothing.
+-- `high_slice::put_hq_slice` meets its contract.
 use native.Mathlib.Omega.{arith}
 use borrow.Author.Needs.{needs}
 use Rattle.picture.specs.High.{numbersAt}

@@ -1,4 +1,5 @@
--- `high_slice::put_hq_slices` meets its contract. The loop's invariant: k slices are written, and the work slice is as it was. Assumes nothing.
+-- `high_slice::put_hq_slices` meets its contract. The loop's invariant: k slices are written, and the work slice is as
+-- it was.
 use mathlib.Core.Path.{_≡_, refl, sym, ap, _∙_, subst}
 use mathlib.Core.List.{List}
 use Prim.Native.Nat.{_+_, _-_, _≤_, _<_}

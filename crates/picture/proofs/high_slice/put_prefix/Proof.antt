@@ -1,4 +1,4 @@
--- `high_slice::put_prefix` meets its contract. The loop's invariant: i bytes are written. Assumes nothing.
+-- `high_slice::put_prefix` meets its contract. The loop's invariant: i bytes are written.
 use Prim.Native.Nat.{_*_, _-_, _≤_}
 use native.Mathlib.Omega.{arith}
 use Rattle.codewords.specs.Bit.{zeroBits}

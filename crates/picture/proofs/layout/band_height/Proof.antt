@@ -1,4 +1,4 @@
--- `layout::band_height` meets its contract. Assumes nothing.
+-- `layout::band_height` meets its contract.
 use mathlib.Core.Path.{refl}
 use borrow.Author.Tests.{le-leb, lt-leb}
 use borrow.Author.Needs.{needs}

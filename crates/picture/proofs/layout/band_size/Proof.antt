@@ -1,4 +1,4 @@
--- `layout::band_size` meets its contract. Assumes nothing.
+-- `layout::band_size` meets its contract.
 use native.Mathlib.Omega.{arith}
 use mathlib.Core.Path.{refl}
 use Rattle.picture.specs.LayoutLaws.{level-most}

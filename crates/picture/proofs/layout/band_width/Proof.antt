@@ -1,4 +1,4 @@
--- `layout::band_width` meets its contract. Assumes nothing.
+-- `layout::band_width` meets its contract.
 use mathlib.Core.Path.{refl}
 use borrow.Author.Tests.{eq-eqb, ne-eqb}
 use borrow.Author.Needs.{needs}

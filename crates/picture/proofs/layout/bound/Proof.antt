@@ -1,4 +1,4 @@
--- `layout::bound` meets its contract. Assumes nothing.
+-- `layout::bound` meets its contract.
 use native.Mathlib.Nat.{mul-le-mul}
 use native.Mathlib.Omega.{arith}
 use borrow.Author.Needs.{needs}

@@ -1,4 +1,4 @@
--- `layout::first_of` meets its contract. Assumes nothing.
+-- `layout::first_of` meets its contract.
 use mathlib.Core.Path.{refl}
 use borrow.Author.Needs.{needs}
 use Rattle.picture.proofs.layout.first_of.Statement.{statement}

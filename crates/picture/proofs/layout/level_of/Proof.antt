@@ -1,4 +1,4 @@
--- `layout::level_of` meets its contract. Assumes nothing.
+-- `layout::level_of` meets its contract.
 use mathlib.Core.Path.{sym}
 use Rattle.picture.specs.LayoutLaws.{level-low, level-high}
 use borrow.Author.Needs.{needs}

@@ -1,4 +1,4 @@
--- `layout::next_window` meets its contract. Assumes nothing.
+-- `layout::next_window` meets its contract.
 use mathlib.Core.Path.{_∙_}
 use Rattle.picture.specs.LayoutLaws.{window-same}
 use borrow.Author.Needs.{needs}

@@ -1,4 +1,4 @@
--- `layout::strip_in` meets its contract. Assumes nothing.
+-- `layout::strip_in` meets its contract.
 use Rattle.picture.specs.LayoutLaws.{strip-by}
 use borrow.Author.Needs.{needs}
 use Rattle.picture.proofs.layout.strip_in.Statement.{statement}

@@ -1,4 +1,4 @@
--- `layout::window_at` meets its contract. Assumes nothing.
+-- `layout::window_at` meets its contract.
 use mathlib.Core.Path.{ap}
 use native.Mathlib.Omega.{arith}
 use Rattle.unit.specs.Sizes.{Size}

@@ -1,4 +1,4 @@
--- `low_index::bits_with` meets its contract. Assumes nothing.
+-- `low_index::bits_with` meets its contract.
 use mathlib.Core.Path.{ap₂}
 use Prim.Native.Nat.{_+_}
 use Rattle.picture.specs.declared.high_index.Trimmed.{Trimmed}

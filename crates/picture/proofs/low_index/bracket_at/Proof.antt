@@ -1,5 +1,5 @@
--- `low_index::bracket_at` meets its contract. The invariant: the runs at hand are known, and what the candidates left in the work slice is
--- rebuilt as if none had been tried. Assumes nothing.
+-- `low_index::bracket_at` meets its contract. The invariant: the runs at hand are known, and what the candidates left
+-- in the work slice is rebuilt as if none had been tried.
 use mathlib.Core.Logic.{⊎-elim}
 use Prim.Native.Nat.{_≤_}
 use Rattle.picture.specs.Low.{Tried}

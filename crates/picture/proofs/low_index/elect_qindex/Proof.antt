@@ -1,5 +1,5 @@
--- `low_index::elect_qindex` meets its contract. The invariant: the search in the range ends where the whole one does, what the candidates
--- left in the work slice is rebuilt as if none had been tried, and the runs at hand are known. Assumes nothing.
+-- `low_index::elect_qindex` meets its contract. The invariant: the search in the range ends where the whole one does,
+-- what the candidates left in the work slice is rebuilt as if none had been tried, and the runs at hand are known.
 use mathlib.Core.Path.{ap, _∙_}
 use mathlib.Core.Bool.{Bool}
 use Prim.Native.Nat.{ℕ, _-_}

@@ -1,4 +1,4 @@
--- `low_index::first_tallies` meets its contract. Assumes nothing.
+-- `low_index::first_tallies` meets its contract.
 use mathlib.Core.Path.{ap}
 use Rattle.picture.specs.declared.low_index.Windows.{Windows}
 use Rattle.picture.specs.PictureLaws.{run-y, run-pair}

@@ -1,4 +1,4 @@
--- `low_index::fits` meets its contract. Assumes nothing.
+-- `low_index::fits` meets its contract.
 use Rattle.picture.specs.Picture.{Arranged}
 use Rattle.picture.specs.LowRest.{Known}
 use Rattle.picture.specs.LowRestLaws.{known-rebuilt, joins-both, surely-either, never-either, fits-low, fits-high}

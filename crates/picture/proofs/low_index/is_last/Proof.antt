@@ -1,4 +1,4 @@
--- `low_index::is_last` meets its contract. Assumes nothing.
+-- `low_index::is_last` meets its contract.
 use Rattle.picture.specs.LowIndexLaws.{last-yes, last-no}
 use Rattle.picture.proofs.low_index.is_last.Statement.{statement}
 use Rattle.picture.proofs.low_index.is_last.Tie as tie

@@ -1,4 +1,4 @@
--- `low_index::joined` meets its contract. Assumes nothing.
+-- `low_index::joined` meets its contract.
 use mathlib.Core.Path.{_∙_}
 use Rattle.picture.specs.LowRestLaws.{joined-none, joined-some}
 use borrow.Author.Needs.{needs}

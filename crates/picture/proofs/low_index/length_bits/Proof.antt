@@ -1,4 +1,4 @@
--- `low_index::length_bits` meets its contract. Assumes nothing.
+-- `low_index::length_bits` meets its contract.
 use native.Mathlib.Omega.{arith}
 use Rattle.picture.specs.LowIndexLaws.{length-few}
 use borrow.Author.Needs.{needs}

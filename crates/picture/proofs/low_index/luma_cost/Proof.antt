@@ -1,4 +1,4 @@
--- `low_index::luma_cost` meets its contract. Assumes nothing.
+-- `low_index::luma_cost` meets its contract.
 use mathlib.Core.Path.{ap, _∙_}
 use Rattle.picture.specs.declared.cost.Cost.{Cost}
 use Rattle.picture.specs.Cost.{addAll}

@@ -1,4 +1,4 @@
--- `low_index::probe_at` meets its contract. Assumes nothing.
+-- `low_index::probe_at` meets its contract.
 use Rattle.picture.specs.LowRestLaws.{joins-both}
 use borrow.Author.Needs.{needs}
 use Rattle.picture.proofs.low_index.probe_at.Statement.{statement}

@@ -1,4 +1,4 @@
--- `low_index::rebuild_planes` meets its contract. Assumes nothing.
+-- `low_index::rebuild_planes` meets its contract.
 use mathlib.Core.Path.{ap, _∙_}
 use Rattle.picture.specs.declared.low_index.Windows.{Windows}
 use Rattle.picture.specs.PictureLaws.{run-y, run-c1, run-c2}

@@ -1,4 +1,4 @@
--- `low_index::rest_run` meets its contract. Assumes nothing.
+-- `low_index::rest_run` meets its contract.
 use mathlib.Core.Path.{_∙_}
 use Prim.Native.Nat.{_-_}
 use Rattle.picture.specs.Layout.{restNumbers, bandCount}

@@ -1,4 +1,4 @@
--- `low_index::room_of` meets its contract. Assumes nothing.
+-- `low_index::room_of` meets its contract.
 use native.Mathlib.Omega.{arith}
 use Rattle.picture.specs.LowIndexLaws.{length-most}
 use borrow.Author.Needs.{needs}

@@ -1,4 +1,4 @@
--- `low_index::slice_bytes` meets its contract. Assumes nothing.
+-- `low_index::slice_bytes` meets its contract.
 use Prim.Native.Nat.{_+_}
 use native.Mathlib.Omega.{arith}
 use Rattle.picture.specs.LowIndexLaws.{product-few, bytes-rise, bytes-are}

@@ -1,4 +1,4 @@
--- `low_index::surely_fits` meets its contract. Assumes nothing.
+-- `low_index::surely_fits` meets its contract.
 use mathlib.Core.Path.{ap}
 use Prim.Native.Nat.{ℕ}
 use lib.Dec.{leb}

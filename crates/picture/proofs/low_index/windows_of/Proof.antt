@@ -1,4 +1,4 @@
--- `low_index::windows_of` meets its contract. Assumes nothing.
+-- `low_index::windows_of` meets its contract.
 use mathlib.Core.Path.{ap₂}
 use native.Mathlib.Omega.{arith}
 use Rattle.picture.specs.declared.layout.Window.{Window}

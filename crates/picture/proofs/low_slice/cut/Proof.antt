@@ -1,4 +1,4 @@
--- `low_slice::cut` meets its contract. Assumes nothing.
+-- `low_slice::cut` meets its contract.
 use Rattle.picture.specs.Low.{lumaIn, colourIn}
 use Rattle.picture.specs.LowSliceLaws.{cut-fits, kept-cut}
 use borrow.Author.Needs.{needs}

@@ -1,4 +1,4 @@
--- `low_slice::kept_runs` meets its contract. Assumes nothing.
+-- `low_slice::kept_runs` meets its contract.
 use mathlib.Core.Path.{_∙_}
 use Rattle.picture.specs.Low.{lumaIn, colourIn}
 use Rattle.picture.specs.LowRestLaws.{joins-both, joined-few, luma-whole, colour-whole}

@@ -1,4 +1,4 @@
--- `low_slice::put_ld_slice` meets its contract. Assumes nothing.
+-- `low_slice::put_ld_slice` meets its contract.
 use native.Mathlib.Omega.{arith}
 use Rattle.picture.specs.LowSliceLaws.{length-room, runs-room, ones-room, flush-room, slice-laid}
 use borrow.Author.Needs.{needs}

@@ -1,4 +1,4 @@
--- `low_slice::put_ld_slices` meets its contract. The loop's invariant: the slices before the k-th are coded. Assumes nothing.
+-- `low_slice::put_ld_slices` meets its contract. The loop's invariant: the slices before the k-th are coded.
 use mathlib.Core.Path.{_≡_, ap, _∙_}
 use Prim.Native.Nat.{_-_, _<_}
 use lib.ListN.{length}

@@ -1,4 +1,4 @@
--- `low_slice::put_runs` meets its contract. Assumes nothing.
+-- `low_slice::put_runs` meets its contract.
 use lib.ListN.{take}
 use Rattle.codewords.specs.Bit.{Bits}
 use Rattle.codewords.specs.Code.{codes}

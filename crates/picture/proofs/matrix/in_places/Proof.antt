@@ -1,4 +1,4 @@
--- `matrix::in_places` meets its contract. The invariant: the first i values stand in their places. Assumes nothing.
+-- `matrix::in_places` meets its contract. The invariant: the first i values stand in their places.
 use mathlib.Core.Path.{_≡_, refl}
 use Prim.Native.Nat.{_-_, _≤_}
 use lib.ListN.{length}

@@ -1,4 +1,4 @@
--- `matrix::matrix_values` meets its contract. Assumes nothing.
+-- `matrix::matrix_values` meets its contract.
 use mathlib.Core.Path.{sym, ap, _∙_}
 use Rattle.quantiser.specs.Default.{places}
 use Rattle.picture.specs.SidesLaws.{custom-few, custom-values, by-default, default-values}

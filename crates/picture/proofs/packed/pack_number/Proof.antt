@@ -1,4 +1,4 @@
--- `picture::packed::pack_number` meets its contract. Assumes nothing.
+-- `picture::packed::pack_number` meets its contract.
 use mathlib.Core.Path.{refl, ap, ap₂, _∙_}
 use mathlib.Core.List.{List}
 use Prim.Native.Nat.{ℕ, _+_, _<_}

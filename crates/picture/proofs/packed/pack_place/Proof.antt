@@ -1,4 +1,4 @@
--- `picture::packed::pack_place` meets its contract. Assumes nothing.
+-- `picture::packed::pack_place` meets its contract.
 use mathlib.Core.Path.{_≡_, ap, _∙_}
 use mathlib.Core.List.{[], _∷_}
 use native.Mathlib.Omega.{arith}

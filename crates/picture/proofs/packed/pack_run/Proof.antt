@@ -1,5 +1,5 @@
--- `picture::packed::pack_run` meets its contract. The invariant: the bands before the n-th are packed, start is their area, and v is the window of the
--- band before. Assumes nothing.
+-- `picture::packed::pack_run` meets its contract. The invariant: the bands before the n-th are packed, start is their
+-- area, and v is the window of the band before.
 use mathlib.Core.Path.{_≡_, sym, ap}
 use mathlib.Core.Bool.{false}
 use Prim.Native.Nat.{_-_, _≤_}

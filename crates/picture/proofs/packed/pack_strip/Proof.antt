@@ -1,4 +1,4 @@
--- `picture::packed::pack_strip` meets its contract. The loop's invariant: the rows above y are packed. Assumes nothing.
+-- `picture::packed::pack_strip` meets its contract. The loop's invariant: the rows above y are packed.
 use mathlib.Core.Path.{_≡_, sym, ap, _∙_}
 use Prim.Native.Nat.{_-_, _≤_}
 use native.Mathlib.Omega.{arith}

@@ -1,4 +1,4 @@
--- `picture::packed::pack_zeros` meets its contract. Assumes nothing.
+-- `picture::packed::pack_zeros` meets its contract.
 use mathlib.Core.Path.{ap, _∙_}
 use Prim.Native.Nat.{_+_}
 use native.Mathlib.Omega.{arith}

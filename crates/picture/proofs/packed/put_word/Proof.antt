@@ -1,4 +1,4 @@
--- `picture::packed::put_word` meets its contract. Assumes nothing.
+-- `picture::packed::put_word` meets its contract.
 use mathlib.Core.Path.{_≡_, ap₂, _∙_}
 use Prim.Native.Nat.{_-_, _≤_, _<_}
 use native.Mathlib.Omega.{arith}

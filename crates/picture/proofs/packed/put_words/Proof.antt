@@ -1,4 +1,4 @@
--- `picture::packed::put_words` meets its contract. The loop's invariant: i words are written. Assumes nothing.
+-- `picture::packed::put_words` meets its contract. The loop's invariant: i words are written.
 use mathlib.Core.Path.{_≡_}
 use Prim.Native.Nat.{_+_, _-_, _≤_}
 use native.Mathlib.Omega.{arith}

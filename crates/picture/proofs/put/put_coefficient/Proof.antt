@@ -1,4 +1,4 @@
--- `put::put_coefficient` meets its contract. Assumes nothing.
+-- `put::put_coefficient` meets its contract.
 use mathlib.Core.Path.{_≡_, _∙_}
 use mathlib.Core.List.{[], _∷_}
 use native.Mathlib.Omega.{arith}

@@ -1,4 +1,4 @@
--- `picture::put::put_number` meets its contract. Assumes nothing.
+-- `picture::put::put_number` meets its contract.
 use native.Mathlib.Omega.{arith}
 use mir.Syntax.{w64}
 use mir.Facts.{toZ-ofZ}

@@ -1,4 +1,4 @@
--- `picture::put::put_place` meets its contract. Assumes nothing.
+-- `picture::put::put_place` meets its contract.
 use mathlib.Core.Path.{sym, _∙_}
 use mir.Syntax.{w64}
 use mir.Val.{toZ, ofZ}

@@ -1,4 +1,4 @@
--- `put::put_plain_place` meets its contract. Assumes nothing.
+-- `put::put_plain_place` meets its contract.
 use mathlib.Core.Path.{sym}
 use mathlib.Core.List.{[], _∷_, _++_}
 use Rattle.quantiser.specs.Quant.{forwardBy}

@@ -1,4 +1,4 @@
--- `put::put_plain_places` meets its contract. The loop's invariant: the places left of x are written. Assumes nothing.
+-- `put::put_plain_places` meets its contract. The loop's invariant: the places left of x are written.
 use mathlib.Core.Path.{_≡_, sym, ap, _∙_}
 use Prim.Native.Nat.{_+_, _-_, _≤_}
 use Rattle.laws.specs.Chunks.{chunks}

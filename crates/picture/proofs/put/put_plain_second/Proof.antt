@@ -1,4 +1,4 @@
--- `put::put_plain_second` meets its contract. Assumes nothing.
+-- `put::put_plain_second` meets its contract.
 use mathlib.Core.Path.{sym}
 use Rattle.picture.specs.Run.{secondNumber}
 use Rattle.picture.specs.RunLaws.{numbered-second, second-none}

@@ -1,4 +1,4 @@
--- `picture::put::put_row` meets its contract. Assumes nothing.
+-- `picture::put::put_row` meets its contract.
 use borrow.Author.Needs.{needs}
 use Prim.Native.Nat.{_-_}
 use Rattle.picture.specs.Run.{rowNumbers}

@@ -1,4 +1,4 @@
--- `picture::put::put_rows` meets its contract. The loop's invariant: the rows above y are written. Assumes nothing.
+-- `picture::put::put_rows` meets its contract. The loop's invariant: the rows above y are written.
 use mathlib.Core.Path.{_≡_, sym, ap, _∙_}
 use Prim.Native.Nat.{_+_, _-_, _≤_}
 use Rattle.laws.specs.Chunks.{chunks}

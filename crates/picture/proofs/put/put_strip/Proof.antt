@@ -1,4 +1,4 @@
--- `picture::put::put_strip` meets its contract. Assumes nothing.
+-- `picture::put::put_strip` meets its contract.
 use borrow.Author.Needs.{needs}
 use Rattle.picture.specs.Run.{stripNumbers}
 use Rattle.picture.specs.PutLaws.{puts-past}

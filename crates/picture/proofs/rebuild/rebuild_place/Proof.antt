@@ -1,4 +1,4 @@
--- `picture::rebuild::rebuild_place` meets its contract. Assumes nothing.
+-- `picture::rebuild::rebuild_place` meets its contract.
 use mathlib.Core.Path.{ap, _∙_}
 use Prim.Native.Nat.{ℕ, _+_, _*_, _-_}
 use mir.Syntax.{w64}

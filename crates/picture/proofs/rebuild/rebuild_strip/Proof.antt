@@ -1,4 +1,4 @@
--- `picture::rebuild::rebuild_strip` meets its contract. The loop's invariant: the rows above y are rebuilt. Assumes nothing.
+-- `picture::rebuild::rebuild_strip` meets its contract. The loop's invariant: the rows above y are rebuilt.
 use mathlib.Core.Path.{_≡_, ap, _∙_}
 use Prim.Native.Nat.{_-_, _≤_}
 use lib.ListN.{length}

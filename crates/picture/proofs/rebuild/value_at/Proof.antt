@@ -1,4 +1,4 @@
--- `picture::rebuild::value_at` meets its contract. Assumes nothing.
+-- `picture::rebuild::value_at` meets its contract.
 use mathlib.Core.Path.{_≡_, ap, ap₂, _∙_}
 use lib.IntN.{_+ℤ_}
 use mir.Syntax.{w64}

@@ -1,4 +1,5 @@
--- `refusal::any_above` meets its contract. The invariant: what is asked of all values is asked of those from place i on. Assumes nothing.
+-- `refusal::any_above` meets its contract. The invariant: what is asked of all values is asked of those from place i
+-- on.
 use mathlib.Core.Path.{_≡_, refl, _∙_}
 use Prim.Native.Nat.{_-_, _≤_}
 use lib.ListN.{length, drop}

@@ -1,4 +1,4 @@
--- `refusal::bad_area` meets its contract. Assumes nothing.
+-- `refusal::bad_area` meets its contract.
 use mathlib.Core.Path.{ap, _∙_}
 use lib.Dec.{ltb}
 use Prim.Native.Nat.{ℕ}

@@ -1,4 +1,4 @@
--- `refusal::bad_matrix` meets its contract. Assumes nothing.
+-- `refusal::bad_matrix` meets its contract.
 use mathlib.Core.Path.{_≡_, sym, _∙_}
 use mathlib.Core.Bool.{true, false}
 use lib.Dec.{eqb}

@@ -1,4 +1,4 @@
--- `refusal::bad_planes` meets its contract. Assumes nothing.
+-- `refusal::bad_planes` meets its contract.
 use mathlib.Core.Path.{_≡_, ap, _∙_}
 use mathlib.Core.Bool.{or-assoc}
 use Rattle.unit.specs.Sizes.{Size, area, lumaSize, colourSize}

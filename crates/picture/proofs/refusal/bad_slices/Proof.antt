@@ -1,4 +1,4 @@
--- `refusal::bad_slices` meets its contract. Assumes nothing.
+-- `refusal::bad_slices` meets its contract.
 use mathlib.Core.Path.{_∙_}
 use mathlib.Core.Bool.{or-assoc}
 use lib.Dec.{ltb}

@@ -1,4 +1,4 @@
--- `refusal::bad_target` meets its contract. Assumes nothing.
+-- `refusal::bad_target` meets its contract.
 
 use borrow.Author.Needs.{needs}
 use Rattle.picture.proofs.refusal.bad_target.Statement.{statement}

@@ -1,4 +1,4 @@
--- `refusal::no_matrix` meets its contract. Assumes nothing.
+-- `refusal::no_matrix` meets its contract.
 use Rattle.picture.specs.SidesLaws.{default-missing}
 use borrow.Author.Needs.{needs}
 use Rattle.picture.proofs.refusal.no_matrix.Statement.{statement}

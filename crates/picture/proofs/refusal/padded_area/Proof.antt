@@ -1,4 +1,4 @@
--- `refusal::padded_area` meets its contract. Assumes nothing.
+-- `refusal::padded_area` meets its contract.
 use mathlib.Core.Path.{_≡_, ap, _∙_}
 use Rattle.unit.specs.Sizes.{Size, area}
 use Rattle.unit.specs.Refusal.{paddedArea}

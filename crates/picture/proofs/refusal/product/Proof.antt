@@ -1,4 +1,4 @@
--- `refusal::product` meets its contract. Assumes nothing.
+-- `refusal::product` meets its contract.
 use Rattle.picture.specs.SidesLaws.{product-fits}
 use native.Mathlib.Omega.{arith}
 use borrow.Author.Needs.{needs}

@@ -1,4 +1,4 @@
--- `refusal::refusal` meets its contract: each answer comes after the rules before it. Assumes nothing.
+-- `refusal::refusal` meets its contract: each answer comes after the rules before it.
 use mathlib.Core.Path.{sym, _∙_}
 use mathlib.Core.Bool.{Bool}
 use mathlib.Core.List.{List}

@@ -1,4 +1,4 @@
--- `refusal::short_work` meets its contract. Assumes nothing.
+-- `refusal::short_work` meets its contract.
 use mathlib.Core.Path.{_≡_, refl, ap, _∙_}
 use Rattle.unit.specs.Sizes.{Size, lumaSize, colourSize}
 use Rattle.unit.specs.Refusal.{paddedArea, workNeeded}

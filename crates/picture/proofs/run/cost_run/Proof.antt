@@ -1,4 +1,4 @@
--- `run::cost_run` meets its contract. The invariant: the bands before the n-th are added, and start is their area. Assumes nothing.
+-- `run::cost_run` meets its contract. The invariant: the bands before the n-th are added, and start is their area.
 use mathlib.Core.Path.{_≡_, sym, ap, _∙_}
 use Prim.Native.Nat.{_-_, _≤_}
 use Rattle.picture.specs.Cost.{addAll}

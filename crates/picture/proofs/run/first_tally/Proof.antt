@@ -1,4 +1,4 @@
--- `run::first_tally` meets its contract. Assumes nothing.
+-- `run::first_tally` meets its contract.
 use mathlib.Core.Path.{ap, _∙_}
 use Rattle.picture.specs.declared.strip.Strip.{Strip}
 use Rattle.picture.specs.Run.{stripNumbers}

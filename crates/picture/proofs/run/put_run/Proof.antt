@@ -1,5 +1,5 @@
--- `run::put_run` meets its contract. The invariant: the bands before the n-th are written, start is their area, and v is the window of the band
--- before. Assumes nothing.
+-- `run::put_run` meets its contract. The invariant: the bands before the n-th are written, start is their area, and v
+-- is the window of the band before.
 use mathlib.Core.Path.{_≡_, sym, ap}
 use Prim.Native.Nat.{_-_, _≤_}
 use Rattle.picture.specs.Put.{Puts}

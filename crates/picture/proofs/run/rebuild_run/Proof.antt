@@ -1,4 +1,4 @@
--- `run::rebuild_run` meets its contract. Assumes nothing.
+-- `run::rebuild_run` meets its contract.
 use Rattle.picture.specs.LayoutLaws.{first-within}
 use mathlib.Core.Bool.{false}
 use mathlib.Core.Path.{_∙_, ap}

@@ -1,5 +1,5 @@
--- `run::rest_tally` meets its contract. The invariant: the bands before the n-th but the first are added, start is the area of all before it, and v
--- is the window of the band before. Assumes nothing.
+-- `run::rest_tally` meets its contract. The invariant: the bands before the n-th but the first are added, start is the
+-- area of all before it, and v is the window of the band before.
 use mathlib.Core.Path.{_≡_, ap, _∙_}
 use Prim.Native.Nat.{_-_, _≤_}
 use Rattle.picture.specs.Tally.{tallyAll}

@@ -1,4 +1,4 @@
--- `sizes::colour_size` meets its contract. Assumes nothing.
+-- `sizes::colour_size` meets its contract.
 use mathlib.Core.Path.{refl}
 use Rattle.unit.specs.Sizes.{colourSize}
 use borrow.Author.Needs.{needs}

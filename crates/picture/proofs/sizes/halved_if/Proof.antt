@@ -1,4 +1,4 @@
--- `sizes::halved_if` meets its contract. Assumes nothing.
+-- `sizes::halved_if` meets its contract.
 
 use borrow.Author.Needs.{needs}
 use Rattle.picture.proofs.sizes.halved_if.Statement.{statement}

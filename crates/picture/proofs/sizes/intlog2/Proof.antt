@@ -1,4 +1,4 @@
--- `sizes::intlog2` meets its contract. The invariant: the power is 2^m, and m is not above the answer. Assumes nothing.
+-- `sizes::intlog2` meets its contract. The invariant: the power is 2^m, and m is not above the answer.
 use mathlib.Core.Path.{_≡_, refl}
 use Prim.Native.Nat.{_-_, _^_, _≤_, _<_}
 use native.Mathlib.Nat.{pow-suc}

@@ -1,4 +1,4 @@
--- `sizes::luma_size` meets its contract. Assumes nothing.
+-- `sizes::luma_size` meets its contract.
 use mathlib.Core.Path.{refl}
 use Rattle.unit.specs.Sizes.{lumaSize}
 use borrow.Author.Needs.{needs}

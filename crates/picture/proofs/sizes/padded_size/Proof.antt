@@ -1,4 +1,4 @@
--- `sizes::padded_size` meets its contract. Assumes nothing.
+-- `sizes::padded_size` meets its contract.
 use native.Mathlib.Omega.{arith}
 use Prim.Native.Nat.{_+_}
 use mathlib.Core.Path.{refl}

@@ -1,4 +1,4 @@
--- `strip::coefficient` meets its contract. Assumes nothing.
+-- `strip::coefficient` meets its contract.
 use Prim.Native.Nat.{ℕ, _+_, _*_}
 use native.Mathlib.Omega.{arith}
 use Rattle.picture.specs.RunLaws.{read}

@@ -1,4 +1,4 @@
--- `picture::strip::dc_predict` meets its contract. Assumes nothing.
+-- `picture::strip::dc_predict` meets its contract.
 use mathlib.Core.Path.{_≡_, _∙_}
 use mathlib.Core.List.{List}
 use Prim.Native.Nat.{ℕ, _+_, _*_, _-_, _^_, _<_, _≤_}

@@ -1,4 +1,4 @@
--- `picture::strip::mean3` meets its contract. Assumes nothing.
+-- `picture::strip::mean3` meets its contract.
 use Prim.Native.Nat.{_^_, _<_, _≤_}
 use lib.IntN.{ℤ, pos, natAbs, _+ℤ_, _-ℤ_}
 use mir.Syntax.{w64}

@@ -1,4 +1,4 @@
--- `picture::strip::number_at` meets its contract. Assumes nothing.
+-- `picture::strip::number_at` meets its contract.
 use mathlib.Core.Path.{ap, _∙_}
 use mir.Syntax.{w64}
 use mir.Facts.{toZ-ofZ}

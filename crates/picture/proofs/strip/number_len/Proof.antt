@@ -1,4 +1,4 @@
--- `picture::strip::number_len` meets its contract. Assumes nothing.
+-- `picture::strip::number_len` meets its contract.
 use mathlib.Core.Path.{ap, _∙_}
 use lib.IntN.{ℤ}
 use lib.ListN.{length}

@@ -1,4 +1,4 @@
--- `picture::strip::prediction` meets its contract. Assumes nothing.
+-- `picture::strip::prediction` meets its contract.
 use mathlib.Core.Path.{_∙_}
 use native.Mathlib.Omega.{arith}
 use mir.Syntax.{w64}

@@ -1,4 +1,4 @@
--- `picture::strip::residual` meets its contract. Assumes nothing.
+-- `picture::strip::residual` meets its contract.
 use mathlib.Core.Path.{_≡_, ap, _∙_}
 use Prim.Native.Nat.{ℕ, _+_, _*_}
 use lib.IntN.{ℤ, _-ℤ_}

@@ -1,4 +1,4 @@
--- `tally::add_coefficient` meets its contract. Assumes nothing.
+-- `tally::add_coefficient` meets its contract.
 use mathlib.Core.Path.{ap, _∙_}
 use native.Mathlib.Omega.{arith}
 use lib.IntN.{ℤ}

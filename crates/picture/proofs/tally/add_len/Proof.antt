@@ -1,4 +1,4 @@
--- `tally::add_len` meets its contract. Assumes nothing.
+-- `tally::add_len` meets its contract.
 use borrow.Author.Tests.{ne-eqb}
 use Rattle.picture.specs.TallyLaws.{tallied-yes, tallied-no}
 use borrow.Author.Needs.{needs}

@@ -1,4 +1,4 @@
--- `tally::add_place` meets its contract. Assumes nothing.
+-- `tally::add_place` meets its contract.
 use Rattle.picture.specs.Run.{planeFrom}
 use Rattle.picture.specs.RunLaws.{numbered, number-by}
 use Rattle.picture.specs.AddedLaws.{place-added}

@@ -1,4 +1,4 @@
--- `tally::add_row` meets its contract. The loop's invariant: the places left of x are added. Assumes nothing.
+-- `tally::add_row` meets its contract. The loop's invariant: the places left of x are added.
 use mathlib.Core.Path.{_≡_}
 use Prim.Native.Nat.{ℕ, _+_, _-_, _≤_}
 use Rattle.laws.specs.Chunks.{chunks}

@@ -1,4 +1,4 @@
--- `tally::add_second` meets its contract. Assumes nothing.
+-- `tally::add_second` meets its contract.
 use Rattle.picture.specs.RunLaws.{numbered-second}
 use Rattle.picture.specs.AddedLaws.{second-yes, second-no}
 use Rattle.picture.specs.Tally.{tally1}

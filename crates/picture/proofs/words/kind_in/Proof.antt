@@ -1,4 +1,4 @@
--- `words::kind_in` meets its contract. Assumes nothing.
+-- `words::kind_in` meets its contract.
 use Rattle.picture.specs.WordsLaws.{kind-high}
 use borrow.Author.Needs.{needs}
 use Rattle.picture.proofs.words.kind_in.Statement.{statement}

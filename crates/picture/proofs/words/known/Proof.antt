@@ -1,4 +1,4 @@
--- `words::known` meets its contract. Assumes nothing.
+-- `words::known` meets its contract.
 use Rattle.picture.specs.WordsLaws.{known-short, known-by}
 use borrow.Author.Needs.{needs}
 use Rattle.picture.proofs.words.known.Statement.{statement}

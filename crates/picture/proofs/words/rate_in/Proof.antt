@@ -1,4 +1,4 @@
--- `words::rate_in` meets its contract. Assumes nothing.
+-- `words::rate_in` meets its contract.
 use Rattle.picture.specs.WordsLaws.{rate-bytes}
 use borrow.Author.Needs.{needs}
 use Rattle.picture.proofs.words.rate_in.Statement.{statement}

@@ -1,4 +1,4 @@
--- `words::settings_of` meets its contract: known words are 21. Assumes nothing.
+-- `words::settings_of` meets its contract: known words are 21.
 use mathlib.Core.Path.{_≡_, refl}
 use lib.ListN.{length}
 use native.Mathlib.Omega.{arith}

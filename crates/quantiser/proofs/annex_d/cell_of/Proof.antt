@@ -1,4 +1,4 @@
--- `quantiser::annex_d::cell_of` meets its contract. Assumes nothing.
+-- `quantiser::annex_d::cell_of` meets its contract.
 use borrow.Author.Needs.{needs}
 use Rattle.quantiser.specs.CellLaws.{PlaceAt, place, cell-past}
 use Rattle.quantiser.proofs.annex_d.cell_of.Statement.{statement}

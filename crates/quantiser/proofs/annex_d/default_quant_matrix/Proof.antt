@@ -1,4 +1,4 @@
--- `quantiser::annex_d::default_quant_matrix` meets its contract. Assumes nothing.
+-- `quantiser::annex_d::default_quant_matrix` meets its contract.
 use borrow.Author.Needs.{needs}
 use Rattle.quantiser.specs.CellLaws.{no-table, no-matrix, is-matrix}
 use Rattle.quantiser.proofs.annex_d.default_quant_matrix.Statement.{statement}

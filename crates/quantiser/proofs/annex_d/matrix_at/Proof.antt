@@ -1,4 +1,4 @@
--- `quantiser::annex_d::matrix_at` meets its contract. The invariant: the first i values stand in their places. Assumes nothing.
+-- `quantiser::annex_d::matrix_at` meets its contract. The invariant: the first i values stand in their places.
 use mathlib.Core.Path.{_≡_, refl}
 use Prim.Native.Nat.{_-_, _≤_}
 use native.Mathlib.Omega.{arith}

@@ -1,4 +1,4 @@
--- `quantiser::annex_d::table_of` meets its contract. Assumes nothing.
+-- `quantiser::annex_d::table_of` meets its contract.
 use mathlib.Core.Logic.{⊎-elim}
 use borrow.Author.Tests.{eqb-true, eqb-false}
 use Rattle.quantiser.specs.CellLaws.{same-table, same-none, mixed-table, mixed-none}

@@ -1,4 +1,4 @@
--- `quantiser::annex_d::value_at` meets its contract: antt compares the code's numbers with the definition's matrices. Assumes nothing.
+-- `quantiser::annex_d::value_at` meets its contract: antt compares the code's numbers with the definition's matrices.
 use mathlib.Core.Path.{_≡_, _∙_}
 use mathlib.Core.List.{[], flatten}
 use Prim.Native.Nat.{_+_, _*_}

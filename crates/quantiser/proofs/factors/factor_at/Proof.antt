@@ -1,4 +1,4 @@
--- `quantiser::factors::factor_at` meets its contract. Assumes nothing.
+-- `quantiser::factors::factor_at` meets its contract.
 use mathlib.Core.Path.{_∙_}
 use borrow.Author.Needs.{needs}
 use Rattle.quantiser.specs.CapLaws.{base-small, factor-low, is-factor}

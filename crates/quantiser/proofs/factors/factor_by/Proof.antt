@@ -1,4 +1,4 @@
--- `quantiser::factors::factor_by` meets its contract. Assumes nothing.
+-- `quantiser::factors::factor_by` meets its contract.
 use native.Mathlib.Omega.{arith}
 use borrow.Author.Needs.{needs}
 use Rattle.quantiser.specs.CapLaws.{factorBy-rest}

@@ -1,4 +1,4 @@
--- `quantiser::factors::offset_by` meets its contract. Assumes nothing.
+-- `quantiser::factors::offset_by` meets its contract.
 use mathlib.Core.Path.{_≡_, sym, ap}
 use Prim.Native.Nat.{_/_}
 use native.Mathlib.Omega.{arith}

@@ -1,4 +1,5 @@
--- `quantiser::factors::table_at` meets its contract: antt compares the code's table with the definition's first 256 factors. Assumes nothing.
+-- `quantiser::factors::table_at` meets its contract: antt compares the code's table with the definition's first 256
+-- factors.
 use borrow.Author.Needs.{needs}
 use Rattle.quantiser.specs.Standard.{factor}
 use Rattle.quantiser.specs.Quant.{cap, quantFactor}

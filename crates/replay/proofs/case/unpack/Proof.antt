@@ -1,4 +1,4 @@
--- `replay::case::unpack` is safe and ends. Assumes nothing.
+-- `replay::case::unpack` is safe and ends.
 use mathlib.Core.Path.{_≡_, sym, ap, _∙_, refl}
 use Prim.Native.Nat.{ℕ, _+_, _-_, _*_, _^_, _<_, _≤_}
 use lib.ListN.{length, length-set}

@@ -1,4 +1,4 @@
--- `replay::case::word_at` is safe and ends. Assumes nothing.
+-- `replay::case::word_at` is safe and ends.
 use Prim.Native.Nat.{ℕ, _+_, _-_, _^_, _<_, _≤_}
 use borrow.Author.Needs.{needs}
 use native.Mathlib.Omega.{arith}

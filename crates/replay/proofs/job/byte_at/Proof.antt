@@ -1,4 +1,4 @@
--- `replay::job::byte_at` is safe and ends. Assumes nothing.
+-- `replay::job::byte_at` is safe and ends.
 use Prim.Native.Nat.{_≤_}
 use borrow.Author.Needs.{needs}
 use native.Mathlib.Omega.{arith}

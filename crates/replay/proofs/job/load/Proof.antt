@@ -1,4 +1,4 @@
--- `replay::job::load` is safe and ends. Assumes nothing.
+-- `replay::job::load` is safe and ends.
 use mathlib.Core.Path.{_≡_, refl, _∙_}
 use Prim.Native.Nat.{_-_, _≤_}
 use lib.ListN.{length, length-set}

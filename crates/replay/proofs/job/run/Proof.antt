@@ -1,4 +1,4 @@
--- `replay::job::run` is safe and ends. Assumes nothing.
+-- `replay::job::run` is safe and ends.
 use mathlib.Core.Path.{_≡_, sym}
 use Prim.Native.Nat.{_≤_}
 use lib.ListN.{length, take, length-take}

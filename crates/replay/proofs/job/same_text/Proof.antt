@@ -1,4 +1,4 @@
--- `replay::job::same_text` is safe and ends. Assumes nothing.
+-- `replay::job::same_text` is safe and ends.
 use Prim.Native.Nat.{_-_, _≤_}
 use lib.ListN.{length}
 use borrow.Author.Needs.{needs}

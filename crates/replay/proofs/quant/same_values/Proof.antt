@@ -1,4 +1,4 @@
--- `replay::quant::same_values` is safe and ends. Assumes nothing.
+-- `replay::quant::same_values` is safe and ends.
 use Prim.Native.Nat.{ℕ, _-_, _≤_}
 use borrow.Author.Needs.{needs}
 use native.Mathlib.Omega.{arith}

@@ -1,4 +1,4 @@
--- `replay::transform::analyse_first` is safe. Assumes nothing.
+-- `replay::transform::analyse_first` is safe.
 use mathlib.Core.Path.{sym}
 use Prim.Native.Nat.{_+_, _*_, _≤_}
 use lib.Seq.{length-take-le}

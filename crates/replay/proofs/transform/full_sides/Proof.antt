@@ -1,4 +1,4 @@
--- `replay::transform::full_sides` is safe. Assumes nothing.
+-- `replay::transform::full_sides` is safe.
 use mathlib.Core.Path.{refl}
 use Rattle.replay.specs.Planes.{full}
 use borrow.Author.Needs.{needs}

@@ -1,4 +1,4 @@
--- `replay::transform::load` is safe and ends. Assumes nothing.
+-- `replay::transform::load` is safe and ends.
 use mathlib.Core.Path.{_≡_, sym, refl}
 use Prim.Native.Nat.{ℕ, _+_, _-_, _*_, _≤_, _<_}
 use lib.ListN.{length, length-set}

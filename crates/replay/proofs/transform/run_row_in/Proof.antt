@@ -1,4 +1,4 @@
--- `replay::transform::run_row_in` is safe. Assumes nothing.
+-- `replay::transform::run_row_in` is safe.
 use mathlib.Core.Path.{sym}
 use Prim.Native.Nat.{_+_, _*_, _≤_}
 use lib.Seq.{length-take-le}

@@ -1,4 +1,4 @@
--- `replay::words::put_all` is safe: the bits of a case fit the 24 bytes. Assumes nothing.
+-- `replay::words::put_all` is safe: the bits of a case fit the 24 bytes.
 use mathlib.Core.Path.{_≡_, sym, ap, _∙_}
 use mathlib.Core.Bool.{true}
 use Prim.Native.Nat.{ℕ, _+_, _*_, _^_, _≤_, _<_}

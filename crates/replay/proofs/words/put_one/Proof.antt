@@ -1,4 +1,4 @@
--- `replay::words::put_one` meets its contract: each arm is given that p is its constructor. Assumes nothing.
+-- `replay::words::put_one` meets its contract: each arm is given that p is its constructor.
 use mathlib.Core.Path.{_≡_, sym, ap, _∙_}
 use mir.Syntax.{w64}
 use mir.Facts.{toZ-ofZ}

@@ -1,4 +1,4 @@
--- `replay::words::same_words` is safe and ends. Assumes nothing.
+-- `replay::words::same_words` is safe and ends.
 use Prim.Native.Nat.{ℕ, _+_, _-_, _*_, _^_, _<_, _≤_}
 use lib.ListN.{length}
 use borrow.Author.Needs.{needs}

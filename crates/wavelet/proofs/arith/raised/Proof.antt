@@ -1,4 +1,4 @@
--- `arith::raised` meets its contract. Assumes nothing.
+-- `arith::raised` meets its contract.
 use mathlib.Core.Path.{_≡_, sym, ap, _∙_}
 use Prim.Native.Nat.{ℕ}
 use native.Mathlib.Omega.{arith}

@@ -1,4 +1,4 @@
--- `arith::wrapping_mul_i64` meets its contract. Assumes nothing.
+-- `arith::wrapping_mul_i64` meets its contract.
 use mathlib.Core.Path.{_∙_, ap, ap₂}
 use Prim.Native.Nat.{ℕ, _*_, _%_, _^_}
 use mir.Syntax.{w64}

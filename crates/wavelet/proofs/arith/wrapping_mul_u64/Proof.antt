@@ -1,4 +1,5 @@
--- `arith::wrapping_mul_u64` meets its contract: no product of two halves passes 64 bits, and the halves make up the product. Assumes nothing.
+-- `arith::wrapping_mul_u64` meets its contract: no product of two halves passes 64 bits, and the halves make up the
+-- product.
 use mathlib.Core.Path.{_∙_, ap}
 use Prim.Native.Nat.{ℕ, _+_, _*_, _/_, _%_, _^_}
 use native.Mathlib.Omega.{arith}

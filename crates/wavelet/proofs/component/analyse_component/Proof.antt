@@ -1,4 +1,4 @@
--- `component::analyse_component` meets its contract. Assumes nothing.
+-- `component::analyse_component` meets its contract.
 use Prim.Native.Nat.{_*_, _/_}
 use Rattle.wavelet.specs.Pad.{padded}
 use Rattle.wavelet.specs.Walk.{deep-both, deep-across, place-down, quarter-le, half-le, walk-both, walk-across}

@@ -1,4 +1,4 @@
--- `component::analyse_components` meets its contract. Assumes nothing.
+-- `component::analyse_components` meets its contract.
 use Prim.Native.Nat.{_*_}
 use Rattle.wavelet.specs.Component.{three-are}
 use borrow.Author.Needs.{needs}

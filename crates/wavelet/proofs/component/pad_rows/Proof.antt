@@ -1,4 +1,4 @@
--- `component::pad_rows` meets its contract. The loop's invariant: the first n rows of the scratch are there. Assumes nothing.
+-- `component::pad_rows` meets its contract. The loop's invariant: the first n rows of the scratch are there.
 use mathlib.Core.Path.{_≡_, ap, ap₂, _∙_}
 use Prim.Native.Nat.{ℕ, _+_, _*_, _-_, _≤_, min}
 use native.Mathlib.Omega.{arith}

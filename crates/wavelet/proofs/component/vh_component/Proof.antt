@@ -1,4 +1,4 @@
--- `component::vh_component` meets its contract. Assumes nothing.
+-- `component::vh_component` meets its contract.
 use Prim.Native.Nat.{ℕ, _*_, _≤_}
 use native.Mathlib.Omega.{arith}
 use Rattle.wavelet.specs.Pad.{padded}

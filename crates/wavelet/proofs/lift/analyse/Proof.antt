@@ -1,4 +1,4 @@
--- `lift::analyse` meets its contract. The loop's invariant: all stages from k on are undone. Assumes nothing.
+-- `lift::analyse` meets its contract. The loop's invariant: all stages from k on are undone.
 use mathlib.Core.Path.{_≡_, refl, sym, ap, _∙_}
 use mathlib.Core.List.{List}
 use Prim.Native.Nat.{ℕ, _+_, _*_, _≤_}

@@ -1,4 +1,4 @@
--- `lift::change` meets its contract. Assumes nothing.
+-- `lift::change` meets its contract.
 use mathlib.Core.Path.{_∙_}
 use mir.Facts.{toZ-ofZ}
 use borrow.Author.Needs.{needs, sfits-of}

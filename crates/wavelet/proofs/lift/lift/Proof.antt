@@ -1,4 +1,4 @@
--- `lift::lift` meets its contract. The loop's invariant: the row is what the first n updates leave. Assumes nothing.
+-- `lift::lift` meets its contract. The loop's invariant: the row is what the first n updates leave.
 use mathlib.Core.Path.{_≡_, refl, ap, _∙_}
 use mathlib.Core.Bool.{Bool}
 use mathlib.Core.List.{List}

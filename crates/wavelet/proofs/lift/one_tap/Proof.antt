@@ -1,4 +1,4 @@
--- `lift::one_tap` meets its contract. Assumes nothing.
+-- `lift::one_tap` meets its contract.
 use mathlib.Core.Path.{_∙_, ap₂}
 use Prim.Native.Nat.{_+_, _<_}
 use lib.ListN.{length, getD}

@@ -1,4 +1,4 @@
--- `lift::place` meets its contract. Assumes nothing.
+-- `lift::place` meets its contract.
 use mathlib.Core.Path.{_≡_, _∙_}
 use Rattle.wavelet.specs.Lifting.{place}
 use Rattle.wavelet.specs.LiftingLaws.{place-law}

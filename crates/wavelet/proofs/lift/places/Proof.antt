@@ -1,4 +1,4 @@
--- `lift::places` meets its contract. The loop's invariant: the first k places are there. Assumes nothing.
+-- `lift::places` meets its contract. The loop's invariant: the first k places are there.
 use mathlib.Core.Path.{_≡_, refl, ap, _∙_}
 use mathlib.Core.List.{List}
 use Prim.Native.Nat.{ℕ, _+_, _*_, _-_, _<_, _≤_}

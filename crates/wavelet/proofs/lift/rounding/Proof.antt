@@ -1,4 +1,4 @@
--- `lift::rounding` meets its contract. Assumes nothing.
+-- `lift::rounding` meets its contract.
 use mathlib.Core.Path.{_≡_}
 use Prim.Native.Nat.{ℕ, _*_, _%_, _^_, _≤_}
 use native.Mathlib.Omega.{arith}

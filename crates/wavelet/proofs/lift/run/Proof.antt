@@ -1,4 +1,4 @@
--- `lift::run` meets its contract. Assumes nothing.
+-- `lift::run` meets its contract.
 use mathlib.Core.Path.{_≡_, refl, sym, ap, _∙_}
 use Prim.Native.Nat.{ℕ}
 use lib.IntN.{ℤ, pos}

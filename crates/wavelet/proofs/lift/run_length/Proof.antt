@@ -1,4 +1,4 @@
--- `lift::run_length` meets its contract. Assumes nothing.
+-- `lift::run_length` meets its contract.
 use mathlib.Core.Path.{_∙_}
 use native.Mathlib.Omega.{arith}
 use Rattle.wavelet.specs.Run.{moves-one, moves-more}

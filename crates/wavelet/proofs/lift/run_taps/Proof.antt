@@ -1,4 +1,4 @@
--- `lift::run_taps` meets its contract. The loop's invariant: the list is what the first i updates leave. Assumes nothing.
+-- `lift::run_taps` meets its contract. The loop's invariant: the list is what the first i updates leave.
 use mathlib.Core.Path.{_≡_, refl, ap, _∙_}
 use mathlib.Core.Bool.{Bool}
 use mathlib.Core.List.{List}

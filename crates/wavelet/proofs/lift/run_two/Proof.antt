@@ -1,4 +1,4 @@
--- `lift::run_two` meets its contract. The loop's invariant: the list is what the first n updates leave. Assumes nothing.
+-- `lift::run_two` meets its contract. The loop's invariant: the list is what the first n updates leave.
 use mathlib.Core.Path.{_≡_, refl, sym, ap, _∙_}
 use mathlib.Core.Bool.{Bool}
 use mathlib.Core.List.{List}

@@ -1,4 +1,4 @@
--- `lift::scaled` meets its contract. Assumes nothing.
+-- `lift::scaled` meets its contract.
 use Prim.Native.Nat.{_^_}
 use lib.Signed.{shrZ, mag-shr}
 use mir.Syntax.{w64}

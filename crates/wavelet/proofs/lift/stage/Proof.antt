@@ -1,4 +1,4 @@
--- `lift::stage` meets its contract: the code's table computes to that of the definitions. Assumes nothing.
+-- `lift::stage` meets its contract: the code's table computes to that of the definitions.
 use Rattle.wavelet.specs.Table.{stages, staged-at}
 use Rattle.wavelet.specs.Filters.{dd97, legall, dd137, haar0, haar1, fidelity, daub97}
 use borrow.Author.Needs.{needs}

@@ -1,4 +1,4 @@
--- `lift::stage_count` meets its contract. Assumes nothing.
+-- `lift::stage_count` meets its contract.
 use native.Mathlib.Omega.{arith}
 use Rattle.wavelet.specs.Table.{in-table}
 use Rattle.wavelet.proofs.lift.stage_count.Statement.{statement}

@@ -1,4 +1,4 @@
--- `lift::tap_sum` meets its contract. Assumes nothing.
+-- `lift::tap_sum` meets its contract.
 use mathlib.Core.Path.{_≡_, sym, _∙_, ap}
 use Prim.Native.Nat.{_+_}
 use native.Mathlib.Omega.{arith}

@@ -1,4 +1,4 @@
--- `lift::two_taps` meets its contract. Assumes nothing.
+-- `lift::two_taps` meets its contract.
 use mathlib.Core.Path.{_≡_, _∙_, ap}
 use Prim.Native.Nat.{_+_}
 use native.Mathlib.Omega.{arith}

@@ -1,4 +1,4 @@
--- `lift::within` meets its contract. Assumes nothing.
+-- `lift::within` meets its contract.
 use mathlib.Core.Path.{_∙_}
 use Rattle.wavelet.specs.Lifting.{within}
 use borrow.Author.Needs.{needs}

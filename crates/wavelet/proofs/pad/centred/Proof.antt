@@ -1,4 +1,4 @@
--- `pad::centred` meets its contract. Assumes nothing.
+-- `pad::centred` meets its contract.
 use Rattle.wavelet.specs.PadLaws.{centred-fits, centred-is}
 use native.Mathlib.Omega.{arith}
 use borrow.Author.Needs.{needs}

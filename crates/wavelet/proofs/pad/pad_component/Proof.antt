@@ -1,4 +1,4 @@
--- `pad::pad_component` meets its contract. The loop's invariant: the first n rows are there. Assumes nothing.
+-- `pad::pad_component` meets its contract. The loop's invariant: the first n rows are there.
 use mathlib.Core.Path.{_≡_, ap, ap₂, _∙_}
 use Prim.Native.Nat.{ℕ, _+_, _*_, _-_, _≤_, min}
 use lib.ListN.{length}

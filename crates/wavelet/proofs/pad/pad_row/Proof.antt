@@ -1,4 +1,4 @@
--- `pad::pad_row` meets its contract. The invariant of both loops: the first k places are there. Assumes nothing.
+-- `pad::pad_row` meets its contract. The invariant of both loops: the first k places are there.
 use mathlib.Core.Path.{refl, ap, _∙_}
 use Prim.Native.Nat.{ℕ, _-_, _<_, _≤_}
 use native.Mathlib.Nat.{min-le-left, min-le-right}

@@ -1,4 +1,4 @@
--- `pad::padded_side` meets its contract. Assumes nothing.
+-- `pad::padded_side` meets its contract.
 use mathlib.Core.Path.{_≡_}
 use Prim.Native.Nat.{ℕ, _+_, _*_, _-_, _%_, _^_, _≤_}
 use native.Mathlib.Nat.{div-mul-le-self}

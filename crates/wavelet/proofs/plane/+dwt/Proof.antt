@@ -1,4 +1,4 @@
--- `plane::dwt`, which calls itself, meets its contract. The measure is the number of levels that are left. Assumes nothing.
+-- `plane::dwt`, which calls itself, meets its contract. The measure is the number of levels that are left.
 use mathlib.Core.Path.{_∙_}
 use native.Mathlib.Omega.{arith}
 use Prim.Native.Nat.{ℕ, _+_, _*_, _/_, _<_}

@@ -1,4 +1,4 @@
--- `plane::band` meets its contract. The loop's invariant: the first n rows of the band are there. Assumes nothing.
+-- `plane::band` meets its contract. The loop's invariant: the first n rows of the band are there.
 use Prim.Native.Nat.{ℕ, _+_, _*_, _-_, _≤_}
 use native.Mathlib.Nat.{mul-le-mul-left}
 use lib.ListN.{length}

@@ -1,4 +1,4 @@
--- `plane::bands` meets its contract. The loop's invariant: the first n bands are there. Assumes nothing.
+-- `plane::bands` meets its contract. The loop's invariant: the first n bands are there.
 use Prim.Native.Nat.{_+_, _*_, _-_, _/_, _%_, _≤_}
 use native.Mathlib.Nat.{mul-le-mul}
 use Rattle.laws.specs.Window.{Parts, parts-first}

@@ -1,4 +1,4 @@
--- `plane::columns` meets its contract. The loop's invariant: all stages from k on are undone in every column. Assumes nothing.
+-- `plane::columns` meets its contract. The loop's invariant: all stages from k on are undone in every column.
 use mathlib.Core.Path.{_≡_, refl, ap, _∙_}
 use mathlib.Core.List.{List}
 use Prim.Native.Nat.{ℕ, _+_, _*_, _≤_}

@@ -1,4 +1,4 @@
--- `plane::copy_into` meets its contract. The loop's invariant: the first k numbers are in the part. Assumes nothing.
+-- `plane::copy_into` meets its contract. The loop's invariant: the first k numbers are in the part.
 use mathlib.Core.Path.{_≡_, refl, ap, _∙_}
 use mathlib.Core.List.{List}
 use Prim.Native.Nat.{ℕ, _+_, _*_, _-_, _<_, _≤_}

@@ -1,4 +1,4 @@
--- `plane::filter_shift` meets its contract: the constant is the list of the filters' shifts. Assumes nothing.
+-- `plane::filter_shift` meets its contract: the constant is the list of the filters' shifts.
 use lib.ListN.{List·getD-map}
 use Rattle.wavelet.specs.Filters.{Filter, filters, dd97, legall, dd137, haar0, haar1, fidelity, daub97}
 use borrow.Author.Needs.{needs}

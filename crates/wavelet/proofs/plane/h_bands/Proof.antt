@@ -1,4 +1,4 @@
--- `plane::h_bands` meets its contract. Assumes nothing.
+-- `plane::h_bands` meets its contract.
 use Rattle.wavelet.specs.Level.{h-bands}
 use borrow.Author.Needs.{needs}
 use Rattle.wavelet.proofs.plane.h_bands.Statement.{statement}

@@ -1,4 +1,4 @@
--- `plane::lift_columns` meets its contract. The loop's invariant: the first n updates of every column are done. Assumes nothing.
+-- `plane::lift_columns` meets its contract. The loop's invariant: the first n updates of every column are done.
 use mathlib.Core.Path.{sym, _∙_}
 use Prim.Native.Nat.{_+_, _*_, _-_, _/_, _≤_}
 use native.Mathlib.Nat.{mul-le-mul}

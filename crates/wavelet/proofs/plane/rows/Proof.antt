@@ -1,4 +1,4 @@
--- `plane::rows` meets its contract. The loop's invariant: the first n rows of the scratch are there. Assumes nothing.
+-- `plane::rows` meets its contract. The loop's invariant: the first n rows of the scratch are there.
 use Prim.Native.Nat.{ℕ, _+_, _*_, _-_, _≤_}
 use lib.ListN.{length, drop}
 use Rattle.laws.specs.Plane.{asPlane}

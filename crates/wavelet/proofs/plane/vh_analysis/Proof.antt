@@ -1,4 +1,4 @@
--- `plane::vh_analysis` meets its contract. Assumes nothing.
+-- `plane::vh_analysis` meets its contract.
 use Prim.Native.Nat.{_*_}
 use lib.ListN.{drop}
 use Rattle.laws.specs.Window.{piece}

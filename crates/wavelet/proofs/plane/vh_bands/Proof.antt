@@ -1,4 +1,4 @@
--- `plane::vh_bands` meets its contract. Assumes nothing.
+-- `plane::vh_bands` meets its contract.
 use mathlib.Core.Path.{sym}
 use Rattle.wavelet.specs.Level.{vh-plane, vh-bands, vh-bands-are}
 use borrow.Author.Needs.{needs}

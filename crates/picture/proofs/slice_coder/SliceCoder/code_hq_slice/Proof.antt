@@ -1,4 +1,4 @@
--- `SliceCoder::code_hq_slice` meets its contract. Assumes nothing.
+-- `SliceCoder::code_hq_slice` meets its contract.
 use mathlib.Core.Path.{refl, sym, ap, _∙_, subst}
 use mathlib.Core.List.{List}
 use Prim.Native.Nat.{ℕ, _+_, _≤_}

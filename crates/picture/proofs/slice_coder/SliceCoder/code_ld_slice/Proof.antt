@@ -1,4 +1,4 @@
--- `SliceCoder::code_ld_slice` meets its contract. Assumes nothing.
+-- `SliceCoder::code_ld_slice` meets its contract.
 use mathlib.Core.Path.{refl, ap, _∙_}
 use Prim.Native.Nat.{ℕ, _+_}
 use lib.ListN.{length}

@@ -1,4 +1,4 @@
--- `SliceCoder::plan_choice` meets its contract. Assumes nothing.
+-- `SliceCoder::plan_choice` meets its contract.
 use Rattle.picture.specs.HighPlanLaws.{planned-is}
 use borrow.Author.Needs.{needs}
 use Rattle.picture.proofs.slice_coder.SliceCoder.plan_choice.Statement.{statement}

@@ -1,4 +1,4 @@
--- `SliceCoder::plan_hq_slice` meets its contract. Assumes nothing.
+-- `SliceCoder::plan_hq_slice` meets its contract.
 use mathlib.Core.Path.{sym, ap₂, _∙_, subst}
 use mathlib.Core.List.{List}
 use Prim.Native.Nat.{_+_, _*_}

@@ -1,4 +1,4 @@
--- `SliceCoder::plan_noted_slice` meets its contract. Assumes nothing.
+-- `SliceCoder::plan_noted_slice` meets its contract.
 use native.Mathlib.Omega.{arith}
 use Rattle.picture.specs.High.{FewBits}
 use Rattle.picture.specs.HighIndexLaws.{index-most, own-few}
