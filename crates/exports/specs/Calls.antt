@@ -1,6 +1,6 @@
 -- What the entry points leave behind their references.
 use mathlib.Core.Path.{_≡_}
-use mathlib.Core.Bool.{Bool, true, false, cond}
+use mathlib.Core.Bool.{true, false, cond}
 use mathlib.Core.List.{List}
 use Prim.Native.Nat.{ℕ}
 use lib.Dec.{ltb}
@@ -10,7 +10,7 @@ use Rattle.unit.specs.declared.Answer.{Answer}
 use Rattle.unit.specs.declared.Answer.the-variants.{Accepted, Refused}
 use Rattle.unit.specs.Three.{Three}
 use Rattle.unit.specs.Words.{known, settingsOf}
-use Rattle.unit.specs.Outcome.{Outcome, numberOf, outcomeOf}
+use Rattle.unit.specs.Outcome.{numberOf, outcomeOf}
 use Rattle.unit.specs.Demand.{Demand3}
 
 -- a quantiser call at index i whose value is z: what stood behind the reference stays where the index is refused

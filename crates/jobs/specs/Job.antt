@@ -7,7 +7,6 @@ use lib.IntN.{ℤ}
 use lib.ListN.{length, take, drop}
 use Rattle.unit.specs.declared.Answer.{Answer}
 use Rattle.unit.specs.declared.Answer.the-variants.{Accepted, Refused}
-use Rattle.unit.specs.Three.{Three}
 use Rattle.unit.specs.Refusal.{anyAbove}
 use Rattle.unit.specs.Words.{wordAt, known, settingsOf}
 use Rattle.unit.specs.Outcome.{tells, Outcome, outcomeOf}

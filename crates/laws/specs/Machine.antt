@@ -1,15 +1,15 @@
 -- What the machine's signed operations ask at 64 bits, and what its quotient and remainder are, by up and dn.
-use mathlib.Core.Path.{_≡_, refl, ap, sym, _∙_}
+use mathlib.Core.Path.{_≡_, refl, sym, _∙_}
 use mathlib.Core.Bool.{true, false}
-use Prim.Native.Nat.{ℕ, zero, suc, _+_, _*_, _-_, _/_, _%_, _^_, _≤_, _<_}
+use Prim.Native.Nat.{ℕ, suc, _+_, _-_, _/_, _%_, _^_, _≤_, _<_}
 use native.Mathlib.Omega.{arith}
 use native.Mathlib.Nat.{zero-div, zero-mod}
-use lib.IntN.{ℤ, pos, negsuc, negℤ, natAbs, _+ℤ_, _-ℤ_, _*ℤ_}
+use lib.IntN.{ℤ, pos, negsuc, natAbs, _-ℤ_}
 use lib.Signed.{shrZ, quotZ, remZ, ltZ, nonNeg}
 use lib.Dec.{T}
 use mir.Syntax.{w64}
 use mir.Val.{SFits, Fits, ofZ}
-use Rattle.laws.specs.Integer.{up, dn, Parts, parts, neg-law, ext, var, _⊟_, lt-yes, lt-no, Floor, floor-law}
+use Rattle.laws.specs.Integer.{up, dn, parts, neg-law, ext, var, _⊟_, lt-yes, lt-no, floor-law}
 
 pub fit : (z : ℤ) → natAbs z < 2 ^ 63 → SFits w64 z
 fit z h = record { sfits = omega (arith, parts z) }

@@ -11,13 +11,13 @@ use Rattle.unit.specs.declared.Settings.{Settings}
 use Rattle.unit.specs.declared.PictureKind.{PictureKind}
 use Rattle.unit.specs.declared.PictureKind.the-variants.{LowDelay, HighQuality}
 use Rattle.unit.specs.Three.{Three}
-use Rattle.unit.specs.Sizes.{Size, area, lumaSize, colourSize, depthsOf}
+use Rattle.unit.specs.Sizes.{Size, area, lumaSize, colourSize}
 use Rattle.unit.specs.Subbands.{paddedSize}
 use Rattle.unit.specs.Matrix.{defaultOf, matrixValues}
 use Rattle.unit.specs.Refusal.{paddedArea, workNeeded}
 use Rattle.unit.specs.Coefficients.{coefficientsOf}
 use Rattle.unit.specs.Valid.{Between, RateFits, MatrixFits}
-use Rattle.unit.specs.ValidLaws.{Sides, DepthsFit}
+use Rattle.unit.specs.ValidLaws.{Sides}
 use Rattle.picture.specs.declared.layout.Component.{Component}
 use Rattle.picture.specs.declared.layout.Layout.{Layout}
 use Rattle.picture.specs.declared.layout.Picture.{Picture}

@@ -2,7 +2,7 @@
 use mathlib.Core.Path.{_≡_}
 use mathlib.Core.Bool.{Bool, true, false, cond}
 use mathlib.Core.List.{List, _++_}
-use Prim.Native.Nat.{ℕ, zero, suc, _+_, _*_, _^_, _≤_, _<_}
+use Prim.Native.Nat.{ℕ, zero, suc, _+_, _^_, _≤_, _<_}
 use lib.Dec.{leb, eqb}
 use lib.IntN.{ℤ}
 use lib.ListN.{length, take}
@@ -12,7 +12,7 @@ use Rattle.codewords.specs.Bytes.{toBytes}
 use Rattle.codewords.specs.Code.{codes}
 use Rattle.unit.specs.Trim.{bitsOf, trimmedCost}
 use Rattle.unit.specs.Elect.{elect}
-use Rattle.unit.specs.LowDelay.{sliceBytes, roomOf, lowBits, Runs, keptRuns}
+use Rattle.unit.specs.LowDelay.{sliceBytes, roomOf, lowBits, keptRuns}
 use Rattle.picture.specs.declared.strip.Strip.{Strip}
 use Rattle.picture.specs.declared.layout.Component.{Component}
 use Rattle.picture.specs.declared.layout.Picture.{Picture}

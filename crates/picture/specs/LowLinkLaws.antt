@@ -6,7 +6,7 @@ use Prim.Native.Nat.{ℕ, zero, suc, _+_, _*_, _-_, _≤_, _<_}
 use native.Mathlib.Nat.{mul-comm, mul-pos, zero-add}
 use native.Mathlib.Omega.{arith}
 use lib.Arith.{digits-lt}
-use lib.Dec.{eqb, leb, ltb}
+use lib.Dec.{eqb, leb}
 use lib.IntN.{ℤ, pos}
 use lib.ListN.{length, getD, drop}
 use Rattle.laws.specs.Rows.{at, span, span-suc, total}
@@ -41,12 +41,9 @@ use Rattle.unit.specs.Unit.{majorVersion, gridOf, parametersBy, targetOf, lowPa
 use Rattle.unit.specs.Outcome.{lastIndices, cutCount, scalerIn, codedOf}
 use Rattle.unit.specs.LowDelayLaws.{numerator-least, bytes-all, low-bytes}
 use Rattle.unit.specs.SoundLaws.{length-is}
-use Rattle.unit.specs.TestLaws.{or-none, at-most}
-use Rattle.picture.specs.declared.strip.Strip.{Strip}
 use Rattle.picture.specs.declared.layout.Component.{Component}
 use Rattle.picture.specs.declared.layout.Picture.{Picture}
 use Rattle.picture.specs.Run.{planeFrom, rebuiltStrip, Small}
-use Rattle.picture.specs.RunLaws.{rebuilt-rows-length}
 use Rattle.picture.specs.Layout.{bandCount, gridIn, bandSize, stripOf}
 use Rattle.picture.specs.LayoutLaws.{band-fits}
 use Rattle.picture.specs.StripLaws.{Apart, rebuilt-outside}

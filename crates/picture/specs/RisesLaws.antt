@@ -1,6 +1,6 @@
 -- A high-quality slice that fits its share at an index fits at every larger one: its numbers are as many and none is
 -- larger. So it is with the numbers of low delay behind level 0.
-use mathlib.Core.Path.{_≡_, refl}
+use mathlib.Core.Path.{_≡_}
 use mathlib.Core.Bool.{Bool, true, false, cond}
 use mathlib.Core.List.{List, [], _∷_, _++_}
 use Prim.Native.Nat.{ℕ, zero, suc, _+_, _*_, _-_, _≤_, _<_}
@@ -8,9 +8,9 @@ use native.Mathlib.Nat.{le-trans, le-div-iff-mul-le, div-mul-le-self, mul-le-mul
 use native.Mathlib.Omega.{arith}
 use borrow.Author.Tests.{leb-true, le-leb}
 use lib.IntN.{ℤ, pos, negsuc, natAbs}
-use lib.ListN.{length, getD, length-append}
+use lib.ListN.{length, getD}
 use Rattle.laws.specs.Chunks.{chunks}
-use Rattle.codewords.specs.Code.{codeS, codes}
+use Rattle.codewords.specs.Code.{codeS}
 use Rattle.codewords.specs.CodeLaws.{codeS-pos}
 use Rattle.quantiser.specs.Quant.{quantFactor, bandIndex}
 use Rattle.quantiser.specs.QuantLaws.{quantFactor-least}

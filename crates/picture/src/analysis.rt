@@ -7,12 +7,12 @@ use unit::PictureKind;
 use unit::Settings;
 use wavelet::component::Transform;
 ghost use mathlib.Core.Path.{_≡_};
-ghost use Prim.Native.Nat.{ℕ, _+_, _*_, _≤_, _<_, _^_};
+ghost use Prim.Native.Nat.{_+_, _*_, _≤_, _<_, _^_};
 ghost use lib.IntN.{pos};
 ghost use lib.ListN.{length, replicate};
 ghost use Rattle.unit.specs.Sizes.{area, offsetOf, intlog2};
 ghost use Rattle.picture.specs.Sides.{sizeIn, planes};
-ghost use Rattle.picture.specs.Analysed.{isLow, frontOf, layoutOf, pictureOf, Called, Ready, Analysed};
+ghost use Rattle.picture.specs.Analysed.{isLow, layoutOf, pictureOf, Called, Ready, Analysed};
 
 // Whether level 0 is predicted.
 fn is_low(kind: PictureKind) -> bool

@@ -6,7 +6,7 @@ use crate::packed::Packed;
 use crate::slice_coder::SliceCoder;
 use codewords::writer::BitWriter;
 ghost use mathlib.Core.Path.{_≡_};
-ghost use Prim.Native.Nat.{ℕ, _+_, _*_, _^_, _≤_, _<_};
+ghost use Prim.Native.Nat.{_+_, _*_, _^_, _≤_, _<_};
 ghost use lib.ListN.{length};
 ghost use Rattle.laws.specs.Laid.{Lays};
 ghost use Rattle.codewords.specs.Bit.{zeroBits};

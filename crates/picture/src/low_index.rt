@@ -8,7 +8,7 @@ use crate::layout::Window;
 use crate::tally::Tally;
 ghost use mathlib.Core.Path.{_≡_};
 ghost use mathlib.Core.Bool.{_&&_};
-ghost use Prim.Native.Nat.{ℕ, _+_, _*_, _-_, _/_, _^_, _≤_, _<_, min};
+ghost use Prim.Native.Nat.{_+_, _*_, _-_, _/_, _^_, _≤_, _<_, min};
 ghost use lib.Dec.{leb, ltb};
 ghost use Rattle.unit.specs.Elect.{elect};
 ghost use Rattle.unit.specs.LowDelay.{sliceBytes, lengthBits, roomOf};

@@ -3,7 +3,7 @@ use crate::high_index::Choice;
 use crate::high_index::Terms;
 use crate::layout::Picture;
 ghost use mathlib.Core.Path.{_≡_};
-ghost use Prim.Native.Nat.{ℕ, _+_, _*_, _^_, _≤_, _<_};
+ghost use Prim.Native.Nat.{_+_, _*_, _^_, _≤_, _<_};
 ghost use lib.ListN.{length};
 ghost use Rattle.laws.specs.Laid.{laid, Lays};
 ghost use Rattle.codewords.specs.Bytes.{toBytes};

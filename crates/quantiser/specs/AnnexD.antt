@@ -1,6 +1,6 @@
 -- Annex D of ST 2042-1: the default quantisation matrices. A table has a block for each horizontal-only depth, and a
 -- block a matrix for each depth: the values in subband order. Where there is no block or no matrix there is no default.
-use mathlib.Core.Bool.{Bool, cond, _&&_}
+use mathlib.Core.Bool.{cond, _&&_}
 use mathlib.Core.List.{List, [], _∷_}
 use mathlib.Core.Option.{Option, none, some}
 use Prim.Native.Nat.{ℕ}

@@ -1,8 +1,8 @@
 -- The default matrix as the code hands it out.
-use mathlib.Core.Bool.{Bool, true, false}
-use mathlib.Core.List.{List, [], _∷_, _++_}
+use mathlib.Core.Bool.{true, false}
+use mathlib.Core.List.{List, [], _++_}
 use mathlib.Core.Option.{Option, none, some}
-use Prim.Native.Nat.{ℕ, zero, suc, _-_}
+use Prim.Native.Nat.{ℕ, _-_}
 use lib.ListN.{length, replicate}
 use Rattle.quantiser.specs.declared.annex_d.DefaultMatrix.{DefaultMatrix}
 use Rattle.quantiser.specs.AnnexD.{defaultMatrix}

@@ -2,7 +2,7 @@
 -- and each later step capped at 2^63 - 1; quantising truncates four times the coefficient over the factor, capped
 -- alike.
 use Prim.Native.Nat.{ℕ, zero, suc, _+_, _*_, _-_, _/_, _^_, min}
-use lib.IntN.{ℤ, pos, natAbs}
+use lib.IntN.{ℤ, natAbs}
 use Rattle.quantiser.specs.Standard.{factor, signed}
 
 unfoldable pub cap : ℕ → ℕ

@@ -3,9 +3,9 @@ pub mod annex_d;
 pub mod factors;
 
 ghost use mathlib.Core.Path.{_≡_};
-ghost use Prim.Native.Nat.{ℕ, _+_, _*_, _/_, _%_, _≤_, _<_, _^_};
+ghost use Prim.Native.Nat.{_+_, _*_, _/_, _%_, _≤_, _<_, _^_};
 ghost use lib.ListN.{length};
-ghost use lib.IntN.{ℤ, pos, natAbs};
+ghost use lib.IntN.{pos, natAbs};
 ghost use Rattle.codewords.specs.Code.{log2, codeS};
 ghost use Rattle.quantiser.specs.Answer.{Answered};
 ghost use Rattle.quantiser.specs.Standard.{signed};

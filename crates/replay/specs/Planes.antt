@@ -1,9 +1,9 @@
 -- What the transform of a case asks.
 use mathlib.Core.Path.{_≡_}
-use Prim.Native.Nat.{ℕ, _+_, _*_, _≤_, _^_, _-_, _<_}
+use Prim.Native.Nat.{ℕ, _+_, _*_, _≤_, _^_, _-_}
 use native.Mathlib.Nat.{mul-le-mul, div-mul-le-self}
 use native.Mathlib.Omega.{arith}
-use lib.Pow.{pow-mono, pow-pos}
+use lib.Pow.{pow-mono}
 use mathlib.Core.List.{List}
 use lib.IntN.{ℤ}
 use lib.ListN.{length}

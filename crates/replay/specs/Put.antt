@@ -1,6 +1,5 @@
 -- What a case puts behind its ones.
-use mathlib.Core.Path.{_≡_}
-use Prim.Native.Nat.{ℕ, _+_, _≤_, _<_, _^_}
+use Prim.Native.Nat.{_+_, _≤_, _<_, _^_}
 use native.Mathlib.Omega.{arith}
 use mir.Syntax.{w64}
 use mir.Val.{SFits}
@@ -8,7 +7,7 @@ use lib.ListN.{length}
 use Rattle.laws.specs.Machine.{unfit}
 use Rattle.codewords.specs.Bit.{Bits, lit}
 use Rattle.codewords.specs.BitLaws.{length-lit}
-use Rattle.codewords.specs.Code.{log2, codeU, codeS}
+use Rattle.codewords.specs.Code.{codeU, codeS}
 use Rattle.codewords.specs.CodeLaws.{length-codeU, leading-log2, codeS-short}
 use Rattle.replay.specs.declared.words.Put.{Put}
 use Rattle.replay.specs.declared.words.Put.the-variants.{Uint, Sint, Nbits}

@@ -1,8 +1,7 @@
 // Cases of jobs: what a recorded job prints.
 use crate::case::Verdict;
-ghost use Prim.Native.Nat.{_+_, _*_, _/_, _≤_, _<_};
+ghost use Prim.Native.Nat.{_+_, _/_, _≤_, _<_};
 ghost use lib.ListN.{length};
-ghost use mathlib.Core.Path.{_≡_};
 
 // Byte i of the packed bytes that begin at word from.
 fn byte_at(w: &[u64], from: usize, i: usize) -> u8

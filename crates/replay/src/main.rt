@@ -32,7 +32,7 @@ mod words;
 use case::Verdict;
 use libc::STDIN_FILENO;
 use tally::Tally;
-ghost use Prim.Native.Nat.{_+_, _*_, _≤_, _<_};
+ghost use Prim.Native.Nat.{_*_, _≤_, _<_};
 ghost use mathlib.Core.Path.{_≡_};
 ghost use lib.ListN.{length};
 

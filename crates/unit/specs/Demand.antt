@@ -1,10 +1,10 @@
 -- Demand 3: what the reader gives back of an accepted picture's unit. One statement about a call and the whole reading.
 use mathlib.Core.Path.{_≡_}
 use mathlib.Core.List.{List, [], _∷_, map}
-use Prim.Native.Nat.{ℕ, zero, suc, _+_, _*_, _-_, _/_, _≤_, _<_}
-use lib.IntN.{ℤ, pos, natAbs, _-ℤ_}
+use Prim.Native.Nat.{ℕ, suc, _+_, _*_, _-_, _/_, _≤_, _<_}
+use lib.IntN.{pos, natAbs, _-ℤ_}
 use lib.ListN.{length, getD}
-use Rattle.codewords.specs.Read.{Read, got}
+use Rattle.codewords.specs.Read.{got}
 use Rattle.laws.specs.Plane.{Plane}
 use Rattle.laws.specs.Rows.{span, total}
 use Rattle.quantiser.specs.Quant.{quantFactor, bandIndex}
@@ -14,9 +14,9 @@ use Rattle.unit.specs.declared.PictureKind.{PictureKind}
 use Rattle.unit.specs.declared.PictureKind.the-variants.{LowDelay, HighQuality}
 use Rattle.unit.specs.Three.{Three}
 use Rattle.unit.specs.Sizes.{Size, sizesOf, depthsOf}
-use Rattle.unit.specs.Slices.{Grid, sliceCount, sliceOf}
+use Rattle.unit.specs.Slices.{Grid, sliceOf}
 use Rattle.unit.specs.Matrix.{matrixValues}
-use Rattle.unit.specs.Parameters.{SliceParameters, lowDelay, highQuality, Parameters, parameterBytes}
+use Rattle.unit.specs.Parameters.{SliceParameters, lowDelay, highQuality, parameterBytes}
 use Rattle.unit.specs.LowDelay.{sliceBytes, roomOf, alternated}
 use Rattle.unit.specs.Trim.{trimmedCost}
 use Rattle.unit.specs.Coefficients.{coefficientsOf}

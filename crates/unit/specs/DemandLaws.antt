@@ -3,16 +3,14 @@ use mathlib.Core.Path.{_≡_, refl, sym, ap, ap₂, _∙_}
 use mathlib.Core.Bool.{Bool, true, false, _||_}
 use mathlib.Core.List.{List, [], _∷_, _++_, map}
 use mathlib.Core.Option.{Option, none, some}
-use Prim.Native.Nat.{ℕ, zero, suc, _+_, _*_, _-_, _^_, _≤_, _<_, min}
+use Prim.Native.Nat.{ℕ, suc, _+_, _*_, _-_, _^_, _≤_, _<_, min}
 use native.Mathlib.Omega.{arith}
-use lib.IntN.{ℤ, pos, natAbs, _+ℤ_}
+use lib.IntN.{ℤ, pos, _+ℤ_}
 use lib.Dec.{eqb, ltb}
 use lib.ListN.{length, getD, take, drop, replicate}
 use lib.Seq.{take-at}
 use borrow.Author.Tests.{eqb-true, ltb-false}
-use Rattle.codewords.specs.Read.{Read, got}
 use Rattle.laws.specs.Integer.{sub-add}
-use Rattle.laws.specs.Plane.{Plane, Agree}
 use Rattle.wavelet.specs.Lifting.{exact}
 use Rattle.wavelet.specs.Planes.{Band, dwt, idwt}
 use Rattle.wavelet.specs.Pad.{padded}
@@ -27,17 +25,16 @@ use Rattle.unit.specs.declared.PictureKind.the-variants.{LowDelay, HighQ
 use Rattle.unit.specs.Three.{Three}
 use Rattle.unit.specs.Sizes.{Size, sizesOf, depthsOf, offsetOf}
 use Rattle.unit.specs.Subbands.{paddedSize}
-use Rattle.unit.specs.Slices.{Grid, sliceCount}
 use Rattle.unit.specs.Matrix.{defaultOf, orNone, matrixValues, carriedMatrix}
 use Rattle.unit.specs.Refusal.{refusalOf}
 use Rattle.unit.specs.Parameters.{SliceParameters, Parameters, parameterBytes}
 use Rattle.unit.specs.Coefficients.{bandsOf, coefficientsOf}
 use Rattle.unit.specs.Quantised.{sizeOf}
-use Rattle.unit.specs.Plan.{SlicePlan, Plan}
-use Rattle.unit.specs.Unit.{majorVersion, gridOf, parametersBy, planBy, planOf, lengthOf, unitOf, joined, sliceRuns}
+use Rattle.unit.specs.Plan.{Plan}
+use Rattle.unit.specs.Unit.{majorVersion, gridOf, parametersBy, planBy, planOf, lengthOf, unitOf}
 use Rattle.unit.specs.Outcome.{codedOf, Outcome, zeroed, outcomeOf}
-use Rattle.unit.specs.Reader.{Reading, readUnit, gridIn, bandSizesIn, valuesBy, valuesIn, readBands, readSamplesOf, readSamples}
-use Rattle.unit.specs.Demand.{SameSlices, Follow, Bytes, Undropped, AllZero, planIndex, NearBands, SameSamples, Demand3}
+use Rattle.unit.specs.Reader.{Reading, gridIn, bandSizesIn, valuesBy, valuesIn, readBands, readSamplesOf, readSamples}
+use Rattle.unit.specs.Demand.{SameSlices, Follow, Undropped, AllZero, planIndex, NearBands, SameSamples, Demand3}
 use Rattle.unit.specs.Valid.{Between, Valid}
 use Rattle.unit.specs.Sound.{Sound}
 use Rattle.unit.specs.UnitLaws.{readingOf, fulls, length-unit, reads-unit, same-slices, follow-on}
@@ -45,7 +42,7 @@ use Rattle.unit.specs.SubbandLaws.{sizes-of}
 use Rattle.unit.specs.SoundLaws.{bytes-of, sound-of}
 use Rattle.unit.specs.NearLaws.{EqualBands}
 use Rattle.unit.specs.SynthesisLaws.{idwt-back}
-use Rattle.unit.specs.PlannedLaws.{Component, Y, C1, C2, pick, ReadAs, Planned, call-planned, planned-near, planned-equal}
+use Rattle.unit.specs.PlannedLaws.{Component, Y, C1, C2, pick, ReadAs, call-planned, planned-near, planned-equal}
 use Rattle.unit.specs.Intlog2Laws.{offset-range}
 use Rattle.unit.specs.PaddedLaws.{padded-wide, padded-high, padded-is}
 use Rattle.unit.specs.DropLaws.{drops-of}

@@ -1,7 +1,7 @@
 -- Which slices can drop numbers.
 use mathlib.Core.Path.{_≡_, refl, sym, ap, _∙_}
-use mathlib.Core.List.{List, [], _∷_, map}
-use Prim.Native.Nat.{ℕ, zero, suc, _+_, _*_, _/_, _≤_, _<_}
+use mathlib.Core.List.{List, map}
+use Prim.Native.Nat.{ℕ, zero, suc, _/_, _≤_}
 use native.Mathlib.Omega.{arith}
 use lib.IntN.{ℤ}
 use lib.ListN.{length}
@@ -17,11 +17,10 @@ use Rattle.unit.specs.Slices.{Grid, sliceCount}
 use Rattle.unit.specs.Matrix.{matrixValues}
 use Rattle.unit.specs.Coefficients.{coefficientsOf}
 use Rattle.unit.specs.Quantised.{sizeOf}
-use Rattle.unit.specs.Trim.{trimmedCost}
 use Rattle.unit.specs.Plan.{SlicePlan}
-use Rattle.unit.specs.LowDelay.{sliceBytes, roomOf, alternated, lowNumbers, lowLeft, lowIndex, lowPlan, lowPlanOf, lowSlices, zeroPlanes}
+use Rattle.unit.specs.LowDelay.{sliceBytes, lowNumbers, lowLeft, lowIndex, lowPlan, lowPlanOf, lowSlices, zeroPlanes}
 use Rattle.unit.specs.HighQuality.{highPlan}
-use Rattle.unit.specs.Unit.{gridOf, numeratorOf, scalerOf, highBytes, planBy, planOf}
+use Rattle.unit.specs.Unit.{gridOf, numeratorOf, planBy, planOf}
 use Rattle.unit.specs.Reader.{numberCount}
 use Rattle.unit.specs.Demand.{All, bytesOf, LowDrops, Drops}
 use Rattle.unit.specs.Valid.{Valid}

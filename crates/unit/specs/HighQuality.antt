@@ -1,20 +1,18 @@
 -- High quality: document 01, "Slices and unit"; ST 2042-1, 13.5.4.
-use mathlib.Core.Bool.{Bool, true, false, cond}
-use mathlib.Core.List.{List, [], _∷_, _++_, map}
+use mathlib.Core.Bool.{true, false, cond}
+use mathlib.Core.List.{List, [], _∷_, _++_}
 use Prim.Native.Nat.{ℕ, zero, suc, _+_, _*_, _-_, _/_, _%_, max}
 use lib.Dec.{leb, ltb}
 use lib.IntN.{ℤ}
-use lib.ListN.{length}
 use Rattle.codewords.specs.Bit.{Bits, lit, oneBits, zeroBits}
 use Rattle.codewords.specs.Code.{codes}
 use Rattle.laws.specs.Rows.{span}
 use Rattle.wavelet.specs.Planes.{Band}
 use Rattle.unit.specs.declared.RateControl.{RateControl}
 use Rattle.unit.specs.declared.RateControl.the-variants.{Lossless, FixedQuantIndex, PictureBytes}
-use Rattle.unit.specs.Three.{Three, map3}
+use Rattle.unit.specs.Three.{Three}
 use Rattle.unit.specs.Slices.{Grid, sliceCount}
-use Rattle.unit.specs.Parameters.{Parameters, parameterBytes}
-use Rattle.unit.specs.Trim.{trimmed, bitsOf, trimmedCost}
+use Rattle.unit.specs.Trim.{trimmed, trimmedCost}
 use Rattle.unit.specs.Elect.{elect}
 use Rattle.unit.specs.Quantised.{numbersHQ}
 use Rattle.unit.specs.Plan.{SlicePlan}

@@ -12,7 +12,7 @@ use Rattle.wavelet.specs.Planes.{Band}
 use Rattle.unit.specs.Three.{Three}
 use Rattle.unit.specs.Sizes.{intlog2}
 use Rattle.unit.specs.Slices.{Grid, sliceCount}
-use Rattle.unit.specs.Parameters.{SliceParameters, lowDelay, Parameters, parameterBytes}
+use Rattle.unit.specs.Parameters.{Parameters, parameterBytes}
 use Rattle.unit.specs.Trim.{trimmed, bitsOf, trimmedCost, fitPrefix}
 use Rattle.unit.specs.Elect.{elect}
 use Rattle.unit.specs.Quantised.{numbersLD, leftLD}

@@ -1,5 +1,5 @@
 -- Annex D's matrices have as many values as there are subbands, none above 255.
-use mathlib.Core.Path.{_≡_, refl, ap}
+use mathlib.Core.Path.{_≡_, refl}
 use mathlib.Core.Bool.{Bool, true, false, not, cond, _&&_, _||_}
 use mathlib.Core.List.{List, [], _∷_}
 use mathlib.Core.Option.{Option, none, some}
@@ -7,7 +7,7 @@ use Prim.Native.Nat.{ℕ, zero, suc, _+_}
 use native.Mathlib.Omega.{arith}
 use lib.Dec.{eqb}
 use lib.ListN.{length, getElem?}
-use Rattle.quantiser.specs.AnnexD.{Table, tableD1, tableD2, tableD3, tableD4, tableD5, tableD6, tableD7, tableD8, andThen, tables, tableOf, defaultMatrix}
+use Rattle.quantiser.specs.AnnexD.{Table, tableD1, tableD2, tableD3, tableD4, tableD5, tableD6, tableD7, tableD8, andThen, tables, defaultMatrix}
 use Rattle.unit.specs.Subbands.{subbandCount}
 use Rattle.unit.specs.Refusal.{anyAbove}
 use Rattle.unit.specs.Valid.{AllMost}

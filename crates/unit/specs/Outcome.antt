@@ -1,7 +1,7 @@
 -- The outcome of a picture call: document 01, "Answers that turn a call away".
-use mathlib.Core.Bool.{Bool, true, false, _||_}
+use mathlib.Core.Bool.{true, false, _||_}
 use mathlib.Core.List.{List, [], _∷_, _++_}
-use Prim.Native.Nat.{ℕ, zero, suc, _+_}
+use Prim.Native.Nat.{ℕ, suc, _+_}
 use lib.Dec.{eqb, ltb}
 use lib.IntN.{ℤ, pos}
 use lib.ListN.{length, drop, replicate}
@@ -13,7 +13,7 @@ use Rattle.unit.specs.declared.Answer.{Answer}
 use Rattle.unit.specs.declared.Answer.the-variants.{Accepted, Refused}
 use Rattle.unit.specs.Three.{Three}
 use Rattle.unit.specs.Refusal.{refusalOf}
-use Rattle.unit.specs.Parameters.{SliceParameters, lowDelay, highQuality, Parameters}
+use Rattle.unit.specs.Parameters.{SliceParameters, lowDelay, highQuality}
 use Rattle.unit.specs.Plan.{SlicePlan, Plan}
 use Rattle.unit.specs.Unit.{planOf, lengthOf, unitOf}
 

@@ -1,15 +1,12 @@
 -- The transform parameters are read back as they were written.
-use mathlib.Core.Path.{_≡_, refl, sym, ap, ap₂, _∙_, subst}
+use mathlib.Core.Path.{_≡_, refl, sym, subst}
 use mathlib.Core.Bool.{Bool, true, false, not, cond, _||_, _&&_}
-use mathlib.Core.List.{List, [], _∷_, _++_}
+use mathlib.Core.List.{List, [], _∷_}
 use mathlib.Core.Option.{Option, none, some}
-use Prim.Native.Nat.{ℕ, zero, suc, _+_, _*_, _≤_, _<_}
-use native.Mathlib.Omega.{arith}
+use Prim.Native.Nat.{ℕ, _≤_, _<_}
 use lib.Dec.{T, eqb, leb, le→leb, eqb→eq, nleb→lt}
 use lib.ListN.{length}
-use Rattle.codewords.specs.Bit.{Bits}
-use Rattle.codewords.specs.Code.{codeU}
-use Rattle.codewords.specs.Read.{Parser, give, such, _>>=_, readBool, readUint}
+use Rattle.codewords.specs.Read.{Parser, give, _>>=_}
 use Rattle.codewords.specs.ReadLaws.{Reads, reads-pure, reads-bind, reads-last, reads-such, reads-bool, reads-uint}
 use Rattle.quantiser.specs.AnnexD.{defaultMatrix}
 use Rattle.unit.specs.declared.PictureKind.{PictureKind}

@@ -1,9 +1,9 @@
 -- The transform parameters and their bits: ST 2042-1, 12.4; the major version: document 01, "Settings the box is
 -- given".
-use mathlib.Core.Bool.{Bool, true, false, not, cond, _||_}
+use mathlib.Core.Bool.{Bool, true, false, not, cond}
 use mathlib.Core.List.{List, [], _∷_, _++_}
 use mathlib.Core.Option.{Option, none, some}
-use Prim.Native.Nat.{ℕ, zero, suc, _+_, _*_, _/_, _%_, _-_}
+use Prim.Native.Nat.{ℕ, _+_, _/_, _%_, _-_}
 use lib.Dec.{eqb, leb}
 use lib.ListN.{length}
 use Rattle.codewords.specs.Bit.{Bits, zeroBits}

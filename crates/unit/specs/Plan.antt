@@ -1,6 +1,5 @@
 -- What an encoder has decided of a picture: the parameters, and for each slice its index, its numbers and its bits.
-use mathlib.Core.Path.{_≡_}
-use mathlib.Core.List.{List, [], _∷_}
+use mathlib.Core.List.{List}
 use Prim.Native.Nat.{ℕ}
 use lib.IntN.{ℤ}
 use Rattle.codewords.specs.Bit.{Bits}

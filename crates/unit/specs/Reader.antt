@@ -2,14 +2,13 @@
 -- component sizes, the sample depths and the major version. With the encoder's definitions it shares rules of the
 -- standard alone: the form of the parameters and Annex D, the subbands' sizes, the slices' windows and bytes, the bits
 -- of the luma length, the order of the colours, the prediction, the factor without caps, the filters and the offset.
-use mathlib.Core.Bool.{Bool, true, false, not, cond, _||_, _&&_}
-use mathlib.Core.List.{List, [], _∷_, _++_}
+use mathlib.Core.Bool.{Bool, true, false, _||_, _&&_}
+use mathlib.Core.List.{List, [], _∷_}
 use mathlib.Core.Option.{Option, none, some}
 use Prim.Native.Nat.{ℕ, zero, suc, _+_, _*_, _-_, _/_}
 use lib.Dec.{eqb, leb}
 use lib.IntN.{ℤ, pos, _+ℤ_}
 use lib.ListN.{length, getD, drop}
-use Rattle.codewords.specs.Bit.{Bits}
 use Rattle.codewords.specs.Bytes.{fromBytes}
 use Rattle.codewords.specs.Read.{Read, got, stop, Parser, give, such, _>>=_, readNbits, readBool, readUint, byteAlign, readBits, sintsb}
 use Rattle.laws.specs.Plane.{Plane}

@@ -1,6 +1,6 @@
 -- The slices of a subband: ST 2042-1, 13.5.6.2. Slice bounds are floors of side times position over slices.
-use mathlib.Core.List.{List, [], _∷_, _++_}
-use Prim.Native.Nat.{ℕ, zero, suc, _+_, _*_, _-_, _/_, _%_}
+use mathlib.Core.List.{List}
+use Prim.Native.Nat.{ℕ, suc, _+_, _*_, _-_, _/_, _%_}
 use lib.IntN.{ℤ}
 use Rattle.laws.specs.Rows.{span}
 use Rattle.laws.specs.Plane.{Plane}

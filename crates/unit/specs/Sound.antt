@@ -1,10 +1,8 @@
 -- What the reading of a unit needs of the plan that it was made of.
 use mathlib.Core.Path.{_≡_}
-use mathlib.Core.Bool.{Bool, true, false}
 use mathlib.Core.List.{List, [], _∷_}
 use mathlib.Core.Option.{Option, none, some}
-use Prim.Native.Nat.{ℕ, zero, suc, _+_, _*_, _/_, _^_, _≤_, _<_}
-use lib.IntN.{ℤ}
+use Prim.Native.Nat.{ℕ, suc, _^_, _≤_, _<_}
 use lib.ListN.{length}
 use Rattle.codewords.specs.ByteLaws.{Full}
 use Rattle.codewords.specs.ReadLaws.{Reads}
@@ -15,11 +13,11 @@ use Rattle.unit.specs.declared.PictureKind.the-variants.{LowDelay, HighQ
 use Rattle.unit.specs.Three.{Three}
 use Rattle.unit.specs.Sizes.{Size, sizesOf}
 use Rattle.unit.specs.Subbands.{subbandCount}
-use Rattle.unit.specs.Slices.{Grid, sliceCount}
+use Rattle.unit.specs.Slices.{sliceCount}
 use Rattle.unit.specs.Parameters.{SliceParameters, lowDelay, highQuality, Parameters}
 use Rattle.unit.specs.Plan.{SlicePlan, Plan}
 use Rattle.unit.specs.Unit.{majorVersion, lengthOf}
-use Rattle.unit.specs.Reader.{SliceNumbers, readSliceBy, gridIn, countsIn}
+use Rattle.unit.specs.Reader.{readSliceBy, gridIn, countsIn}
 
 -- slice parameters of the kind, with values that the standard allows
 abbrev pub SliceFits : PictureKind → SliceParameters → Type 0

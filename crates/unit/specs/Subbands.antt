@@ -1,5 +1,5 @@
 -- Padded sides and the sides of the subbands: ST 2042-1, 13.2.1 and 13.2.3, by horizontal-only depth k and depth d.
-use mathlib.Core.Bool.{true, false, cond}
+use mathlib.Core.Bool.{cond}
 use mathlib.Core.List.{List, [], _∷_, _++_}
 use Prim.Native.Nat.{ℕ, zero, suc, _+_, _*_, _-_, _/_, _^_}
 use lib.Dec.{eqb, leb}

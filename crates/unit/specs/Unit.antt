@@ -1,8 +1,8 @@
 -- The unit that a call writes: document 01, "Slices and unit".
-use mathlib.Core.Bool.{Bool, true, false, not, cond, _||_}
+use mathlib.Core.Bool.{Bool, true, false, not, _||_}
 use mathlib.Core.List.{List, [], _∷_, _++_, map}
-use Prim.Native.Nat.{ℕ, zero, suc, _+_, _*_, _-_, _/_}
-use lib.Dec.{eqb, leb}
+use Prim.Native.Nat.{ℕ, _+_, _*_, _-_}
+use lib.Dec.{eqb}
 use lib.ListN.{length}
 use Rattle.codewords.specs.Bit.{Bits, lit}
 use Rattle.codewords.specs.Bytes.{toBytes}

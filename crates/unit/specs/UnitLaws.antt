@@ -1,31 +1,29 @@
 -- The reading of a unit made of a sound plan: nothing stops it, and it ends at the last byte.
-use mathlib.Core.Path.{_≡_, refl, sym, ap, ap₂, _∙_, subst}
+use mathlib.Core.Path.{_≡_, refl, sym, ap, ap₂, _∙_}
 use mathlib.Core.Bool.{Bool, true, false, _||_}
-use mathlib.Core.List.{List, [], _∷_, _++_, map, append-assoc, append-nil}
-use Prim.Native.Nat.{ℕ, zero, suc, _+_, _*_, _-_, _/_, _%_, _^_, _≤_, _<_}
-use native.Mathlib.Nat.{mul-mod-left, mul-div-cancel}
+use mathlib.Core.List.{List, [], _∷_, _++_, append-assoc}
+use Prim.Native.Nat.{ℕ, suc, _+_, _*_, _-_, _/_, _%_, _^_, _<_}
 use native.Mathlib.Omega.{arith}
 use lib.Dec.{T, eqb, eqb-refl}
-use lib.IntN.{ℤ}
 use lib.ListN.{length, length-append, length-replicate}
-use Rattle.codewords.specs.Bit.{Bits, lit, zeroBits}
+use Rattle.codewords.specs.Bit.{Bits, lit}
 use Rattle.codewords.specs.BitLaws.{length-lit}
 use Rattle.codewords.specs.Bytes.{toBytes, fromBytes}
-use Rattle.codewords.specs.ByteLaws.{Full, full-nil, full-append, full-lit, full-length, from-to, length-toBytes, toBytes-append}
-use Rattle.codewords.specs.Read.{Read, got, stop, Parser, give, such, after, _>>=_, readNbits, byteAlign}
-use Rattle.codewords.specs.ReadLaws.{Reads, reads-pure, reads-bind, reads-such, reads-nbits, ReadsTo, reads-align}
+use Rattle.codewords.specs.ByteLaws.{Full, full-nil, full-append, full-lit, from-to, length-toBytes}
+use Rattle.codewords.specs.Read.{Read, got, Parser, give, after, _>>=_}
+use Rattle.codewords.specs.ReadLaws.{Reads, reads-such, reads-nbits, reads-align}
 use Rattle.unit.specs.declared.Settings.{Settings}
 use Rattle.unit.specs.declared.PictureKind.{PictureKind}
 use Rattle.unit.specs.declared.PictureKind.the-variants.{LowDelay, HighQuality}
 use Rattle.unit.specs.Three.{Three}
 use Rattle.unit.specs.Sizes.{Size, sizesOf}
-use Rattle.unit.specs.Slices.{Grid, sliceCount}
-use Rattle.unit.specs.Parameters.{SliceParameters, Parameters, parameterBits, parameterBytes, fill}
+use Rattle.unit.specs.Slices.{sliceCount}
+use Rattle.unit.specs.Parameters.{Parameters, parameterBits, parameterBytes, fill}
 use Rattle.unit.specs.ParameterLaws.{reads-parameters}
 use Rattle.unit.specs.Plan.{SlicePlan, Plan}
 use Rattle.unit.specs.Unit.{majorVersion, parseCode, sliceRuns, joined, headBits, lengthOf, unitOf}
-use Rattle.unit.specs.Reader.{SliceRead, Reading, readParameters, SliceNumbers, readSliceBy, bitsLeft, readSlice, readEach, gridIn, countsIn, kindOf, readEnd, readBits8, readUnit}
-use Rattle.unit.specs.Demand.{bytesOf, SameSlice, SameSlices, Follow}
+use Rattle.unit.specs.Reader.{SliceRead, Reading, readParameters, SliceNumbers, bitsLeft, readSlice, readEach, gridIn, countsIn, kindOf, readEnd, readBits8, readUnit}
+use Rattle.unit.specs.Demand.{bytesOf, SameSlices, Follow}
 use Rattle.unit.specs.Sound.{SoundSlice, SoundSlices, Legal, Sound}
 
 -- ---- bytes and bits of a unit

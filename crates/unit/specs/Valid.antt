@@ -3,7 +3,7 @@ use mathlib.Core.Path.{_≡_}
 use mathlib.Core.Bool.{Bool, true, false}
 use mathlib.Core.List.{List, [], _∷_}
 use mathlib.Core.Option.{Option, none, some}
-use Prim.Native.Nat.{ℕ, zero, suc, _+_, _*_, _≤_, _<_}
+use Prim.Native.Nat.{ℕ, _+_, _*_, _≤_}
 use lib.IntN.{ℤ}
 use lib.ListN.{length}
 use Rattle.unit.specs.declared.Settings.{Settings}
@@ -12,9 +12,9 @@ use Rattle.unit.specs.declared.PictureKind.the-variants.{LowDelay, HighQ
 use Rattle.unit.specs.declared.RateControl.{RateControl}
 use Rattle.unit.specs.declared.RateControl.the-variants.{Lossless, FixedQuantIndex, PictureBytes}
 use Rattle.unit.specs.Three.{Three}
-use Rattle.unit.specs.Sizes.{Size, area, lumaSize, colourSize}
+use Rattle.unit.specs.Sizes.{area, lumaSize, colourSize}
 use Rattle.unit.specs.Subbands.{subbandCount}
-use Rattle.unit.specs.Matrix.{defaultOf, matrixValues}
+use Rattle.unit.specs.Matrix.{defaultOf}
 use Rattle.unit.specs.Refusal.{paddedArea, workNeeded}
 
 -- n is from 1 to most

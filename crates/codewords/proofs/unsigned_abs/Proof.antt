@@ -1,9 +1,8 @@
 -- `codewords::unsigned_abs` meets its contract.
 use native.Mathlib.Omega.{arith}
-use mathlib.Core.Path.{_≡_, refl, sym, ap, _∙_}
+use mathlib.Core.Path.{refl}
 use mir.Syntax.{w64}
 use mir.Facts.{toZ-ofZ, toZ-pos}
-use borrow.Author.Needs.{needs}
 use Rattle.laws.specs.Machine.{Below, below, Plain, plain, unfit}
 use Rattle.codewords.proofs.unsigned_abs.Statement.{statement}
 use Rattle.codewords.proofs.unsigned_abs.Tie as tie

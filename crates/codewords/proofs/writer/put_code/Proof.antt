@@ -1,11 +1,8 @@
 -- `codewords::writer::put_code` meets its contract.
-use mathlib.Core.Path.{_≡_, sym, ap, _∙_}
-use mathlib.Core.Bool.{true}
-use mathlib.Core.List.{[], _∷_, _++_}
-use Prim.Native.Nat.{ℕ, _+_, _-_, _*_, _<_, _≤_}
+use mathlib.Core.Path.{_≡_, ap}
+use Prim.Native.Nat.{_+_, _-_}
 use lib.Count.{leadingZeros}
-use Rattle.codewords.specs.Bit.{Bits, lit}
-use Rattle.codewords.specs.Code.{log2, interleaved, codeU}
+use Rattle.codewords.specs.Code.{log2}
 use Rattle.codewords.specs.CodeLaws.{leading-log2, length-codeU, codeU-is}
 use native.Mathlib.Omega.{arith}
 use borrow.Author.Needs.{needs}

@@ -1,8 +1,7 @@
 -- `codewords::writer::put_uint` meets its contract.
 use native.Mathlib.Omega.{arith}
-use mathlib.Core.Path.{_≡_, sym, ap, _∙_}
-use Prim.Native.Nat.{ℕ, _+_, _-_, _<_, _≤_}
-use Rattle.codewords.specs.Code.{codeU}
+use mathlib.Core.Path.{_≡_}
+use Prim.Native.Nat.{_+_, _-_}
 use borrow.Author.Needs.{needs}
 use Rattle.codewords.proofs.writer.put_uint.Statement.{statement}
 use Rattle.codewords.proofs.writer.put_uint.Tie as tie

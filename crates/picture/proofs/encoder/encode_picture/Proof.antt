@@ -1,7 +1,6 @@
 -- `encoder::encode_picture` meets its contract.
 use mathlib.Core.Path.{_≡_, sym, _∙_}
 use native.Mathlib.Omega.{arith}
-use Rattle.unit.specs.Refusal.{refusalOf}
 use Rattle.unit.specs.ValidLaws.{valid}
 use Rattle.unit.specs.DemandLaws.{Typed}
 use Rattle.picture.specs.Sides.{planes}

@@ -2,7 +2,7 @@
 use mathlib.Core.Path.{ap, _∙_}
 use mathlib.Core.List.{List}
 use Prim.Native.Nat.{_+_}
-use lib.IntN.{ℤ, pos}
+use lib.IntN.{ℤ}
 use Rattle.picture.specs.High.{noteRun}
 use borrow.Author.Needs.{needs}
 use Rattle.picture.proofs.high_index.note_choice.Statement.{statement}

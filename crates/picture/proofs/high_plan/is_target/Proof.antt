@@ -1,6 +1,4 @@
 -- `high_plan::is_target` meets its contract.
-use mathlib.Core.Path.{refl, sym, ap}
-use Rattle.picture.specs.High.{isTarget}
 use Rattle.picture.specs.HighPlanLaws.{target-lossless, target-fixed, target-bytes}
 use borrow.Author.Needs.{needs}
 use Rattle.picture.proofs.high_plan.is_target.Statement.{statement}

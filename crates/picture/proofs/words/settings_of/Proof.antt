@@ -1,5 +1,5 @@
 -- `words::settings_of` meets its contract: known words are 21.
-use mathlib.Core.Path.{_≡_, refl}
+use mathlib.Core.Path.{_≡_}
 use lib.ListN.{length}
 use native.Mathlib.Omega.{arith}
 use Rattle.unit.specs.Words.{settingsOf}

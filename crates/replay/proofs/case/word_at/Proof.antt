@@ -1,6 +1,5 @@
 -- `replay::case::word_at` is safe and ends.
-use Prim.Native.Nat.{ℕ, _+_, _-_, _^_, _<_, _≤_}
-use borrow.Author.Needs.{needs}
+use Prim.Native.Nat.{_-_, _^_, _<_, _≤_}
 use native.Mathlib.Omega.{arith}
 use Rattle.replay.proofs.case.word_at.Statement.{statement}
 use Rattle.replay.proofs.case.word_at.Tie as tie

@@ -1,5 +1,5 @@
 -- `replay::quant::same_values` is safe and ends.
-use Prim.Native.Nat.{ℕ, _-_, _≤_}
+use Prim.Native.Nat.{_-_, _≤_}
 use borrow.Author.Needs.{needs}
 use native.Mathlib.Omega.{arith}
 use Rattle.replay.proofs.quant.same_values.Statement.{statement}

@@ -1,8 +1,6 @@
 -- `replay::transform::analyse_first` is safe.
 use mathlib.Core.Path.{sym}
-use Prim.Native.Nat.{_+_, _*_, _≤_}
 use lib.Seq.{length-take-le}
-use native.Mathlib.Omega.{arith}
 use borrow.Author.Needs.{needs}
 use Rattle.replay.proofs.transform.analyse_first.Statement.{statement}
 use Rattle.replay.proofs.transform.analyse_first.Tie as tie

@@ -1,10 +1,6 @@
 -- `replay::transform::run_dwt_in` is safe.
 use mathlib.Core.Path.{sym}
-use Prim.Native.Nat.{_+_, _*_, _≤_}
 use lib.Seq.{length-take-le}
-use native.Mathlib.Omega.{arith}
-use lib.ListN.{length, take}
-use Rattle.replay.specs.Planes.{SidesFit}
 use borrow.Author.Needs.{needs}
 use Rattle.replay.proofs.transform.run_dwt_in.Statement.{statement}
 use Rattle.replay.proofs.transform.run_dwt_in.Tie as tie

@@ -1,11 +1,9 @@
 -- `replay::words::put_all` is safe: the bits of a case fit the 24 bytes.
-use mathlib.Core.Path.{_≡_, sym, ap, _∙_}
 use mathlib.Core.Bool.{true}
-use Prim.Native.Nat.{ℕ, _+_, _*_, _^_, _≤_, _<_}
-use lib.ListN.{length, length-replicate}
-use Rattle.codewords.specs.Writer.{Sound, Room, Wrote}
+use lib.ListN.{length-replicate}
+use Rattle.codewords.specs.Writer.{Room}
 use Rattle.codewords.specs.WriterLaws.{room-after}
-use Rattle.replay.specs.Put.{bitsOf, short}
+use Rattle.replay.specs.Put.{short}
 use native.Mathlib.Omega.{arith}
 use borrow.Author.Needs.{needs}
 use Rattle.replay.proofs.words.put_all.Statement.{statement}

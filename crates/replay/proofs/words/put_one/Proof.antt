@@ -1,12 +1,7 @@
 -- `replay::words::put_one` meets its contract: each arm is given that p is its constructor.
-use mathlib.Core.Path.{_≡_, sym, ap, _∙_}
 use mir.Syntax.{w64}
 use mir.Facts.{toZ-ofZ}
-use lib.ListN.{length}
-use native.Mathlib.Omega.{arith}
-use Rattle.codewords.specs.Bit.{lit}
 use Rattle.codewords.specs.BitLaws.{length-lit}
-use Rattle.codewords.specs.Writer.{Room}
 use borrow.Author.Needs.{needs}
 use Rattle.replay.proofs.words.put_one.Statement.{statement}
 use Rattle.replay.proofs.words.put_one.Tie as tie
