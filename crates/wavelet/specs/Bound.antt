@@ -4,7 +4,7 @@ use mathlib.Core.Path.{_≡_, refl, sym, ap, _∙_}
 use mathlib.Core.Bool.{Bool, true, false, not, cond}
 use Prim.Native.Nat.{ℕ, zero, suc, _+_, _*_, _-_, _/_, _%_, _^_, _≤_, _<_}
 use native.Mathlib.Omega.{arith}
-use native.Mathlib.Nat.{add-mul, mul-add, mul-le-mul-left, le-of-mul-le-mul-left, le-trans, lt-of-le-of-lt}
+use native.Mathlib.Nat.{add-mul, mul-add, one-mul, mul-le-mul-left, mul-le-mul-right, le-of-mul-le-mul-left, le-trans, lt-of-le-of-lt}
 use native.Mathlib.Decide.{ℕ-discrete, decLt}
 use mathlib.Core.List.{List, [], _∷_, map}
 use lib.ListN.{length, getD, List·getD-eq-default}
@@ -18,6 +18,7 @@ use Rattle.laws.specs.Machine.{fit}
 use Rattle.laws.specs.Rows.{at}
 use Rattle.wavelet.specs.Lifting.{Keeps, Stage, place, exact, dot, delta, change, lifted, unlift, analysis}
 use Rattle.wavelet.specs.LiftingLaws.{each-filter, place-law, length-lifted, length-analysis, hit, miss}
+use Rattle.wavelet.specs.Product.{mul-sum}
 use Rattle.wavelet.specs.Filters.{dd97, legall, dd137, haar0, haar1, fidelity, daub97, filterOf, analysisBy}
 
 -- the sum of the sizes of the first k taps
@@ -43,6 +44,19 @@ module _ (t x : ℕ → ℤ) (r : ℕ) (b : (k : ℕ) → natAbs (x k) ≤ r) wh
       rw (dot-same wr keeps m (omega arith), w)
       (keeps (dot exact t x m +ℤ t m *ℤ x m) (fit (dot exact t x m +ℤ t m *ℤ x m) (omega (arith, dot-abs m, abs-add (dot exact t x m) (t m *ℤ x m)))))
 
+-- two equal taps t as lift::run_two sums them, t times the sum of two numbers: where the sum of the taps' sizes has
+-- room for the numbers, as in a stage (`Enough`), this wraps nowhere either
+pub pair-wraps-nowhere : (wr : ℤ → ℤ) → Keeps wr → (t x y : ℤ) (r : ℕ) → 1 ≤ natAbs t → natAbs x ≤ r → natAbs y ≤ r → (natAbs t + natAbs t) * r < 2 ^ 63
+    → wr (t *ℤ wr (x +ℤ y)) ≡ t *ℤ x +ℤ t *ℤ y
+pair-wraps-nowhere wr keeps t x y r some hx hy h =
+    let s : natAbs (x +ℤ y) ≤ 2 * r = omega (arith, abs-add x y) in
+    let a = add-mul (natAbs t) (natAbs t) r in
+    let m = mul-le-mul-left (natAbs t) s in
+    let d : natAbs t * (2 * r) ≡ natAbs t * r + natAbs t * r = ap (λ (k : ℕ). natAbs t * k) (omega arith) ∙ mul-add (natAbs t) r r in
+    let o : r ≤ natAbs t * r = omega (arith, mul-le-mul-right r some, one-mul r) in
+    rw (keeps (x +ℤ y) (fit (x +ℤ y) (omega arith)))
+    (keeps (t *ℤ (x +ℤ y)) (fit (t *ℤ (x +ℤ y)) (omega (arith, abs-mul t (x +ℤ y)))) ∙ mul-sum t x y)
+
 -- what one stage asks: u and r bound the places that it updates and reads, and v the updated ones
 pub record Enough (st : Stage) (u r v : ℕ) : Type 0 where
   pub room : 2 ^ st .shift * u + (gain (at (st .taps)) (length (st .taps)) * r + 2 ^ st .shift / 2 + 2 ^ st .shift) ≤ 2 ^ st .shift * v
@@ -58,16 +72,16 @@ module _ (st : Stage) (xs : List ℤ) (u r v : ℕ) (side : st .to ≤ 1) (even 
   abbrev read : ℕ → ℕ → ℤ
   read n k = at xs (place st (length xs) n k)
 
-  abbrev sum : ℕ → ℤ
-  sum n = dot exact (at (st .taps)) (read n) (length (st .taps))
+  abbrev tapSum : ℕ → ℤ
+  tapSum n = dot exact (at (st .taps)) (read n) (length (st .taps))
 
   read-abs : (n : ℕ) → n < length xs / 2 → (k : ℕ) → natAbs (read n k) ≤ r
   read-abs n l k = small .others (place st (length xs) n k) (place-law st (length xs) n k side l .other even)
 
-  sum-abs : (n : ℕ) → n < length xs / 2 → natAbs (sum n +ℤ pos (2 ^ st .shift / 2)) ≤ gain (at (st .taps)) (length (st .taps)) * r + 2 ^ st .shift / 2
-  sum-abs n l =
+  tapSum-abs : (n : ℕ) → n < length xs / 2 → natAbs (tapSum n +ℤ pos (2 ^ st .shift / 2)) ≤ gain (at (st .taps)) (length (st .taps)) * r + 2 ^ st .shift / 2
+  tapSum-abs n l =
       let a = dot-abs (at (st .taps)) (read n) r (read-abs n l) (length (st .taps)) in
-      le-trans (abs-add (sum n) (pos (2 ^ st .shift / 2))) (omega (arith, a))
+      le-trans (abs-add (tapSum n) (pos (2 ^ st .shift / 2))) (omega (arith, a))
 
   delta-same : (wr : ℤ → ℤ) → Keeps wr → (n : ℕ) → n < length xs / 2 → delta wr st xs n ≡ delta exact st xs n
   unfolding delta
@@ -75,12 +89,12 @@ module _ (st : Stage) (xs : List ℤ) (u r v : ℕ) (side : st .to ≤ 1) (even 
       let g = enough .sums in
       rw (
         dot-same (at (st .taps)) (read n) r (read-abs n l) wr keeps (length (st .taps)) (omega arith),
-        keeps (sum n +ℤ pos (2 ^ st .shift / 2)) (fit (sum n +ℤ pos (2 ^ st .shift / 2)) (lt-of-le-of-lt (sum-abs n l) g)),
+        keeps (tapSum n +ℤ pos (2 ^ st .shift / 2)) (fit (tapSum n +ℤ pos (2 ^ st .shift / 2)) (lt-of-le-of-lt (tapSum-abs n l) g)),
       )
 
   delta-abs : (n : ℕ) → n < length xs / 2 → 2 ^ st .shift * natAbs (delta exact st xs n) ≤ gain (at (st .taps)) (length (st .taps)) * r + 2 ^ st .shift / 2 + 2 ^ st .shift
   unfolding delta
-  delta-abs n l = omega (arith, abs-floor (sum n +ℤ pos (2 ^ st .shift / 2)) (2 ^ st .shift), sum-abs n l)
+  delta-abs n l = omega (arith, abs-floor (tapSum n +ℤ pos (2 ^ st .shift / 2)) (2 ^ st .shift), tapSum-abs n l)
 
   change-abs : (b : Bool) (x y : ℤ) → natAbs (change exact b x y) ≤ natAbs x + natAbs y
   change-abs true x y = abs-add x y

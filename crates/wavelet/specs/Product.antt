@@ -65,7 +65,7 @@ scale-law (negsuc k) a p n h = rw (neg-mul k a) (omega (arith, times-law (suc k)
 abbrev scale : (t : ℤ) {a : ℤ} → Lin a → Lin (t *ℤ a)
 scale t {a} x = record { p = up t * x .p + dn t * x .n; n = up t * x .n + dn t * x .p; law = scale-law t a (x .p) (x .n) (x .law) }
 
-mul-sum : (t x y : ℤ) → t *ℤ (x +ℤ y) ≡ t *ℤ x +ℤ t *ℤ y
+pub mul-sum : (t x y : ℤ) → t *ℤ (x +ℤ y) ≡ t *ℤ x +ℤ t *ℤ y
 mul-sum t x y =
     by-parts (scale t (var x ⊞ var y)) (scale t (var x) ⊞ scale t (var y))
     (omega (arith, mul-add (up t) (up x) (up y), mul-add (up t) (dn x) (dn y), mul-add (dn t) (up x) (up y), mul-add (dn t) (dn x) (dn y)))
