@@ -34,13 +34,15 @@ module _ {A : Type 0} where
   unfoldable pub such : Parser A → (A → Bool) → Parser A
   such p test = λ s. checked test s (p s)
 
+-- a reading, and then f's of what it gave
 abbrev pub after : {A B : Type 0} → Read A → (A → Parser B) → Read B
 after (stop s) f = stop s
 after (got x s) f = f x s
 
-infixl 20 _>>=_
-unfoldable pub _>>=_ : {A B : Type 0} → Parser A → (A → Parser B) → Parser B
-_>>=_ p f = λ s. after (p s) f
+-- p, and then f of what it gives
+infixl 20 _⊳_
+unfoldable pub _⊳_ : {A B : Type 0} → Parser A → (A → Parser B) → Parser B
+_⊳_ p f = λ s. after (p s) f
 
 -- A.3.3: k bits as a number
 abbrev pub nbitsFrom : ℕ → ℕ → Bits → Option (ℕ × Bits)

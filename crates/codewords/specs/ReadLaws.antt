@@ -14,7 +14,7 @@ use Rattle.codewords.specs.Bit.{Bits, val, lit, value, oneBits}
 use Rattle.codewords.specs.BitLaws.{length-lit, value-of-lit}
 use Rattle.codewords.specs.Code.{log2, interleaved, codeU, sign, codeS, codes, zeroFilled}
 use Rattle.codewords.specs.CodeLaws.{value-code}
-use Rattle.codewords.specs.Read.{got, stop, Parser, give, field, checked, such, after, _>>=_, nbitsFrom, readNbits, readBool, uintFrom, readUint, signFrom, sintFrom, readSint, byteAlign, splitFrom, readBits, uintb, signb, sintb, sintsb}
+use Rattle.codewords.specs.Read.{got, stop, Parser, give, field, checked, such, after, _⊳_, nbitsFrom, readNbits, readBool, uintFrom, readUint, signFrom, sintFrom, readSint, byteAlign, splitFrom, readBits, uintb, signb, sintb, sintsb}
 use Rattle.codewords.specs.ByteLaws.{Full}
 
 -- p reads x from w, whatever follows, and stops where w ends
@@ -26,16 +26,16 @@ unfolding give
 reads-pure x = record { at = λ rest. refl }
 
 pub reads-bind : {A B : Type 0} {p : Parser A} {w : Bits} {x : A} (f : A → Parser B) {v : Bits} {y : B}
-    → Reads p w x → Reads (f x) v y → Reads (p >>= f) (w ++ v) y
-unfolding _>>=_
+    → Reads p w x → Reads (f x) v y → Reads (p ⊳ f) (w ++ v) y
+unfolding _⊳_
 reads-bind {p = p} {w = w} f {v = v} a b = record {
   at = λ rest.
       ap (λ s. after (p s) f) (append-assoc w v rest) ∙ ap (λ o. after o f) (a .at (v ++ rest)) ∙ b .at rest;
 }
 
 -- a last step that reads nothing more
-pub reads-last : {A B : Type 0} {p : Parser A} {w : Bits} {x : A} (f : A → Parser B) {y : B} → Reads p w x → Reads (f x) [] y → Reads (p >>= f) w y
-unfolding _>>=_
+pub reads-last : {A B : Type 0} {p : Parser A} {w : Bits} {x : A} (f : A → Parser B) {y : B} → Reads p w x → Reads (f x) [] y → Reads (p ⊳ f) w y
+unfolding _⊳_
 reads-last f a b = record { at = λ rest. ap (λ o. after o f) (a .at rest) ∙ b .at rest }
 
 cond-true : {A : Type 0} (b : Bool) (x y : A) → T b → cond b x y ≡ x

@@ -6,7 +6,7 @@ use mathlib.Core.Option.{Option, none, some}
 use Prim.Native.Nat.{ℕ, _≤_, _<_}
 use lib.Dec.{T, eqb, leb, le→leb, eqb→eq, nleb→lt}
 use lib.ListN.{length}
-use Rattle.codewords.specs.Read.{Parser, give, _>>=_}
+use Rattle.codewords.specs.Read.{Parser, give, _⊳_}
 use Rattle.codewords.specs.ReadLaws.{Reads, reads-pure, reads-bind, reads-last, reads-such, reads-bool, reads-uint}
 use Rattle.quantiser.specs.AnnexD.{defaultMatrix}
 use Rattle.unit.specs.declared.PictureKind.{PictureKind}
@@ -32,7 +32,7 @@ off a b e = by (eqb a b) refl e
 
 -- 12.4.4 where the flag of a number says whether it differs from what stands for it
 reads-pair : (t : Parameters) → t .waveletHo ≤ 6
-    → Reads {A = Extended} (readFlagged (λ n. leb n 6) (t .wavelet) >>= λ h. readFlagged anyNumber 0 >>= λ k. give (record { wavelet = h; depth = k }))
+    → Reads {A = Extended} (readFlagged (λ n. leb n 6) (t .wavelet) ⊳ λ h. readFlagged anyNumber 0 ⊳ λ k. give (record { wavelet = h; depth = k }))
     (extendedBits t) (record { wavelet = t .waveletHo; depth = t .depthHo })
 unfolding extendedBits
 reads-pair t h =
@@ -46,7 +46,7 @@ reads-extended version t h l = by (leb 3 version) (λ u. l (nleb→lt 3 version 
   where
     by : (b : Bool) → (T (not b) → (t .waveletHo ≡ t .wavelet) × (t .depthHo ≡ 0))
         → Reads {A = Extended} (elim b as (λ z. Parser Extended) [
-          | true ↦ readFlagged (λ n. leb n 6) (t .wavelet) >>= λ h. readFlagged anyNumber 0 >>= λ k. give (record { wavelet = h; depth = k })
+          | true ↦ readFlagged (λ n. leb n 6) (t .wavelet) ⊳ λ h. readFlagged anyNumber 0 ⊳ λ k. give (record { wavelet = h; depth = k })
           | false ↦ give (record { wavelet = t .wavelet; depth = 0 })
         ]) (cond b (extendedBits t) []) (record { wavelet = t .waveletHo; depth = t .depthHo })
     by true g = reads-pair t h

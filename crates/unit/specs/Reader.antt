@@ -10,7 +10,7 @@ use lib.Dec.{eqb, leb}
 use lib.IntN.{ℤ, pos, _+ℤ_}
 use lib.ListN.{length, getD, drop}
 use Rattle.codewords.specs.Bytes.{fromBytes}
-use Rattle.codewords.specs.Read.{Read, got, stop, Parser, give, such, _>>=_, readNbits, readBool, readUint, byteAlign, readBits, sintsb}
+use Rattle.codewords.specs.Read.{Read, got, stop, Parser, give, such, _⊳_, readNbits, readBool, readUint, byteAlign, readBits, sintsb}
 use Rattle.laws.specs.Plane.{Plane}
 use Rattle.quantiser.specs.Standard.{inverse}
 use Rattle.quantiser.specs.AnnexD.{defaultMatrix}
@@ -27,7 +27,7 @@ use Rattle.unit.specs.Predict.{scan}
 
 -- ---- what is read
 pub record SliceRead : Type 0 where
-  -- in bytes, from the start of the unit
+  -- where the slice begins, in bytes from the unit's start, and how many bytes it takes
   pub offset : ℕ
   pub byteCount : ℕ
   pub index : ℕ
@@ -42,7 +42,7 @@ pub record Reading : Type 0 where
 -- ---- transform parameters, 12.4
 -- a number that is there if a flag is set
 unfoldable pub readFlagged : (ℕ → Bool) → ℕ → Parser ℕ
-readFlagged test n = readBool >>= λ f. elim f [ true ↦ such readUint test | false ↦ give n ]
+readFlagged test n = readBool ⊳ λ f. elim f [ true ↦ such readUint test | false ↦ give n ]
 
 abbrev pub anyNumber : ℕ → Bool
 anyNumber n = true
@@ -55,19 +55,19 @@ pub record Extended : Type 0 where
 unfoldable pub readExtended : ℕ → ℕ → Parser Extended
 readExtended version w =
     elim (leb 3 version) [
-      | true ↦ readFlagged (λ n. leb n 6) w >>= λ h. readFlagged anyNumber 0 >>= λ k. give (record { wavelet = h; depth = k })
+      | true ↦ readFlagged (λ n. leb n 6) w ⊳ λ h. readFlagged anyNumber 0 ⊳ λ k. give (record { wavelet = h; depth = k })
       | false ↦ give (record { wavelet = w; depth = 0 })
     ]
 
 -- 12.4.5.2: the slice parameters
 abbrev pub readSliceParameters : PictureKind → Parser SliceParameters
-readSliceParameters LowDelay = readUint >>= λ n. such readUint (λ d. leb 1 d && leb d n) >>= λ d. give (lowDelay n d)
-readSliceParameters HighQuality = readUint >>= λ p. such readUint (leb 1) >>= λ c. give (highQuality p c)
+readSliceParameters LowDelay = readUint ⊳ λ n. such readUint (λ d. leb 1 d && leb d n) ⊳ λ d. give (lowDelay n d)
+readSliceParameters HighQuality = readUint ⊳ λ p. such readUint (leb 1) ⊳ λ c. give (highQuality p c)
 
 -- n unsigned numbers
 unfoldable pub readUints : ℕ → Parser (List ℕ)
 readUints zero = give []
-readUints (suc n) = readUint >>= λ v. readUints n >>= λ vs. give (v ∷ vs)
+readUints (suc n) = readUint ⊳ λ v. readUints n ⊳ λ vs. give (v ∷ vs)
 
 abbrev pub isSome : {A : Type 0} → Option A → Bool
 isSome none = false
@@ -76,18 +76,18 @@ isSome (some x) = true
 -- 12.4.5.3: n values, or the default, which must be there
 unfoldable pub readMatrix : Bool → ℕ → Parser (Option (List ℕ))
 readMatrix default n =
-    such readBool (λ f. f || default) >>= λ f. elim f [ true ↦ readUints n >>= λ vs. give (some vs) | false ↦ give none ]
+    such readBool (λ f. f || default) ⊳ λ f. elim f [ true ↦ readUints n ⊳ λ vs. give (some vs) | false ↦ give none ]
 
 -- 12.4.1: the transform parameters
 unfoldable pub readParameters : PictureKind → ℕ → Parser Parameters
 readParameters kind version =
-    such readUint (λ n. leb n 6) >>= λ w.
-    readUint >>= λ d.
-    readExtended version w >>= λ e.
-    such readUint (leb 1) >>= λ a.
-    such readUint (leb 1) >>= λ b.
-    readSliceParameters kind >>= λ p.
-    readMatrix (isSome (defaultMatrix w (e .wavelet) d (e .depth))) (subbandCount (e .depth) d) >>= λ m.
+    such readUint (λ n. leb n 6) ⊳ λ w.
+    readUint ⊳ λ d.
+    readExtended version w ⊳ λ e.
+    such readUint (leb 1) ⊳ λ a.
+    such readUint (leb 1) ⊳ λ b.
+    readSliceParameters kind ⊳ λ p.
+    readMatrix (isSome (defaultMatrix w (e .wavelet) d (e .depth))) (subbandCount (e .depth) d) ⊳ λ m.
     give (record { wavelet = w; depth = d; waveletHo = e .wavelet; depthHo = e .depth; across = a; down = b; sliceParameters = p; matrix = m })
 
 -- ---- slices, 13.5
@@ -106,23 +106,23 @@ pub record SliceNumbers : Type 0 where
 -- 13.5.3: n bytes; luma in its length, the colours in the bits left
 unfoldable pub readLow : ℕ → Three ℕ → Parser SliceNumbers
 readLow n c =
-    readNbits 7 >>= λ q.
-    such (readNbits (lengthBits n)) (λ l. leb l (roomOf n)) >>= λ l.
-    readBits l >>= λ a.
-    readBits (roomOf n - l) >>= λ b.
+    readNbits 7 ⊳ λ q.
+    such (readNbits (lengthBits n)) (λ l. leb l (roomOf n)) ⊳ λ l.
+    readBits l ⊳ λ a.
+    readBits (roomOf n - l) ⊳ λ b.
     give (let z = sintsb (c .c1 + c .c2) b in record { index = q; numbers = record { y = sintsb (c .y) a; c1 = evens z; c2 = odds z } })
 
 -- 13.5.4: a byte that counts scalers, and that many bytes
 unfoldable pub readComponent : ℕ → ℕ → Parser (List ℤ)
-readComponent scaler n = readNbits 8 >>= λ l. readBits (8 * (l * scaler)) >>= λ b. give (sintsb n b)
+readComponent scaler n = readNbits 8 ⊳ λ l. readBits (8 * (l * scaler)) ⊳ λ b. give (sintsb n b)
 
 unfoldable pub readHigh : ℕ → ℕ → Three ℕ → Parser SliceNumbers
 readHigh prefix scaler c =
-    readBits (8 * prefix) >>= λ skipped.
-    readNbits 8 >>= λ q.
-    readComponent scaler (c .y) >>= λ y.
-    readComponent scaler (c .c1) >>= λ u.
-    readComponent scaler (c .c2) >>= λ v.
+    readBits (8 * prefix) ⊳ λ skipped.
+    readNbits 8 ⊳ λ q.
+    readComponent scaler (c .y) ⊳ λ y.
+    readComponent scaler (c .c1) ⊳ λ u.
+    readComponent scaler (c .c2) ⊳ λ v.
     give (record { index = q; numbers = record { y = y; c1 = u; c2 = v } })
 
 -- slice k, which has c numbers of each component
@@ -134,17 +134,17 @@ readSliceBy (highQuality p s) k c = readHigh p s c
 unfoldable pub bitsLeft : Parser ℕ
 bitsLeft s = got (length s) s
 
--- slice k of a unit of so many bits, with its place
+-- slice k of a unit of so many bits, with its place and its bytes
 unfoldable pub readSlice : ℕ → SliceParameters → ℕ → Three ℕ → Parser SliceRead
-readSlice total p k c =
-    bitsLeft >>= λ a.
-    readSliceBy p k c >>= λ r.
-    bitsLeft >>= λ b.
-    give (record { offset = (total - a) / 8; byteCount = (a - b) / 8; index = r .index; numbers = r .numbers })
+readSlice bits p k c =
+    bitsLeft ⊳ λ a.
+    readSliceBy p k c ⊳ λ r.
+    bitsLeft ⊳ λ b.
+    give (record { offset = (bits - a) / 8; byteCount = (a - b) / 8; index = r .index; numbers = r .numbers })
 
 unfoldable pub readEach : {A : Type 0} → (ℕ → Parser A) → ℕ → ℕ → Parser (List A)
 readEach p k zero = give []
-readEach p k (suc n) = p k >>= λ x. readEach p (suc k) n >>= λ xs. give (x ∷ xs)
+readEach p k (suc n) = p k ⊳ λ x. readEach p (suc k) n ⊳ λ xs. give (x ∷ xs)
 
 -- the sizes of the subbands of the components
 abbrev pub bandSizesIn : Three Size → Parameters → Three (List Size)
@@ -173,15 +173,15 @@ readEnd (b ∷ s) = stop (b ∷ s)
 -- a picture unit of so many bytes: parse information, picture number, transform parameters, slices
 unfoldable pub readBits8 : Three Size → ℕ → ℕ → Parser Reading
 readBits8 z version bytes =
-    such (readNbits 32) (eqb 0x42424344) >>= λ prefix.
-    such (readNbits 8) (λ c. eqb c 0xC8 || eqb c 0xE8) >>= λ c.
-    such (readNbits 32) (λ n. eqb n 0 || eqb n bytes) >>= λ next.
-    readNbits 32 >>= λ previous.
-    readNbits 32 >>= λ number.
-    readParameters (kindOf c) version >>= λ t.
-    byteAlign >>= λ aligned.
-    readEach (λ k. readSlice (8 * bytes) (t .sliceParameters) k (countsIn z t k)) 0 (sliceCount (gridIn t)) >>= λ ss.
-    readEnd >>= λ end.
+    such (readNbits 32) (eqb 0x42424344) ⊳ λ prefix.
+    such (readNbits 8) (λ c. eqb c 0xC8 || eqb c 0xE8) ⊳ λ c.
+    such (readNbits 32) (λ n. eqb n 0 || eqb n bytes) ⊳ λ next.
+    readNbits 32 ⊳ λ previous.
+    readNbits 32 ⊳ λ number.
+    readParameters (kindOf c) version ⊳ λ t.
+    byteAlign ⊳ λ aligned.
+    readEach (λ k. readSlice (8 * bytes) (t .sliceParameters) k (countsIn z t k)) 0 (sliceCount (gridIn t)) ⊳ λ ss.
+    readEnd ⊳ λ end.
     give (record { kind = kindOf c; number = number; parameters = t; slices = ss })
 
 -- the reading of a unit, by the component sizes and the major version

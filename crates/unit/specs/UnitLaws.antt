@@ -10,7 +10,7 @@ use Rattle.codewords.specs.Bit.{Bits, lit}
 use Rattle.codewords.specs.BitLaws.{length-lit}
 use Rattle.codewords.specs.Bytes.{toBytes, fromBytes}
 use Rattle.codewords.specs.ByteLaws.{Full, full-nil, full-append, full-lit, from-to, length-toBytes}
-use Rattle.codewords.specs.Read.{Read, got, Parser, give, after, _>>=_}
+use Rattle.codewords.specs.Read.{Read, got, Parser, give, after, _⊳_}
 use Rattle.codewords.specs.ReadLaws.{Reads, reads-such, reads-nbits, reads-align}
 use Rattle.unit.specs.declared.Settings.{Settings}
 use Rattle.unit.specs.declared.PictureKind.{PictureKind}
@@ -65,8 +65,8 @@ readsFrom n (a ∷ more) = record { offset = n; byteCount = bytesOf a; index = a
 record Finds {A : Type 0} (p : Parser A) (s : Bits) (x : A) (r : Bits) : Type 0 where
   is : p s ≡ got x r
 
-finds-then : {A B : Type 0} {p : Parser A} {s r u : Bits} {x : A} (f : A → Parser B) {y : B} → Finds p s x r → Finds (f x) r y u → Finds (p >>= f) s y u
-unfolding _>>=_
+finds-then : {A B : Type 0} {p : Parser A} {s r u : Bits} {x : A} (f : A → Parser B) {y : B} → Finds p s x r → Finds (f x) r y u → Finds (p ⊳ f) s y u
+unfolding _⊳_
 finds-then f a b = record { is = ap (λ o. after o f) (a .is) ∙ b .is }
 
 finds-pure : {A : Type 0} (x : A) (s : Bits) → Finds (give x) s x s
@@ -79,7 +79,7 @@ finds rest r = record { is = r .at rest }
 read-slice : (z : Three Size) (t : Parameters) (total k n : ℕ) (a : SlicePlan) (rest : Bits) → SoundSlice z t k a → total ≡ 8 * n + (length (a .bits) + length rest)
     → readSlice total (t .sliceParameters) k (countsIn z t k) (a .bits ++ rest)
     ≡ got (record { offset = n; byteCount = bytesOf a; index = a .index; numbers = a .kept }) rest
-unfolding readSlice _>>=_ bitsLeft give
+unfolding readSlice _⊳_ bitsLeft give
 read-slice z t total k n a rest s e =
     let l : length (a .bits ++ rest) ≡ length (a .bits) + length rest = length-append (a .bits) rest in
     ap (λ (r : Read SliceNumbers). after r (λ r s. after (got (length s) s)
@@ -152,8 +152,8 @@ module _ (z : Three Size) (version n prev num : ℕ) (k : PictureKind) (t : Para
   abbrev found : Reading
   found = record { kind = kindOf (parseCode k); number = num; parameters = t; slices = readsFrom h ss }
 
-  read-end : Finds (readEnd >>= λ end. give found) [] found []
-  unfolding readEnd _>>=_ give
+  read-end : Finds (readEnd ⊳ λ end. give found) [] found []
+  unfolding readEnd _⊳_ give
   read-end = record { is = refl }
 
   read-parameters : Reads (readParameters (kindOf (parseCode k)) version) b t
