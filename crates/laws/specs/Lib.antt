@@ -6,3 +6,4 @@ pub mod Laid
 pub mod Chunks
 pub mod Window
 pub mod Plane
+pub mod Ceiling

@@ -66,7 +66,7 @@ wrap-add a b =
     let u = var (x .k) ⊞ var (y .k) in
     unique (a +ℤ b) _ _ (record { k = x .k +ℤ y .k; law = omega arith; fits = x .fits }) (wraps (a +ℤ b))
 
--- by the machine's bits: n is z and j times 2 ^ 64
+-- the wrap by the machine's bits: n is z and j times 2 ^ 64
 pub wrap-bits : (z : ℤ) (n j : ℕ) → n + dn z ≡ up z + 2 ^ 64 * j → toZ w64 (n % 2 ^ 64) ≡ wrap z
 wrap-bits z n j h =
     let x = toZ-wraps (n % 2 ^ 64) (omega arith) in

@@ -10,11 +10,12 @@ use lib.IntN.{ℤ, pos, natAbs}
 use lib.ListN.{length, getD, take, drop, replicate, length-append, length-replicate, getD-replicate, List·getD-append}
 use lib.Seq.{getD-append-add, length-take-le}
 use lib.Pow.{pow-mono}
+use Rattle.laws.specs.Ceiling.{roundedUp}
 use Rattle.laws.specs.Rows.{at, span, row}
 use Rattle.laws.specs.Wrap.{wrap}
 use Rattle.wavelet.specs.Planes.{Band, coefficients}
 use Rattle.wavelet.specs.PlaneLaws.{length-coefficients}
-use Rattle.wavelet.specs.Pad.{roundedUp, padded, componentOf}
+use Rattle.wavelet.specs.Pad.{padded, componentOf}
 use Rattle.wavelet.specs.Theorems.{component-exact}
 use Rattle.wavelet.specs.Walk.{Deep}
 use Rattle.wavelet.specs.Component.{ComponentsIn}

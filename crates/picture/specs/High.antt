@@ -7,6 +7,7 @@ use Prim.Native.Nat.{ℕ, _+_, _*_, _^_, _≤_, _<_, max}
 use lib.Dec.{leb}
 use lib.IntN.{ℤ, pos, natAbs}
 use lib.ListN.{length, take, set}
+use Rattle.laws.specs.Ceiling.{ceiling}
 use Rattle.laws.specs.Rows.{at, span}
 use Rattle.laws.specs.Chunks.{chunks}
 use Rattle.codewords.specs.Bit.{Bits}
@@ -21,7 +22,7 @@ use Rattle.unit.specs.Plan.{SlicePlan}
 use Rattle.unit.specs.Trim.{trimmed, bitsOf, trimmedCost}
 use Rattle.unit.specs.Valid.{RateFits}
 use Rattle.unit.specs.Parameters.{parameterBytes}
-use Rattle.unit.specs.HighQuality.{ceiling, needOf, sliceSize, componentBits, highBits, shareOf, largestNeed, scalerFrom}
+use Rattle.unit.specs.HighQuality.{needOf, sliceSize, componentBits, highBits, shareOf, largestNeed, scalerFrom}
 use Rattle.unit.specs.Unit.{majorVersion, highParameters, highBytes}
 use Rattle.picture.specs.declared.layout.Picture.{Picture}
 use Rattle.picture.specs.declared.high_index.Needs.{Needs}
@@ -50,14 +51,14 @@ indexBy (PictureBytes t) p c share z = elect 0 255 (fitsBy p c share z)
 abbrev pub planBy : ℕ → ℕ → ℕ → Three (List ℤ) → SlicePlan
 planBy p c q z = record { index = q; numbers = z; kept = z; bits = highBits p c q z }
 
--- of slice k
+-- the index of slice k
 unfoldable pub indexIn : List ℤ → Picture → Terms → ℕ → ℕ
 indexIn w p t k = indexBy (t .rate) (t .prefix) (t .scaler) (shareOf (t .bytes) (slicesIn p) k) (numbersIn w p k)
 
 unfoldable pub planIn : List ℤ → Picture → Terms → ℕ → SlicePlan
 planIn w p t k = let q = indexIn w p t k in planBy (t .prefix) (t .scaler) q (numbersIn w p k q)
 
--- of the first n slices, and their bytes
+-- the plans of the first n slices, and their bytes
 abbrev pub plansIn : List ℤ → Picture → Terms → ℕ → List SlicePlan
 plansIn w p t n = span (planIn w p t) 0 n
 
@@ -83,7 +84,7 @@ packedOf xs = record { words = length (packed 0 xs); bits = trimmedCost xs }
 abbrev pub choiceBy : (ℕ → Three (List ℤ)) → ℕ → Choice
 choiceBy z q = record { index = q; y = packedOf (z q .y); c1 = packedOf (z q .c1); c2 = packedOf (z q .c2) }
 
--- of slice k
+-- the choice of slice k
 abbrev pub choiceIn : List ℤ → Picture → Terms → ℕ → Choice
 choiceIn w p t k = choiceBy (numbersIn w p k) (indexIn w p t k)
 
@@ -91,7 +92,7 @@ choiceIn w p t k = choiceBy (numbersIn w p k) (indexIn w p t k)
 abbrev pub sliceWords : Three (List ℤ) → List ℤ
 sliceWords z = packed 0 (z .y) ++ (packed 0 (z .c1) ++ packed 0 (z .c2))
 
--- of slice k, and of the first n slices
+-- the words of slice k, and of the first n slices
 abbrev pub wordsIn : List ℤ → Picture → Terms → ℕ → List ℤ
 wordsIn w p t k = sliceWords (numbersIn w p k (indexIn w p t k))
 
@@ -226,7 +227,7 @@ pub record Held (w : List ℤ) (i : ℕ) (r : Packed) : Type 0 where
   pub bits : r .bits ≡ bitsOf (runAt w i r)
   pub few : r .bits ≤ 2 ^ 33
 
--- a choice
+-- a choice whose words stand from place i on
 pub record HeldSlice (w : List ℤ) (i : ℕ) (c : Choice) : Type 0 where
   pub y : Held w i (c .y)
   pub c1 : Held w (i + c .y .words) (c .c1)
@@ -245,7 +246,7 @@ pub record HighIn (s : Settings) (p : Picture) (w : List ℤ) : Type 0 where
   pub prefix : s .«slice_prefix_bytes» ≤ 255
   pub scaler : (1 ≤ s .«slice_size_scaler») × (s .«slice_size_scaler» ≤ 65535)
 
--- the scaler that is settled on, by any bound on the turns that suffices, and where the unit ends
+-- the scaler that planning ends with, by any bound on the turns that suffices, and where the unit ends
 pub record Settles (w : List ℤ) (p : Picture) (s : Settings) (m : List ℕ) (r : Settled) : Type 0 where
   pub scaler : (most f : ℕ) → ((c : ℕ) → largestNeed (slicesBy w p s m c) ≤ most) → most ≤ 255 * (s .«slice_size_scaler» + f)
       → r .scaler ≡ scalerFrom (slicesBy w p s m) f (s .«slice_size_scaler»)

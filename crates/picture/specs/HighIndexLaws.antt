@@ -10,6 +10,7 @@ use borrow.Author.Tests.{lt-ltb, le-ltb, lt-leb}
 use lib.Dec.{leb}
 use lib.IntN.{ℤ}
 use lib.ListN.{length, length-append}
+use Rattle.laws.specs.Ceiling.{ceiling}
 use Rattle.unit.specs.declared.PictureKind.the-variants.{HighQuality}
 use Rattle.unit.specs.declared.RateControl.{RateControl}
 use Rattle.unit.specs.declared.RateControl.the-variants.{Lossless, FixedQuantIndex, PictureBytes}
@@ -22,7 +23,7 @@ use Rattle.unit.specs.Elect.{elect}
 use Rattle.unit.specs.ElectLaws.{elected}
 use Rattle.unit.specs.TestLaws.{no-truth}
 use Rattle.unit.specs.Valid.{RateFits}
-use Rattle.unit.specs.HighQuality.{ceiling, needOf, sliceSize, shareOf}
+use Rattle.unit.specs.HighQuality.{needOf, sliceSize, shareOf}
 use Rattle.picture.specs.declared.layout.Component.{Component}
 use Rattle.picture.specs.declared.layout.Layout.{Layout}
 use Rattle.picture.specs.declared.layout.Picture.{Picture}

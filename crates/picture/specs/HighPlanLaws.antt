@@ -10,6 +10,7 @@ use borrow.Author.Tests.{leb-true, leb-false, le-leb, lt-leb}
 use lib.Dec.{leb}
 use lib.IntN.{ℤ}
 use lib.ListN.{length, length-append}
+use Rattle.laws.specs.Ceiling.{ceiling}
 use Rattle.laws.specs.Rows.{span-more}
 use Rattle.laws.specs.Chunks.{chunks, chunks-none, chunks-more}
 use Rattle.codewords.specs.Bytes.{toBytes}
@@ -22,7 +23,7 @@ use Rattle.unit.specs.Three.{Three}
 use Rattle.unit.specs.Plan.{SlicePlan}
 use Rattle.unit.specs.Valid.{RateFits}
 use Rattle.unit.specs.Parameters.{parameterBytes}
-use Rattle.unit.specs.HighQuality.{ceiling, needOf, sliceSize, highBits, largestNeed, scalerFrom}
+use Rattle.unit.specs.HighQuality.{needOf, sliceSize, highBits, largestNeed, scalerFrom}
 use Rattle.unit.specs.HighQualityLaws.{length-high, next-rises}
 use Rattle.unit.specs.Unit.{majorVersion, highParameters, targetOf}
 use Rattle.picture.specs.declared.layout.Picture.{Picture}

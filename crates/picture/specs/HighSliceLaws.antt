@@ -8,6 +8,7 @@ use native.Mathlib.Omega.{arith}
 use lib.IntN.{ℤ}
 use lib.ListN.{length, take, drop, length-append, length-replicate, replicate-append-replicate}
 use lib.Seq.{drop-drop}
+use Rattle.laws.specs.Ceiling.{ceiling}
 use Rattle.laws.specs.Chunks.{chunks, chunks-none, chunks-more}
 use Rattle.laws.specs.Laid.{Lays, lays-start, lays-on}
 use Rattle.codewords.specs.Bit.{Bits, lit, oneBits, zeroBits}
@@ -20,7 +21,7 @@ use Rattle.codewords.specs.WriterLaws.{wrote-then, room-after, flush-lays}
 use Rattle.codewords.specs.declared.writer.BitWriter.{BitWriter}
 use Rattle.unit.specs.Three.{Three}
 use Rattle.unit.specs.Trim.{trimmed, bitsOf, trimmedCost}
-use Rattle.unit.specs.HighQuality.{ceiling, scalersOf, componentBits, highBits}
+use Rattle.unit.specs.HighQuality.{scalersOf, componentBits, highBits}
 use Rattle.unit.specs.HighQualityLaws.{cost-held, length-component, length-high}
 use Rattle.picture.specs.declared.layout.Picture.{Picture}
 use Rattle.picture.specs.declared.high_index.Choice.{Choice}

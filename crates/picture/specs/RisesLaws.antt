@@ -9,6 +9,7 @@ use native.Mathlib.Omega.{arith}
 use borrow.Author.Tests.{leb-true, le-leb}
 use lib.IntN.{ℤ, pos, negsuc, natAbs}
 use lib.ListN.{length, getD}
+use Rattle.laws.specs.Ceiling.{ceiling}
 use Rattle.laws.specs.Chunks.{chunks}
 use Rattle.codewords.specs.Code.{codeS}
 use Rattle.codewords.specs.CodeLaws.{codeS-pos}
@@ -17,7 +18,7 @@ use Rattle.quantiser.specs.QuantLaws.{quantFactor-least}
 use Rattle.quantiser.specs.RisesLaws.{factor-rises, forward-falls, code-falls}
 use Rattle.unit.specs.Three.{Three}
 use Rattle.unit.specs.Trim.{trimCons, trimmed, bitsOf, trimmedCost}
-use Rattle.unit.specs.HighQuality.{ceiling, needOf, scalersOf, sliceSize}
+use Rattle.unit.specs.HighQuality.{needOf, scalersOf, sliceSize}
 use Rattle.picture.specs.declared.layout.Component.{Component}
 use Rattle.picture.specs.declared.layout.Layout.{Layout}
 use Rattle.picture.specs.declared.layout.Picture.{Picture}

@@ -9,10 +9,11 @@ ghost use mathlib.Core.Bool.{false};
 ghost use Prim.Native.Nat.{_+_, _*_, _/_, _^_, _≤_, _<_, min, max};
 ghost use lib.IntN.{pos};
 ghost use lib.ListN.{length, set};
+ghost use Rattle.laws.specs.Ceiling.{ceiling};
 ghost use Rattle.laws.specs.Rows.{at};
 ghost use Rattle.laws.specs.Laid.{laid};
 ghost use Rattle.unit.specs.Elect.{elect};
-ghost use Rattle.unit.specs.HighQuality.{ceiling, shareOf};
+ghost use Rattle.unit.specs.HighQuality.{shareOf};
 ghost use Rattle.picture.specs.Run.{Small};
 ghost use Rattle.picture.specs.Layout.{RunIn};
 ghost use Rattle.picture.specs.Picture.{slicesIn, runOf, numbersIn, SliceIn};
@@ -46,7 +47,7 @@ pub(crate) struct Trimmed {
     pub bits: u64,
 }
 
-// A slice's index, and the runs of its components there, whose words stand one behind the other.
+// A slice's index, and the runs of its components there, whose words stand one after the other.
 pub(crate) struct Choice {
     pub index: u32,
     pub y: Packed,

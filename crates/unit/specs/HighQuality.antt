@@ -4,6 +4,7 @@ use mathlib.Core.List.{List, [], _∷_, _++_}
 use Prim.Native.Nat.{ℕ, zero, suc, _+_, _*_, _-_, _/_, _%_, max}
 use lib.Dec.{leb, ltb}
 use lib.IntN.{ℤ}
+use Rattle.laws.specs.Ceiling.{ceiling}
 use Rattle.codewords.specs.Bit.{Bits, lit, oneBits, zeroBits}
 use Rattle.codewords.specs.Code.{codes}
 use Rattle.laws.specs.Rows.{span}
@@ -16,10 +17,6 @@ use Rattle.unit.specs.Trim.{trimmed, trimmedCost}
 use Rattle.unit.specs.Elect.{elect}
 use Rattle.unit.specs.Quantised.{numbersHQ}
 use Rattle.unit.specs.Plan.{SlicePlan}
-
--- n over m, rounded up
-abbrev pub ceiling : ℕ → ℕ → ℕ
-ceiling n m = (n + (m - 1)) / m
 
 -- the bytes that a component needs
 abbrev pub needOf : List ℤ → ℕ

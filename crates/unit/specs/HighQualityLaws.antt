@@ -9,6 +9,7 @@ use borrow.Author.Tests.{leb-true, leb-false, ltb-true, ltb-false}
 use lib.Dec.{leb, ltb}
 use lib.IntN.{ℤ}
 use lib.ListN.{length, length-append, length-replicate}
+use Rattle.laws.specs.Ceiling.{ceiling}
 use Rattle.laws.specs.Rows.{span, length-span, map-span, span-ext, total}
 use Rattle.codewords.specs.Bit.{Bits, lit, oneBits, zeroBits}
 use Rattle.codewords.specs.BitLaws.{length-lit}
@@ -25,7 +26,7 @@ use Rattle.unit.specs.Slices.{Grid, sliceCount}
 use Rattle.unit.specs.Trim.{trimmed, trimmedCost}
 use Rattle.unit.specs.Plan.{SlicePlan}
 use Rattle.unit.specs.Quantised.{sizeOf, numbersHQ}
-use Rattle.unit.specs.HighQuality.{ceiling, needOf, scalersOf, componentBits, highBits, sliceSize, shareOf, highNumbers, highIndex, highPlan, highSlices, largestNeed, scalerFrom}
+use Rattle.unit.specs.HighQuality.{needOf, scalersOf, componentBits, highBits, sliceSize, shareOf, highNumbers, highIndex, highPlan, highSlices, largestNeed, scalerFrom}
 use Rattle.unit.specs.Reader.{readComponent, readHigh}
 use Rattle.unit.specs.Demand.{bytesOf}
 use Rattle.unit.specs.Valid.{RateFits}

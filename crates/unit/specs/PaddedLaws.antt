@@ -4,8 +4,8 @@ use Prim.Native.Nat.{ℕ, _+_, _-_, _/_, _%_, _^_, _≤_, _<_}
 use native.Mathlib.Nat.{div-add-mod', mod-lt, mul-mod-left, mul-le-mul, mul-le-mul-right}
 use native.Mathlib.Omega.{arith}
 use lib.Pow.{pow-pos}
+use Rattle.laws.specs.Ceiling.{roundedUp}
 use Rattle.wavelet.specs.Planes.{Padded}
-use Rattle.wavelet.specs.Pad.{roundedUp}
 use Rattle.unit.specs.Sizes.{Size, area}
 use Rattle.unit.specs.Subbands.{paddedSize}
 use Rattle.unit.specs.SliceLaws.{div-rises}

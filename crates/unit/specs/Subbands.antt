@@ -3,8 +3,8 @@ use mathlib.Core.Bool.{cond}
 use mathlib.Core.List.{List, [], _∷_, _++_}
 use Prim.Native.Nat.{ℕ, zero, suc, _+_, _*_, _-_, _/_, _^_}
 use lib.Dec.{eqb, leb}
+use Rattle.laws.specs.Ceiling.{roundedUp}
 use Rattle.laws.specs.Rows.{span}
-use Rattle.wavelet.specs.Pad.{roundedUp}
 use Rattle.unit.specs.Sizes.{Size}
 
 -- a component's padded size
@@ -30,6 +30,6 @@ triples f n (suc m) = f n ∷ f n ∷ f n ∷ triples f (suc n) m
 unfoldable pub subbandSizes : ℕ → ℕ → Size → List Size
 subbandSizes k d z = let f = subbandSize k d z in f 0 ∷ (span f 1 k ++ triples f (suc k) d)
 
--- how many there are
+-- how many subbands there are
 abbrev pub subbandCount : ℕ → ℕ → ℕ
 subbandCount k d = 1 + k + 3 * d

@@ -1,9 +1,10 @@
 -- The padded plane of a component and its coefficients: document 01, "Coefficients" and the sample offset of
 -- "Settings"; ST 2042-1, 13.2.3 and 15.5.
-use Prim.Native.Nat.{ℕ, _+_, _*_, _-_, _/_, _^_, min}
+use Prim.Native.Nat.{ℕ, _+_, _*_, _-_, _^_, min}
 use mathlib.Core.List.{List}
 use lib.ListN.{getD}
 use lib.IntN.{ℤ, pos, _-ℤ_}
+use Rattle.laws.specs.Ceiling.{roundedUp}
 use Rattle.laws.specs.Wrap.{wrap}
 use Rattle.laws.specs.Plane.{Plane}
 use Rattle.wavelet.specs.Planes.{coefficients, dwt}
@@ -15,10 +16,6 @@ centred o s = pos s -ℤ pos o
 -- h rows of w samples as a plane, the last column and the last row repeated
 abbrev pub padded : List ℕ → ℕ → ℕ → ℕ → Plane
 padded s o w h y x = centred o (getD s (min y (h - 1) * w + min x (w - 1)) 0)
-
--- n rounded up to a multiple of m
-abbrev pub roundedUp : ℕ → ℕ → ℕ
-roundedUp m n = (n + (m - 1)) / m * m
 
 -- a side, padded up to a multiple of 2 ^ n
 unfoldable pub paddedSide : ℕ → ℕ → ℕ

@@ -3,7 +3,7 @@ use mathlib.Core.Path.{ap, _∙_}
 use Prim.Native.Nat.{ℕ}
 use native.Mathlib.Omega.{arith}
 use borrow.Author.Needs.{needs}
-use Rattle.unit.specs.HighQuality.{ceiling}
+use Rattle.laws.specs.Ceiling.{ceiling}
 use Rattle.picture.specs.High.{runAt}
 use Rattle.picture.specs.HighSliceLaws.{Counted, kept-held, byte-room, kept-room, ones-room, component-wrote}
 use Rattle.picture.proofs.high_slice.put_component.Statement.{statement}
