@@ -1,13 +1,13 @@
 -- The entry points' outcomes from what the calls inside leave.
 use mathlib.Core.Path.{_≡_, refl, sym, ap, _∙_}
-use mathlib.Core.Bool.{Bool, true, false, cond, _||_}
-use mathlib.Core.List.{List, _++_}
+use mathlib.Core.Bool.{Bool, true, false, cond}
+use mathlib.Core.List.{List}
 use Prim.Native.Nat.{ℕ, _^_, _<_}
 use native.Mathlib.Omega.{arith}
 use borrow.Author.Tests.{eqb-false}
 use lib.Dec.{eqb, ltb}
-use lib.IntN.{ℤ, pos}
-use lib.ListN.{length, take, drop, replicate}
+use lib.IntN.{ℤ}
+use lib.ListN.{length, take}
 use lib.Signed.{mag}
 use mir.Syntax.{w64}
 use mir.Val.{toZ, ofZ}
@@ -24,9 +24,10 @@ use Rattle.unit.specs.Three.{Three}
 use Rattle.unit.specs.TestLaws.{no-truth}
 use Rattle.unit.specs.Refusal.{refusalOf}
 use Rattle.unit.specs.Plan.{Plan}
-use Rattle.unit.specs.Unit.{planOf, lengthOf, unitOf}
+use Rattle.unit.specs.Unit.{planOf, lengthOf}
 use Rattle.unit.specs.Words.{known, settingsOf}
-use Rattle.unit.specs.Outcome.{Outcome, numberOf, codedOf, zeroed, coded, outcomeOf}
+use Rattle.unit.specs.Outcome.{Outcome, numberOf, tooLong, codedIf, outcomeIf, outcomeOf}
+use Rattle.unit.specs.DemandLaws.{isAccepted}
 use Rattle.unit.specs.Demand.{Demand3}
 use Rattle.picture.specs.Encoded.{Encodes}
 use Rattle.exports.specs.Calls.{Gives, Values, valuesOf, Left, leftOf, Picture}
@@ -62,32 +63,18 @@ gives-refused i n z before a h e =
     gives i z before before n a h (ap answer.numberOf (sym e)) (ap (λ (a : QuantAnswer). leaves a before) (sym e))
 
 -- ---- the picture call
-abbrev isAccepted : Answer → Bool
-isAccepted (Accepted c) = true
-isAccepted (Refused n) = false
-
 -- an outcome of number 0 is an accepted one
 module _ (s : Settings) (m : List ℕ) (p : Three (List ℕ)) (out : List ℕ) (work : List ℤ) where
   abbrev a : Plan
   a = planOf s m p
 
-  -- the outcome, with what is tested put in its place
-  abbrev codedIf : Bool → Outcome
-  codedIf b =
-      elim b [
-        | true ↦ zeroed out work
-        | false ↦ record { answer = Accepted (codedOf s a); output = unitOf s a ++ drop (lengthOf s a) out; work = replicate (length work) (pos 0) }
-      ]
-
-  abbrev outcomeIf : Bool → Outcome
-  outcomeIf b = elim b [ true ↦ coded s a out work | false ↦ record { answer = Refused (refusalOf s m p work); output = out; work = work } ]
-
-  coded-zero : (b : Bool) → numberOf (codedIf b .answer) ≡ 0 → isAccepted (codedIf b .answer) ≡ true
+  -- coding that answers 0 is accepted
+  coded-zero : (b : Bool) → numberOf (codedIf s a out work b .answer) ≡ 0 → isAccepted (codedIf s a out work b .answer) ≡ true
   coded-zero true e = absurd (omega (arith, e))
   coded-zero false e = refl
 
-  outcome-zero : (b : Bool) → eqb (refusalOf s m p work) 0 ≡ b → numberOf (outcomeIf b .answer) ≡ 0 → isAccepted (outcomeIf b .answer) ≡ true
-  outcome-zero true t e = coded-zero (ltb (length out) (lengthOf s a) || ltb 4294967295 (lengthOf s a)) e
+  outcome-zero : (b : Bool) → eqb (refusalOf s m p work) 0 ≡ b → numberOf (outcomeIf s m p out work b .answer) ≡ 0 → isAccepted (outcomeIf s m p out work b .answer) ≡ true
+  outcome-zero true t e = coded-zero (tooLong (length out) (lengthOf s a)) e
   outcome-zero false t e = absurd (eqb-false (refusalOf s m p work) 0 t e)
 
   zero-accepted : numberOf (outcomeOf s m p out work .answer) ≡ 0 → isAccepted (outcomeOf s m p out work .answer) ≡ true

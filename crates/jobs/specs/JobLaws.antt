@@ -1,30 +1,29 @@
 -- From what the parts of the job program leave to what a job prints.
 use mathlib.Core.Path.{_≡_, refl, sym, ap, ap₂, _∙_}
-use mathlib.Core.Bool.{Bool, true, false, _&&_, _||_}
+use mathlib.Core.Bool.{Bool, true, false, _&&_}
 use mathlib.Core.List.{List, _++_, map, map-append, append-assoc}
 use Prim.Native.Nat.{ℕ, _+_, _*_, _-_, _%_, _≤_}
 use native.Mathlib.Omega.{arith}
 use lib.Dec.{eqb, ltb}
-use lib.IntN.{ℤ, pos}
-use lib.ListN.{length, take, drop, replicate, length-append, length-drop}
+use lib.IntN.{ℤ}
+use lib.ListN.{length, take, drop, length-append, length-drop}
 use lib.Seq.{take-all, take-at, drop-at}
 use borrow.Author.Tests.{ltb-false, eq-eqb, ne-eqb}
 use Rattle.laws.specs.Laid.{Lays}
 use Rattle.unit.specs.declared.Settings.{Settings}
 use Rattle.unit.specs.declared.Answer.{Answer}
-use Rattle.unit.specs.declared.Answer.the-variants.{Accepted, Refused}
 use Rattle.unit.specs.Three.{Three}
 use Rattle.unit.specs.Plan.{Plan}
-use Rattle.unit.specs.Unit.{planOf, lengthOf, unitOf}
+use Rattle.unit.specs.Unit.{planOf, lengthOf}
 use Rattle.unit.specs.Refusal.{anyAbove, refusalOf}
 use Rattle.unit.specs.TestLaws.{or-none}
 use Rattle.unit.specs.Words.{known, settingsOf}
-use Rattle.unit.specs.Outcome.{tells, codedOf, zeroed, coded, Outcome, outcomeOf}
+use Rattle.unit.specs.Outcome.{tells, lengthIn, codedOf, tooLong, codedIf, coded, Outcome, outcomeIf, outcomeOf}
 use Rattle.picture.specs.Sides.{planes}
 use Rattle.picture.specs.Encoded.{Encodes}
 use Rattle.jobs.specs.declared.parse.Ends.{Ends}
 use Rattle.jobs.specs.Job.{wordsOf, contentOf, partsOf, inOrder, lineOf, bytesFrom, unitIn, textOf, printed}
-use Rattle.jobs.specs.Steps.{lengthIn, endsOf, outcomeIn, Called, jobText, printedBy}
+use Rattle.jobs.specs.Steps.{endsOf, outcomeIn, Called, jobText, printedBy}
 use Rattle.jobs.specs.PrintLaws.{lays-same, lays-read}
 use Rattle.jobs.specs.ParseLaws.{part, part-long, part-join, length-part, contents-count, parted, ready}
 
@@ -127,31 +126,19 @@ module _ (ws : List ℕ) (e : Ends) (ends : e ≡ endsOf ws) where
       }
 
 -- an accepted unit fits the output
-abbrev codedBy : Settings → Plan → List ℕ → List ℤ → Bool → Outcome
-codedBy s a out work b = elim b [
-  | true ↦ zeroed out work
-  | false ↦ record { answer = Accepted (codedOf s a); output = unitOf s a ++ drop (lengthOf s a) out; work = replicate (length work) (pos 0) }
-]
-
 coded-fits : (s : Settings) (a : Plan) (out : List ℕ) (work : List ℤ) → lengthIn (coded s a out work .answer) ≤ length out
 unfolding codedOf
-coded-fits s a out work = by (ltb (length out) (lengthOf s a) || ltb 4294967295 (lengthOf s a)) refl
+coded-fits s a out work = by (tooLong (length out) (lengthOf s a)) refl
   where
-    by : (b : Bool) → ltb (length out) (lengthOf s a) || ltb 4294967295 (lengthOf s a) ≡ b → lengthIn (codedBy s a out work b .answer) ≤ length out
+    by : (b : Bool) → tooLong (length out) (lengthOf s a) ≡ b → lengthIn (codedIf s a out work b .answer) ≤ length out
     by true h = omega arith
     by false h = ltb-false (length out) (lengthOf s a) (or-none (ltb (length out) (lengthOf s a)) (ltb 4294967295 (lengthOf s a)) .0 h .0)
-
-abbrev outcomeBy : Settings → List ℕ → Three (List ℕ) → List ℕ → List ℤ → Bool → Outcome
-outcomeBy s m p out work b = elim b [
-  | true ↦ coded s (planOf s m p) out work
-  | false ↦ record { answer = Refused (refusalOf s m p work); output = out; work = work }
-]
 
 pub unit-fits : (s : Settings) (m : List ℕ) (p : Three (List ℕ)) (out : List ℕ) (work : List ℤ) → lengthIn (outcomeOf s m p out work .answer) ≤ length out
 unfolding outcomeOf
 unit-fits s m p out work = by (eqb (refusalOf s m p work) 0)
   where
-    by : (b : Bool) → lengthIn (outcomeBy s m p out work b .answer) ≤ length out
+    by : (b : Bool) → lengthIn (outcomeIf s m p out work b .answer) ≤ length out
     by true = coded-fits s (planOf s m p) out work
     by false = omega arith
 
@@ -164,7 +151,7 @@ answer-room ws out work out′ work′ r n c k h l =
     (omega arith, omega arith)
 
 -- ---- the text
--- of a job in order, and of another
+-- what is printed of a job in order, and of another
 pub answer-laid : {t t′ : List ℕ} {e : ℕ} (ws out : List ℕ) (work : List ℤ) (out′ : List ℕ) (work′ : List ℤ) (r : Answer) → inOrder ws ≡ true → Called ws out work out′ work′ r
     → Lays t 0 (lineOf (tells r) ++ bytesFrom 0 (unitIn r out′)) t′ e → Lays t 0 (printedBy ws out work) t′ e
 unfolding printedBy textOf

@@ -238,7 +238,7 @@ above-join : (most : ℕ) (xs ys : List ℕ) → anyAbove most (xs ++ ys) ≡ an
 above-join most [] ys = refl
 above-join most (x ∷ xs) ys = ap (λ (b : Bool). ltb most x || b) (above-join most xs ys) ∙ sym (or-assoc (ltb most x) (anyAbove most xs) (anyAbove most ys))
 
--- of a part and the one behind it
+-- a test of a part and of the one after it
 pub above-parts : (a b e : ℕ) (ws : List ℕ) → a ≤ b → b ≤ e
     → anyAbove 65535 (map contentOf (part a e ws)) ≡ anyAbove 65535 (map contentOf (part a b ws)) || anyAbove 65535 (map contentOf (part b e ws))
 above-parts a b e ws h l =

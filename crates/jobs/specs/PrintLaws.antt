@@ -16,9 +16,9 @@ use Rattle.laws.specs.Laid.{Lays, lays-start, lays-on, lays-first, run-laid0}
 use Rattle.unit.specs.declared.Answer.{Answer}
 use Rattle.unit.specs.declared.Answer.the-variants.{Accepted, Refused}
 use Rattle.unit.specs.declared.Coded.{Coded}
-use Rattle.unit.specs.Outcome.{tells}
+use Rattle.unit.specs.Outcome.{tells, lengthIn}
 use Rattle.jobs.specs.Job.{decimalFrom, decimal, lineOf, hexDigit, separator, bytesFrom, unitIn}
-use Rattle.jobs.specs.Steps.{chunk, lengthIn}
+use Rattle.jobs.specs.Steps.{chunk}
 
 -- ---- Lays
 -- a run that lies there, by an equal run

@@ -7,7 +7,6 @@ use lib.Dec.{eqb, leb}
 use lib.IntN.{ℤ}
 use lib.ListN.{length, drop, getD}
 use Rattle.unit.specs.declared.Answer.{Answer}
-use Rattle.unit.specs.declared.Answer.the-variants.{Accepted, Refused}
 use Rattle.unit.specs.Words.{settingsOf}
 use Rattle.unit.specs.Outcome.{Outcome, outcomeOf}
 use Rattle.jobs.specs.declared.parse.Ends.{Ends}
@@ -39,11 +38,6 @@ counted rate number custom matrix samples = (not (eqb rate 0) || eqb number 0) &
 -- a byte in two digits, and what stands behind it
 abbrev pub chunk : ℕ → Bool → List ℕ
 chunk b last = hexDigit (b / 16) ∷ hexDigit (b % 16) ∷ cond last 10 32 ∷ []
-
--- the bytes of an accepted call's unit
-abbrev pub lengthIn : Answer → ℕ
-lengthIn (Accepted c) = c .written
-lengthIn (Refused n) = 0
 
 -- ---- the job
 -- the outcome of the call of a job's words

@@ -1,4 +1,4 @@
-// What the program prints, as text in a lent slice. Each function gives the place behind what it has written.
+// What the program prints, as text in a lent slice. Each put gives the place after what it has written.
 use unit::Answer;
 use unit::Coded;
 ghost use mathlib.Core.Path.{_≡_};
@@ -7,10 +7,10 @@ ghost use mathlib.Core.List.{[], _∷_, _++_};
 ghost use Prim.Native.Nat.{_+_, _*_, _≤_, _<_};
 ghost use lib.ListN.{length};
 ghost use Rattle.laws.specs.Laid.{Lays};
-ghost use Rattle.unit.specs.Outcome.{tells};
+ghost use Rattle.unit.specs.Outcome.{tells, lengthIn};
 ghost use Rattle.unit.specs.declared.Answer.the-variants.{Accepted};
 ghost use Rattle.jobs.specs.Job.{decimal, lineOf, hexDigit, bytesFrom, unitIn};
-ghost use Rattle.jobs.specs.Steps.{chunk, lengthIn, jobText};
+ghost use Rattle.jobs.specs.Steps.{chunk, jobText};
 
 fn put(text: &mut [u8], at: usize, c: u8) -> usize
     requires { ⌜ at < length (now text) ⌝ }
@@ -48,7 +48,7 @@ fn digit(v: u8) -> u8
     if v < 10 { 48 + v } else { 55 + v }
 }
 
-// A line feed or a space.
+// A line feed where last is set, else a space.
 fn gap(last: bool) -> u8
     ensures { λ r. ⌜ r ≡ cond last 10 32 ⌝ }
 {

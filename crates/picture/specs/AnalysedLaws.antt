@@ -11,13 +11,14 @@ use lib.Dec.{ltb}
 use lib.IntN.{ℤ}
 use lib.ListN.{length, drop, take, getD, replicate, length-append, length-replicate, length-drop, List·getD-append}
 use lib.Seq.{take-at, drop-at, drop-drop}
+use Rattle.laws.specs.Ceiling.{roundedUp}
 use Rattle.laws.specs.Rows.{span, span-suc}
 use Rattle.laws.specs.Chunks.{chunks}
 use Rattle.laws.specs.Laid.{Lays, laid-is}
 use Rattle.codewords.specs.Bytes.{toBytes}
 use Rattle.quantiser.specs.Default.{places}
 use Rattle.wavelet.specs.Lifting.{exact}
-use Rattle.wavelet.specs.Pad.{roundedUp, padded}
+use Rattle.wavelet.specs.Pad.{padded}
 use Rattle.unit.specs.declared.Settings.{Settings}
 use Rattle.unit.specs.declared.Coded.{Coded}
 use Rattle.unit.specs.declared.Answer.the-variants.{Accepted, Refused}
@@ -33,7 +34,7 @@ use Rattle.unit.specs.Coefficients.{bandsOf, coefficientsOf}
 use Rattle.unit.specs.Plan.{SlicePlan, Plan}
 use Rattle.unit.specs.Unit.{majorVersion, gridOf, sliceRuns, joined, headBits, lengthOf, unitOf}
 use Rattle.unit.specs.UnitLaws.{length-unit}
-use Rattle.unit.specs.Outcome.{codedOf}
+use Rattle.unit.specs.Outcome.{codedOf, tooLong}
 use Rattle.unit.specs.Valid.{MatrixFits, Valid}
 use Rattle.unit.specs.ValidLaws.{Sides, luma-sides, colour-sides}
 use Rattle.unit.specs.TestLaws.{or-none, at-most}
@@ -43,7 +44,7 @@ use Rattle.picture.specs.Layout.{bandCount, gridIn, LayoutIn, ComponentI
 use Rattle.picture.specs.NumberLaws.{Bands, bands-are, Holds}
 use Rattle.picture.specs.Picture.{slicesIn, Placed, Arranged}
 use Rattle.picture.specs.Analysed.{lumaArea, colourArea, frontOf, componentAt, layoutOf, pictureOf, Called, Ready, Analysed}
-use Rattle.picture.specs.Encoded.{tooLong, answerBy, outputBy, Codes}
+use Rattle.picture.specs.Encoded.{answerBy, outputBy, Codes}
 
 -- ---- an accepted call
 module _ {s : Settings} {m : List ℕ} {p : Three (List ℕ)} {w : List ℤ} (v : Valid s m p w) where

@@ -1,9 +1,9 @@
 -- What the picture call leaves: answer, output and work slice as the definition's outcome has them, and demand 3.
 use mathlib.Core.Path.{_≡_}
-use mathlib.Core.Bool.{Bool, true, false, _||_}
+use mathlib.Core.Bool.{Bool, true, false}
 use mathlib.Core.List.{List, [], _∷_, _++_}
 use Prim.Native.Nat.{ℕ, _+_}
-use lib.Dec.{eqb, ltb}
+use lib.Dec.{eqb}
 use lib.IntN.{ℤ}
 use lib.ListN.{length, take, drop, replicate}
 use Rattle.unit.specs.declared.Settings.{Settings}
@@ -15,15 +15,11 @@ use Rattle.unit.specs.Three.{Three}
 use Rattle.unit.specs.Refusal.{refusalOf}
 use Rattle.unit.specs.Plan.{Plan}
 use Rattle.unit.specs.Unit.{planOf, lengthOf, unitOf}
-use Rattle.unit.specs.Outcome.{numberOf, tells, cutCount, scalerIn, codedOf, outcomeOf}
+use Rattle.unit.specs.Outcome.{numberOf, tells, cutCount, scalerIn, codedOf, tooLong, outcomeOf}
 use Rattle.unit.specs.Demand.{Demand3}
 use Rattle.picture.specs.declared.layout.Picture.{Picture}
 use Rattle.picture.specs.Run.{Small}
 use Rattle.picture.specs.Analysed.{pictureOf, frontOf, Called, Analysed}
-
--- whether a unit of n bytes is longer than an output of len bytes, or than 4,294,967,295 bytes
-abbrev pub tooLong : ℕ → ℕ → Bool
-tooLong len n = ltb len n || ltb 4294967295 n
 
 -- the answer's number: that of the first rule of 1 to 13 that is broken, else 14 where the unit is too long, else 0
 abbrev pub answerNumber : Settings → List ℕ → Three (List ℕ) → List ℕ → List ℤ → ℕ
@@ -43,7 +39,8 @@ answerTold s m p out work =
       | false ↦ []
     ]
 
--- settings s, lent matrix m, planes p, output and work slice as they came and as they are left, and the answer
+-- what a picture call does: settings s, lent matrix m, planes p, output and work slice as they came and as they are
+-- left, and the answer
 pub record Encodes (s : Settings) (m : List ℕ) (p : Three (List ℕ)) (out : List ℕ) (work : List ℤ) (out′ : List ℕ) (work′ : List ℤ) (r : Answer) : Type 0 where
   pub answer : r ≡ outcomeOf s m p out work .answer
   pub number : numberOf r ≡ answerNumber s m p out work
@@ -74,11 +71,11 @@ pub record Coding (s : Settings) (m : List ℕ) (kind : PictureKind) (p : Pictur
   pub picture : p ≡ pictureOf s m
   pub small : Small (frontOf s) (frontOf s + frontOf s) w
 
--- whatever planes the work slice has been analysed from
+-- answer and output, whatever planes the work slice has been analysed from
 pub record CodesAny (s : Settings) (m : List ℕ) (w : List ℤ) (out out′ : List ℕ) (r : Answer) : Type 0 where
   pub codes : (p : Three (List ℕ)) → Analysed s p w → Codes s (planOf s m p) out out′ r
 
--- the output behind a call that codes: cleared where it is refused
+-- the output after a call that codes: zeros where it is refused
 abbrev pub clearedBy : Answer → List ℕ → List ℕ
 clearedBy (Accepted c) out = out
 clearedBy (Refused n) out = replicate (length out) 0

@@ -11,15 +11,15 @@ use lib.ListN.{length, drop, set, replicate, getD, length-replicate}
 use lib.Seq.{set-at, drop-cons, append-snoc, drop-length}
 use Rattle.unit.specs.declared.Settings.{Settings}
 use Rattle.unit.specs.declared.Answer.{Answer}
-use Rattle.unit.specs.declared.Answer.the-variants.{Accepted, Refused}
+use Rattle.unit.specs.declared.Answer.the-variants.{Refused}
 use Rattle.unit.specs.Three.{Three}
 use Rattle.unit.specs.Refusal.{refusalOf}
 use Rattle.unit.specs.Plan.{Plan}
-use Rattle.unit.specs.Unit.{planOf, lengthOf, unitOf}
-use Rattle.unit.specs.Outcome.{numberOf, tells, cutCount, scalerIn, codedOf, Outcome, coded, outcomeOf}
+use Rattle.unit.specs.Unit.{planOf, lengthOf}
+use Rattle.unit.specs.Outcome.{numberOf, tells, cutCount, scalerIn, codedOf, Outcome, tooLong, codedIf, coded, outcomeIf, outcomeOf}
 use Rattle.unit.specs.PlannedLaws.{Component, Y, C1, C2, pick}
 use Rattle.unit.specs.DemandLaws.{Typed, accepted}
-use Rattle.picture.specs.Encoded.{Encodes, tooLong, answerBy, outputBy, Codes, clearedBy}
+use Rattle.picture.specs.Encoded.{Encodes, answerBy, outputBy, Codes, clearedBy}
 
 -- ---- zeros over a list
 zeros-more : (n : ℕ) → _++_ {A = ℕ} (replicate n 0) (0 ∷ []) ≡ replicate (suc n) 0
@@ -52,32 +52,19 @@ module _ (s : Settings) (m : List ℕ) (p : Three (List ℕ)) (out : List ℕ) (
   abbrev a : Plan
   a = planOf s m p
 
-  -- what is left of the output and the work slice, by whether the unit is too long
-  abbrev codedBy : Bool → Outcome
-  codedBy b =
-      elim b [
-        | true ↦ record { answer = Refused 14; output = replicate (length out) 0; work = replicate (length work) (pos 0) }
-        | false ↦ record { answer = Accepted (codedOf s a); output = unitOf s a ++ drop (lengthOf s a) out; work = replicate (length work) (pos 0) }
-      ]
-
-  -- the outcome by whether no refusal of 1 to 13 turns the call away
-  abbrev outcomeIf : Bool → Outcome
-  outcomeIf b =
-      elim b [ true ↦ coded s (planOf s m p) out work | false ↦ record { answer = Refused (refusalOf s m p work); output = out; work = work } ]
-
-  outcome-if : outcomeOf s m p out work ≡ outcomeIf (eqb (refusalOf s m p work) 0)
+  outcome-if : outcomeOf s m p out work ≡ outcomeIf s m p out work (eqb (refusalOf s m p work) 0)
   unfolding outcomeOf
   outcome-if = refl
 
   -- the number of the outcome's answer and what it tells, by whether a rule of 1 to 13 is broken and whether the unit
   -- is too long
-  number-by : (b t : Bool) → numberOf (elim b [ true ↦ codedBy t .answer | false ↦ Refused (refusalOf s m p work) ])
+  number-by : (b t : Bool) → numberOf (elim b [ true ↦ codedIf s a out work t .answer | false ↦ Refused (refusalOf s m p work) ])
       ≡ elim b [ true ↦ elim t [ true ↦ 14 | false ↦ 0 ] | false ↦ refusalOf s m p work ]
   number-by true true = refl
   number-by true false = refl
   number-by false t = refl
 
-  told-by : (b t : Bool) → eqb (refusalOf s m p work) 0 ≡ b → tells (elim b [ true ↦ codedBy t .answer | false ↦ Refused (refusalOf s m p work) ])
+  told-by : (b t : Bool) → eqb (refusalOf s m p work) 0 ≡ b → tells (elim b [ true ↦ codedIf s a out work t .answer | false ↦ Refused (refusalOf s m p work) ])
       ≡ (let n : ℕ = elim b [ true ↦ elim t [ true ↦ 14 | false ↦ 0 ] | false ↦ refusalOf s m p work ] in
       n ∷ elim (eqb n 0) [
         | true ↦ lengthOf s a ∷ cutCount (s .kind) a ∷ scalerIn (a .parameters .sliceParameters) (s .«slice_size_scaler») ∷ []
@@ -90,10 +77,10 @@ module _ (s : Settings) (m : List ℕ) (p : Three (List ℕ)) (out : List ℕ) (
 
   -- the outcome's answer by the two
   answer-if : outcomeOf s m p out work .answer
-      ≡ elim (eqb (refusalOf s m p work) 0) [ true ↦ codedBy (tooLong (length out) (lengthOf s a)) .answer | false ↦ Refused (refusalOf s m p work) ]
+      ≡ elim (eqb (refusalOf s m p work) 0) [ true ↦ codedIf s a out work (tooLong (length out) (lengthOf s a)) .answer | false ↦ Refused (refusalOf s m p work) ]
   answer-if = ap (λ (o : Outcome). o .answer) outcome-if ∙ by (eqb (refusalOf s m p work) 0)
     where
-      by : (b : Bool) → outcomeIf b .answer ≡ elim b [ true ↦ codedBy (tooLong (length out) (lengthOf s a)) .answer | false ↦ Refused (refusalOf s m p work) ]
+      by : (b : Bool) → outcomeIf s m p out work b .answer ≡ elim b [ true ↦ codedIf s a out work (tooLong (length out) (lengthOf s a)) .answer | false ↦ Refused (refusalOf s m p work) ]
       by true = refl
       by false = refl
 
@@ -111,22 +98,22 @@ module _ (s : Settings) (m : List ℕ) (p : Three (List ℕ)) (out : List ℕ) (
 
   pub encodes-refused : (n : ℕ) → Typed s p → n ≡ refusalOf s m p work → (n ≡ 0 → ⊥) → Encodes s m p out work out work (Refused n)
   encodes-refused n t e ne =
-      let f = outcome-if ∙ ap outcomeIf (ne-eqb (refusalOf s m p work) 0 (λ z. ne (e ∙ z))) in
+      let f = outcome-if ∙ ap (outcomeIf s m p out work) (ne-eqb (refusalOf s m p work) 0 (λ z. ne (e ∙ z))) in
       encodes out work (Refused n) t (ap Refused e ∙ sym (ap (λ (o : Outcome). o .answer) f)) (sym (ap (λ (o : Outcome). o .output) f)) (sym (ap (λ (o : Outcome). o .work) f))
 
   -- the outcome of a call that no rule of 1 to 13 refuses
   coded-outcome : refusalOf s m p work ≡ 0 → outcomeOf s m p out work ≡ coded s (planOf s m p) out work
-  coded-outcome e = outcome-if ∙ ap outcomeIf (eq-eqb (refusalOf s m p work) 0 e)
+  coded-outcome e = outcome-if ∙ ap (outcomeIf s m p out work) (eq-eqb (refusalOf s m p work) 0 e)
 
-  answer-by : (b : Bool) → answerBy s a b ≡ codedBy b .answer
+  answer-by : (b : Bool) → answerBy s a b ≡ codedIf s a out work b .answer
   answer-by true = refl
   answer-by false = refl
 
-  cleared-by : (b : Bool) → clearedBy (answerBy s a b) (outputBy s a out b) ≡ codedBy b .output
+  cleared-by : (b : Bool) → clearedBy (answerBy s a b) (outputBy s a out b) ≡ codedIf s a out work b .output
   cleared-by true = refl
   cleared-by false = refl
 
-  work-by : (b : Bool) → replicate (length work) (pos 0) ≡ codedBy b .work
+  work-by : (b : Bool) → replicate (length work) (pos 0) ≡ codedIf s a out work b .work
   work-by true = refl
   work-by false = refl
 

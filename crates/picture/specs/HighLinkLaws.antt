@@ -30,7 +30,7 @@ use Rattle.unit.specs.HighQuality.{shareOf, highNumbers, highIndex, highPlan, s
 use Rattle.unit.specs.HighQualityLaws.{needs-most}
 use Rattle.unit.specs.Unit.{majorVersion, gridOf, targetOf, highParameters, highBytes, highSlicesOf, scalerOf, planOf, sliceRuns, joined, headBits, lengthOf}
 use Rattle.unit.specs.Unit as unit
-use Rattle.unit.specs.Outcome.{codedOf, cutCount}
+use Rattle.unit.specs.Outcome.{codedOf, cutCount, tooLong}
 use Rattle.unit.specs.Valid.{RateFits}
 use Rattle.unit.specs.SoundLaws.{coefficients-within}
 use Rattle.picture.specs.declared.layout.Component.{Component}
@@ -42,7 +42,7 @@ use Rattle.picture.specs.Picture.{slicesIn, runOf, numbersIn}
 use Rattle.picture.specs.High.{indexBy, planBy, indexIn, planIn, highRuns, termsOf, slicesBy, PlanIn, HighIn, Settles, Notes}
 use Rattle.picture.specs.NotedLaws.{high-work, notes-plan, notes-own, runs-alike}
 use Rattle.picture.specs.Analysed.{isLow, layoutOf, pictureOf, Called, Analysed}
-use Rattle.picture.specs.Encoded.{tooLong, Codes, Coding, CodesAny}
+use Rattle.picture.specs.Encoded.{Codes, Coding, CodesAny}
 use Rattle.picture.specs.AnalysedLaws.{called-arranged, grid-is, slices-are, values-in, bands-y, bands-c1, bands-c2, small-by, holds-y, holds-c1, holds-c2, joined-span, length-parts, not-long, slices-room, codes-refused, codes-written}
 
 -- ---- a slice's index and plan

@@ -38,7 +38,7 @@ use Rattle.unit.specs.Matrix.{matrixValues}
 use Rattle.unit.specs.Coefficients.{coefficientsOf}
 use Rattle.unit.specs.Valid.{RateFits}
 use Rattle.unit.specs.Unit.{majorVersion, gridOf, parametersBy, targetOf, lowParameters, numeratorOf, planBy, planOf, sliceRuns, joined, headBits, lengthOf}
-use Rattle.unit.specs.Outcome.{lastIndices, cutCount, scalerIn, codedOf}
+use Rattle.unit.specs.Outcome.{lastIndices, cutCount, scalerIn, codedOf, tooLong}
 use Rattle.unit.specs.LowDelayLaws.{numerator-least, bytes-all, low-bytes}
 use Rattle.unit.specs.SoundLaws.{length-is}
 use Rattle.picture.specs.declared.layout.Component.{Component}
@@ -51,7 +51,7 @@ use Rattle.picture.specs.NumberLaws.{Bands, Holds, bottom-most, right-mo
 use Rattle.picture.specs.Picture.{slicesIn, runOf, Placed, Arranged}
 use Rattle.picture.specs.Low.{strip0, rebuiltIn, lumaIn, colourIn, lowFitsIn, lowBitsBy, isLast, bytesAt, lowIndexIn, lowWorkIn, lowBitsIn, workAt, lowRuns, cutsIn, LowIn}
 use Rattle.picture.specs.Analysed.{isLow, frontOf, layoutOf, pictureOf, Called, Analysed}
-use Rattle.picture.specs.Encoded.{tooLong, Coding, CodesAny}
+use Rattle.picture.specs.Encoded.{Coding, CodesAny}
 use Rattle.picture.specs.AnalysedLaws.{called-arranged, count-few, grid-is, slices-are, values-in, bands-y, bands-c1, bands-c2, small-by, holds-y, holds-c1, holds-c2, joined-span, codes-refused, codes-written}
 use Rattle.picture.specs.AgainLaws.{length-strip}
 
@@ -87,7 +87,7 @@ pub record Has (p : Picture) (c : Component) (bs : List Band) (r : Plane) (w : L
   pub coefs : Holds w (c .coefs) bs
   pub plane : Agree (bandAt bs 0 .high) (bandAt bs 0 .wide) (planeFrom w (c .rebuilt) (bandSize (p .layout) c 0 .width)) r
 
--- of the three
+-- the rebuilt planes of the three components
 pub record Follows (p : Picture) (b : Three (List Band)) (r : Three Plane) (w : List ℤ) : Type 0 where
   pub room : p .front ≤ length w
   pub y : Has p (p .y) (b .y) (r .y) w

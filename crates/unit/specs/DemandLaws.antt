@@ -1,13 +1,13 @@
 -- Demand 3 holds of the unit of every accepted call.
 use mathlib.Core.Path.{_≡_, refl, sym, ap, ap₂, _∙_}
-use mathlib.Core.Bool.{Bool, true, false, _||_}
-use mathlib.Core.List.{List, [], _∷_, _++_, map}
+use mathlib.Core.Bool.{Bool, true, false}
+use mathlib.Core.List.{List, [], _∷_, map}
 use mathlib.Core.Option.{Option, none, some}
 use Prim.Native.Nat.{ℕ, suc, _+_, _*_, _-_, _^_, _≤_, _<_, min}
 use native.Mathlib.Omega.{arith}
 use lib.IntN.{ℤ, pos, _+ℤ_}
 use lib.Dec.{eqb, ltb}
-use lib.ListN.{length, getD, take, drop, replicate}
+use lib.ListN.{length, getD, take, drop}
 use lib.Seq.{take-at}
 use borrow.Author.Tests.{eqb-true, ltb-false}
 use Rattle.laws.specs.Integer.{sub-add}
@@ -32,7 +32,7 @@ use Rattle.unit.specs.Coefficients.{bandsOf, coefficientsOf}
 use Rattle.unit.specs.Quantised.{sizeOf}
 use Rattle.unit.specs.Plan.{Plan}
 use Rattle.unit.specs.Unit.{majorVersion, gridOf, parametersBy, planBy, planOf, lengthOf, unitOf}
-use Rattle.unit.specs.Outcome.{codedOf, Outcome, zeroed, outcomeOf}
+use Rattle.unit.specs.Outcome.{lengthIn, codedOf, tooLong, codedIf, outcomeIf, outcomeOf}
 use Rattle.unit.specs.Reader.{Reading, gridIn, bandSizesIn, valuesBy, valuesIn, readBands, readSamplesOf, readSamples}
 use Rattle.unit.specs.Demand.{SameSlices, Follow, Undropped, AllZero, planIndex, NearBands, SameSamples, Demand3}
 use Rattle.unit.specs.Valid.{Between, Valid}
@@ -136,7 +136,7 @@ module _ (s : Settings) (m : List ℕ) (p : Three (List ℕ)) (work : List ℤ) 
       (paddedSize (s .«dwt_depth_ho») (s .«dwt_depth») z .width) (paddedSize (s .«dwt_depth_ho») (s .«dwt_depth») z .height)
       (v .wavelet-ho) (v .wavelet) (omega (arith, v .depths)) (padded-is (s .«dwt_depth_ho») (s .«dwt_depth») z) (t .samples c) (omega arith) .below))
 
-  -- of a component
+  -- what is read of a component's bands is near its coefficients
   samples-back : (c : Component) (bs : List Band) → EqualBands (pick c (coefficientsOf s p)) bs
       → SameSamples (pick c (sizesOf s)) (pick c p)
       (λ y x. idwt (s .«wavelet_index_ho») (s .«wavelet_index») bs (s .«dwt_depth_ho») (s .«dwt_depth») y x +ℤ pos (offsetOf (pick c (depthsOf s))))
@@ -145,7 +145,7 @@ module _ (s : Settings) (m : List ℕ) (p : Three (List ℕ)) (work : List ℤ) 
       component-back (s .«wavelet_index_ho») (s .«wavelet_index») (s .«dwt_depth_ho») (s .«dwt_depth») (pick c p) (offsetOf (pick c (depthsOf s))) (pick c (sizesOf s)) bs
       (v .wavelet-ho) (v .wavelet) (rw (bands-pick s p c) at e)
 
-  -- by the parameters that are read
+  -- a component's samples, by the parameters that are read
   samples-by : (c : Component) (bs : List Band) (q : Parameters) → q ≡ parametersBy s m (q .sliceParameters) → EqualBands (pick c (coefficientsOf s p)) bs
       → SameSamples (pick c (sizesOf s)) (pick c p) (λ y x. idwt (q .waveletHo) (q .wavelet) bs (q .depthHo) (q .depth) y x +ℤ pos (offsetOf (pick c (depthsOf s))))
   samples-by c bs q e b = rw e (samples-back c bs b)
@@ -209,34 +209,17 @@ pub demand : (s : Settings) (m : List ℕ) (p : Three (List ℕ)) (work : List �
 demand s m p work t e long = holds s m p work (valid s m p work e) t long
 
 -- ---- the outcome of a call
-abbrev isAccepted : Answer → Bool
+abbrev pub isAccepted : Answer → Bool
 isAccepted (Accepted c) = true
 isAccepted (Refused n) = false
-
-abbrev lengthIn : Answer → ℕ
-lengthIn (Accepted c) = c .written
-lengthIn (Refused n) = 0
 
 module _ (s : Settings) (m : List ℕ) (p : Three (List ℕ)) (out : List ℕ) (work : List ℤ) where
   abbrev n : ℕ
   n = lengthOf s (planOf s m p)
 
-  abbrev tooLong : Bool
-  tooLong = ltb (length out) n || ltb 4294967295 n
-
-  -- the outcome, with what is tested put in its place
-  abbrev codedIf : Bool → Outcome
-  codedIf b =
-      elim b [
-        | true ↦ zeroed out work
-        | false ↦ record { answer = Accepted (codedOf s (planOf s m p)); output = unitOf s (planOf s m p) ++ drop n out; work = replicate (length work) (pos 0) }
-      ]
-
-  abbrev outcomeIf : Bool → Outcome
-  outcomeIf b = elim b [ true ↦ codedIf tooLong | false ↦ record { answer = Refused (refusalOf s m p work); output = out; work = work } ]
-
   module _ (t : Typed s p) (c : Coded) where
-    coded-by : (b : Bool) → tooLong ≡ b → refusalOf s m p work ≡ 0 → codedIf b .answer ≡ Accepted c → Demand3 s m p (take (c .written) (codedIf b .output))
+    coded-by : (b : Bool) → tooLong (length out) n ≡ b → refusalOf s m p work ≡ 0 → codedIf s (planOf s m p) out work b .answer ≡ Accepted c
+        → Demand3 s m p (take (c .written) (codedIf s (planOf s m p) out work b .output))
     unfolding codedOf
     coded-by true e r a = no-truth (sym (ap isAccepted a))
     coded-by false e r a =
@@ -245,11 +228,12 @@ module _ (s : Settings) (m : List ℕ) (p : Three (List ℕ)) (out : List ℕ) (
         let q : n ≡ c .written = ap lengthIn a in
         rw (← q, take-at (unitOf s (planOf s m p)) (drop n out) n (length-unit s (planOf s m p))) (demand s m p work t r long)
 
-    outcome-by : (b : Bool) → eqb (refusalOf s m p work) 0 ≡ b → outcomeIf b .answer ≡ Accepted c → Demand3 s m p (take (c .written) (outcomeIf b .output))
-    outcome-by true e a = coded-by tooLong refl (eqb-true (refusalOf s m p work) 0 e) a
+    outcome-by : (b : Bool) → eqb (refusalOf s m p work) 0 ≡ b → outcomeIf s m p out work b .answer ≡ Accepted c
+        → Demand3 s m p (take (c .written) (outcomeIf s m p out work b .output))
+    outcome-by true e a = coded-by (tooLong (length out) n) refl (eqb-true (refusalOf s m p work) 0 e) a
     outcome-by false e a = no-truth (sym (ap isAccepted a))
 
-    -- of an accepted call demand 3 holds, for the bytes of the output that its answer counts
+    -- demand 3 holds of an accepted call, for the bytes of the output that its answer counts
     pub accepted : outcomeOf s m p out work .answer ≡ Accepted c → Demand3 s m p (take (c .written) (outcomeOf s m p out work .output))
     unfolding outcomeOf
     accepted a = outcome-by (eqb (refusalOf s m p work) 0) refl a

@@ -1,5 +1,5 @@
 -- The outcome of a picture call: document 01, "Answers that turn a call away".
-use mathlib.Core.Bool.{true, false, _||_}
+use mathlib.Core.Bool.{Bool, true, false, _||_}
 use mathlib.Core.List.{List, [], _∷_, _++_}
 use Prim.Native.Nat.{ℕ, suc, _+_}
 use lib.Dec.{eqb, ltb}
@@ -26,6 +26,11 @@ numberOf (Refused n) = n
 abbrev pub tells : Answer → List ℕ
 tells (Accepted c) = 0 ∷ c .written ∷ c .«cut_slices» ∷ c .«slice_size_scaler» ∷ []
 tells (Refused n) = n ∷ []
+
+-- the length that an answer gives: 0 where the call is refused
+abbrev pub lengthIn : Answer → ℕ
+lengthIn (Accepted c) = c .written
+lengthIn (Refused n) = 0
 
 -- how many slices carry index 127
 abbrev pub lastIndices : List SlicePlan → ℕ
@@ -56,22 +61,25 @@ pub record Outcome : Type 0 where
   pub output : List ℕ
   pub work : List ℤ
 
--- refused: 14 fills both slices with zeros, the others leave them
-abbrev pub zeroed : List ℕ → List ℤ → Outcome
-zeroed out work = record { answer = Refused 14; output = replicate (length out) 0; work = replicate (length work) (pos 0) }
+-- whether a unit of n bytes is longer than an output of len bytes, or than 4,294,967,295 bytes
+abbrev pub tooLong : ℕ → ℕ → Bool
+tooLong len n = ltb len n || ltb 4294967295 n
 
--- the unit goes to the output's start, the rest stays, and the work slice is filled with zeros; 14 where the unit is
--- longer than the output or than 2^32 - 1 bytes
+-- what coding leaves, by whether the unit is too long: 14 fills both slices with zeros; else the unit goes to the
+-- output's start, the rest of it stays, and the work slice is filled with zeros
+abbrev pub codedIf : Settings → Plan → List ℕ → List ℤ → Bool → Outcome
+codedIf s a out work true = record { answer = Refused 14; output = replicate (length out) 0; work = replicate (length work) (pos 0) }
+codedIf s a out work false =
+    record { answer = Accepted (codedOf s a); output = unitOf s a ++ drop (lengthOf s a) out; work = replicate (length work) (pos 0) }
+
 abbrev pub coded : Settings → Plan → List ℕ → List ℤ → Outcome
-coded s a out work =
-    let n = lengthOf s a in
-    elim (ltb (length out) n || ltb 4294967295 n) [
-      | true ↦ zeroed out work
-      | false ↦ record { answer = Accepted (codedOf s a); output = unitOf s a ++ drop n out; work = replicate (length work) (pos 0) }
-    ]
+coded s a out work = codedIf s a out work (tooLong (length out) (lengthOf s a))
 
--- settings, lent matrix, planes, and the output and work slices as they came
+-- the outcome by whether no rule of 1 to 13 is broken: a refusal leaves both slices as they came
+abbrev pub outcomeIf : Settings → List ℕ → Three (List ℕ) → List ℕ → List ℤ → Bool → Outcome
+outcomeIf s m p out work true = coded s (planOf s m p) out work
+outcomeIf s m p out work false = record { answer = Refused (refusalOf s m p work); output = out; work = work }
+
+-- the outcome of a call: settings, lent matrix, planes, and the output and work slices as they came
 unfoldable pub outcomeOf : Settings → List ℕ → Three (List ℕ) → List ℕ → List ℤ → Outcome
-outcomeOf s m p out work =
-    let r = refusalOf s m p work in
-    elim (eqb r 0) [ true ↦ coded s (planOf s m p) out work | false ↦ record { answer = Refused r; output = out; work = work } ]
+outcomeOf s m p out work = outcomeIf s m p out work (eqb (refusalOf s m p work) 0)

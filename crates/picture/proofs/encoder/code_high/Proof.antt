@@ -6,7 +6,7 @@ use borrow.Author.Needs.{needs}
 use lib.ListN.{length}
 use Rattle.picture.proofs.encoder.code_high.Statement.{statement}
 use Rattle.picture.proofs.encoder.code_high.Tie as tie
-use Rattle.picture.specs.Encoded.{tooLong}
+use Rattle.unit.specs.Outcome.{tooLong}
 use Rattle.picture.specs.AnalysedLaws.{called-carry}
 use Rattle.picture.specs.HighLinkLaws.{high-in, end-fits, head-room, slices-noted, noted-laid, high-refused, high-written}
 
