@@ -44,7 +44,7 @@ lit-none v = refl
 half-power : (v k : ℕ) → v / 2 ^ suc k ≡ v / 2 / 2 ^ k
 half-power v k = ap (λ (n : ℕ). v / n) (pow-succ' 2 k) ∙ sym (div-div-eq-div-mul v 2 (2 ^ k))
 
--- by the lowest bit
+-- k + 1 bits by the k higher ones and the lowest
 pub lit-low : (k v : ℕ) → lit (suc k) v ≡ lit k (v / 2) ++ (eqb (v % 2) 1 ∷ [])
 unfolding lit
 lit-low zero v = ap (λ (n : ℕ). eqb (n % 2) 1 ∷ []) (div-one v)

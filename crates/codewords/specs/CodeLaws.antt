@@ -95,7 +95,7 @@ length-codeS (pos zero) p = absurd (omega arith)
 length-codeS (pos (suc n)) p = rw (length-append, length-codeU) (omega arith)
 length-codeS (negsuc n) p = rw (length-append, length-codeU) (omega arith)
 
--- by the magnitude and whether it is below 0
+-- the signed code word by the magnitude and whether the number is below 0
 pub code-signed : (z : ℤ) → codeS z ≡ codeM (natAbs z) (ltZ z (pos 0))
 unfolding codeS codeM
 code-signed (pos zero) = append-nil (codeU 0)

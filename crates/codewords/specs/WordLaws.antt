@@ -30,7 +30,8 @@ spread-mod zero b = refl
 spread-mod (suc k) b =
     rw (← add-one k) (ap₂ (λ (x y : ℕ). x * 4 + y) (ap (spreadBits k) (field b k 1) ∙ spread-mod k (b / 2)) (mod-mod-pow b k 1))
 
--- by the machine's operations: halves of the byte apart, then of each half, then of each quarter
+-- bits at twice their places, by the machine's operations: halves of the byte apart, then of each half, then of each
+-- quarter
 abbrev pub steps : ℕ → ℕ
 steps a =
     let x = bitAnd (bitOr a (a * 2 ^ 4 % 2 ^ 64)) 0x0F0F in

@@ -78,7 +78,7 @@ pub fn byte_align(out: &mut [u8], w: BitWriter) -> BitWriter
     s
 }
 
-// Puts n bits 1.
+// Puts n ones.
 pub fn put_ones(out: &mut [u8], w: BitWriter, n: u64) -> BitWriter
     requires { ⌜ Room (now out) w n ⌝ }
     ensures { λ r. ⌜ Wrote (now (out .entry)) w (oneBits n) (now (out .exit)) r ⌝ }

@@ -64,7 +64,7 @@ pub(crate) fn byte_align(out: &mut [u8], w: &mut BitWriter)
     *w = crate::writer::byte_align(out, *w);
 }
 
-// Puts n bits 1.
+// Puts n ones.
 pub(crate) fn put_ones(out: &mut [u8], w: &mut BitWriter, n: u64)
     requires { ⌜ Room (now out) (now w) n ⌝ }
     ensures { λ _. ⌜ Wrote (now (out .entry)) (now (w .entry)) (oneBits n) (now (out .exit)) (now (w .exit)) ⌝ }

@@ -142,7 +142,7 @@ pub(crate) fn put_uint(out: &mut [u8], w: BitWriter, v: u32) -> BitWriter
     put_code(out, w, v as u64 + 1)
 }
 
-// The signed code word of a small magnitude m.
+// The signed code word of a small magnitude m, below 0 where minus is set.
 fn word_of(m: u64, minus: bool) -> Word
     requires { ⌜ m < 511 ⌝ }
     ensures { λ r. ⌜ (lit (r .len) (r .bits) ≡ codeM m minus) × (r .len ≤ 18) ⌝ }
@@ -189,7 +189,7 @@ pub(crate) fn byte_align(out: &mut [u8], w: BitWriter) -> BitWriter
     flush(out, s)
 }
 
-// Puts n bits 1.
+// Puts n ones.
 pub(crate) fn put_ones(out: &mut [u8], w: BitWriter, n: u64) -> BitWriter
     requires { ⌜ Room (now out) w n ⌝ }
     ensures { λ r. ⌜ Wrote (now (out .entry)) w (oneBits n) (now (out .exit)) r ⌝ }

@@ -89,7 +89,7 @@ fn run_words(
 }
 
 // What the job in bytes prints, at the text's start, and how long it is, with 6,144 numbers of work and 8,192 bytes of
-// output. What is left in the lent slices is open, but for the text.
+// output. What is left in the lent slices is open, but for the text's first r bytes.
 pub fn run(
     bytes: &[u8],
     words: &mut [u32],

@@ -77,7 +77,7 @@ fn run_end(words: &[u32], from: usize, kind: u32) -> usize
     i
 }
 
-// The words, kind after kind.
+// Where the words of each kind end.
 pub(crate) fn ends_of(words: &[u32]) -> Ends
     ensures { λ r. ⌜ r ≡ endsOf (now (words .entry)) ⌝ }
 {
@@ -122,7 +122,8 @@ fn is_end(words: &[u32], at: usize) -> bool
     words[at] == 0xF000_0000
 }
 
-// Lossless has rate number 0; matrix words only where custom is 1, at most 64 of them and 4,096 sample words.
+// Whether lossless has rate number 0, matrix words stand only where custom is 1, and there are at most 64 of them and
+// 4,096 sample words.
 fn counted(rate: u32, number: u32, custom: u32, matrix: usize, samples: usize) -> bool
     ensures { λ r. ⌜ r ≡ counted rate number custom matrix samples ⌝ }
 {

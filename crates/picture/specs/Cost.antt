@@ -26,7 +26,7 @@ fitted c = record {
   fit = cond (leb (c .bits) (c .room)) (c .count) (c .fit);
 }
 
--- one number more, which ends at n bits: one that is not 0 ends the kept run
+-- a cost with one number more, which ends at n bits: one that is not 0 ends the kept run
 unfoldable pub kept : Cost → Bool → ℕ → Cost
 kept c none n = record {
   room = c .room;
@@ -41,14 +41,14 @@ kept c none n = record {
 pub record Kept (c : Cost) (none : Bool) (n : ℕ) (r : Cost) : Type 0 where
   pub is : r ≡ kept c none n
 
--- one number more, whose code word has n bits: one bit is the number 0
+-- a cost with one number more, whose code word has n bits: one bit is the number 0
 abbrev pub addLen : Cost → ℕ → Cost
 addLen c n = fitted (kept c (eqb n 1) (c .bits + n))
 
 abbrev pub add1 : Cost → ℤ → Cost
 add1 c z = fitted (kept c (isZero z) (c .bits + length (codeS z)))
 
--- number by number
+-- numbers added to a state one by one
 module _ {A : Type 0} (step : A → ℤ → A) where
   unfoldable pub added : A → List ℤ → A
   added c [] = c
@@ -57,7 +57,7 @@ module _ {A : Type 0} (step : A → ℤ → A) where
 abbrev pub addAll : Cost → List ℤ → Cost
 addAll = added add1
 
--- nothing yet
+-- the cost of no number
 abbrev pub noCost : ℕ → Cost
 noCost room = record { room = room; bits = 0; count = 0; «kept_bits» = 0; keep = 0; «fit_bits» = 0; fit = 0 }
 

@@ -5,11 +5,11 @@ use Rattle.picture.specs.declared.layout.Component.{Component}
 use Rattle.picture.specs.declared.layout.Layout.{Layout}
 use Rattle.picture.specs.Layout.{bandCount, gridIn, bandSize}
 
--- slice k's, of the first n subbands of a component
+-- how many numbers slice k has of the first n subbands of a component
 unfoldable pub bandNumbersOf : Layout → Component → ℕ → ℕ → ℕ
 bandNumbersOf l c k zero = 0
 bandNumbersOf l c k (suc n) = bandNumbersOf l c k n + partSize (gridIn l) (bandSize l c n) k
 
--- of a component
+-- how many numbers slice k has of a component
 abbrev pub countOf : Layout → Component → ℕ → ℕ
 countOf l c k = bandNumbersOf l c k (bandCount l)

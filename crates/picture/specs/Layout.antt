@@ -82,7 +82,7 @@ runNumbers w l c second pair k q zero = []
 runNumbers w l c second pair k q (suc n) =
     runNumbers w l c second pair k q n ++ stripNumbers w (stripOf l c second pair n (startOf l c n) k q)
 
--- of n subbands behind the first
+-- a slice's numbers of n subbands behind the first
 unfoldable pub restNumbers : List ℤ → Layout → Component → Component → Bool → ℕ → ℕ → ℕ → List ℤ
 restNumbers w l c second pair k q zero = []
 restNumbers w l c second pair k q (suc n) =

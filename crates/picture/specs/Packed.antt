@@ -17,7 +17,7 @@ use Rattle.picture.specs.Cost.{isZero}
 abbrev pub mark : ℕ
 mark = 2 ^ 52
 
--- n zeros
+-- the word of n zeros, none where n is 0
 unfoldable pub zerosWord : ℕ → List ℤ
 zerosWord zero = []
 zerosWord (suc n) = pos (mark + suc n) ∷ []
@@ -32,7 +32,7 @@ unfoldable pub packedBits : ℕ → List ℤ → ℕ
 packedBits n [] = 0
 packedBits n (x ∷ xs) = elim (isZero x) [ true ↦ packedBits (suc n) xs | false ↦ n + length (codeS x) + packedBits 0 xs ]
 
--- the zeros that they end with
+-- how many zeros numbers end with, after n zeros
 unfoldable pub waiting : ℕ → List ℤ → ℕ
 waiting n [] = n
 waiting n (x ∷ xs) = elim (isZero x) [ true ↦ waiting (suc n) xs | false ↦ waiting 0 xs ]

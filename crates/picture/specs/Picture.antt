@@ -19,7 +19,7 @@ slicesIn p = sliceCount (gridIn (p .layout))
 abbrev pub runOf : List ℤ → Picture → Component → ℕ → ℕ → List ℤ
 runOf w p c k q = runNumbers w (p .layout) c c false k q (bandCount (p .layout))
 
--- of the three
+-- slice k's numbers of the three components at index q
 unfoldable pub numbersIn : List ℤ → Picture → ℕ → ℕ → Three (List ℤ)
 numbersIn w p k q = record { y = runOf w p (p .y) k q; c1 = runOf w p (p .c1) k q; c2 = runOf w p (p .c2) k q }
 

@@ -28,7 +28,7 @@ residualIn l s coefs base y x = planeFrom l coefs (s .width) y x -ℤ prediction
 abbrev pub numberIn : List ℤ → Strip → ℕ → ℕ → ℕ → ℕ → ℤ
 numberIn l s coefs base y x = forwardBy (s .factor) (residualIn l s coefs base y x)
 
--- the second colour's, where there is one
+-- the second colour's number of a place, where there is one
 abbrev pub secondNumber : List ℤ → Strip → ℕ → ℕ → List ℤ
 secondNumber l s y x = cond (s .pair) (numberIn l s (s .coefs2) (s .rebuilt2) y x ∷ []) []
 

@@ -12,7 +12,7 @@ use Rattle.picture.specs.declared.high_index.Trimmed.{Trimmed}
 use Rattle.picture.specs.declared.tally.Tally.{Tally}
 use Rattle.picture.specs.Cost.{isZero, added, Counted}
 
--- one number more
+-- a tally with one number more
 abbrev pub tally1 : Tally → ℤ → Tally
 tally1 t z = record { bits = t .bits + length (codeS z); count = t .count + 1; keep = cond (isZero z) (t .keep) (t .count + 1) }
 
@@ -23,11 +23,11 @@ tallyLen t n = record { bits = t .bits + n; count = t .count + 1; keep = cond (e
 abbrev pub tallyAll : Tally → List ℤ → Tally
 tallyAll = added tally1
 
--- nothing yet
+-- the tally of no number
 abbrev pub noTally : Tally
 noTally = record { bits = 0; count = 0; keep = 0 }
 
--- what is tallied of a cost
+-- the tally of a cost
 abbrev pub tallyOf : Cost → Tally
 tallyOf c = record { bits = c .bits; count = c .count; keep = c .keep }
 

@@ -184,7 +184,7 @@ number-below : (i : ℕ) (c : ℤ) → natAbs c ≤ most → natAbs (forwardBy (
 unfolding forwardQuant
 number-below i c h = omega (arith, number-size c i)
 
--- of a strip of one component that is not predicted
+-- the words of a strip of one component that is not predicted
 module _ {a e : ℕ} {w : List ℤ} {s : Strip} (h : Single a e w s) where
   pub place-below : (y x : ℕ) → Inside s y x → Below (placeNumbers w s y x)
   unfolding Below
@@ -214,7 +214,7 @@ band-single h d n o m = record {
   single = refl;
 }
 
--- of a slice's run of one component
+-- the words of a slice's run of one component
 pub run-below : (l : Layout) (c : Component) (a e k q : ℕ) (w : List ℤ) → RunIn l c c a e k q w → l .predicted ≡ false → Below (runNumbers w l c c false k q (bandCount l))
 run-below l c a e k q w h d =
     rw (run-chunks w l c c false k q (bandCount l)) (below-chunks (bandNumbers w l c c false k q) (bandCount l) (λ n o. strip-below (band-single h d n o (h .small))))

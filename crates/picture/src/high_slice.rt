@@ -16,8 +16,8 @@ ghost use Rattle.unit.specs.HighQuality.{componentBits, highBits};
 ghost use Rattle.picture.specs.Picture.{slicesIn};
 ghost use Rattle.picture.specs.High.{threeBits, highRuns, runAt, numbersAt, TermsIn, PlanIn, Notes, Held, HeldSlice};
 
-// Puts a component whose run is t, with its words from place from on: a byte that counts scalers, its numbers, and bits
-// 1.
+// Puts a component whose run is t, with its words from place from on: a byte that counts scalers, its numbers, and
+// ones.
 fn put_component(
     out: &mut [u8],
     w: BitWriter,

@@ -1,4 +1,4 @@
-// The index of a low-delay slice: its size, its candidates in the work slice, and the election.
+// The index of a low-delay slice: the slice's bytes, its rebuilt planes and its bits at an index, and the election.
 use crate::cost::Cost;
 use crate::high_index::Range;
 use crate::high_index::Trimmed;
@@ -98,14 +98,14 @@ pub(crate) fn room_of(n: u64) -> u64
     8 * n - 7 - length_bits(n) as u64
 }
 
-// 1 where q is the last index.
+// 1 where q is the last index, else 0.
 pub(crate) fn is_last(q: u32) -> u32
     ensures { λ r. ⌜ r ≡ isLast q ⌝ }
 {
     if q == 127 { 1 } else { 0 }
 }
 
-// What slice k has of level 0. The trials hand it down, so that it is worked out once.
+// What slice k has of level 0, worked out once for all trials.
 pub(crate) fn windows_of(p: Picture, k: u32) -> Windows
     requires { ⌜ Arranged p × (k < slicesIn p) ⌝ }
     ensures { λ r. ⌜ r ≡ windowsOf p k ⌝ }
@@ -270,7 +270,7 @@ fn never_fits(f: First, r: Rest, q: u32, room: u64) -> bool
     bits_with(f, r) > room
 }
 
-// Whether slice k takes at most room bits at index q, with the runs of two indices at hand; the runs at q take the
+// Whether slice k takes at most room bits at index q, where the runs of two indices are known; the runs at q take the
 // place of those on its side where they had to be worked out. The rebuilt planes are left as this index makes them.
 fn fits(
     work: &mut [i64],
@@ -347,7 +347,7 @@ fn moved(q: u32, step: u32, down: bool) -> u32
     }
 }
 
-// A count of turns less one, not below 0.
+// How many turns are left after one: one fewer where the search goes on (again), else 0.
 fn turns_left(left: u32, again: bool) -> u32
     requires { ⌜ 0 < left ⌝ }
     ensures { λ r. ⌜ r < left ⌝ }
@@ -368,7 +368,7 @@ fn widened(step: u32, left: u32) -> u32
 }
 
 // Runs at two indices near the guess g, in widening steps from there down where it fits and up where it does not, until
-// that changes. The election's index does not depend on them.
+// that changes, the end is reached or eight turns are over. The election's index does not depend on them.
 fn bracket_at(work: &mut [i64], p: Picture, room: u64, k: u32, g: u32, v: Windows) -> Bracket
     requires { ⌜ SliceIn p (now work) k 0 × ((g ≤ 127) × (v ≡ windowsOf p k)) ⌝ }
     ensures { λ r. ⌜ Tried p k (now (work .entry)) (now (work .exit)) × (Known (now (work .exit)) p k (r .low) × Known (now (work .exit)) p k (r .high)) ⌝ }
@@ -435,7 +435,7 @@ pub(crate) fn elect_qindex(
     }
 }
 
-// Slice k's runs at index q: those at hand, where they are of this index.
+// Slice k's runs at index q: the known ones r, where they are of this index.
 pub(crate) fn rest_at(work: &[i64], p: Picture, k: u32, q: u32, v: Windows, r: Rest) -> Rest
     requires { ⌜ SliceIn p (now work) k q × (Known (now work) p k r × (v ≡ windowsOf p k)) ⌝ }
     ensures { λ z. ⌜ Known (now (work .entry)) p k z × (z .index ≡ q) ⌝ }

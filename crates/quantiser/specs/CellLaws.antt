@@ -116,14 +116,14 @@ cell-out d k h = rw (le-ltb _ _ h) refl
 pub cell-past : (d k : ℕ) → 4 < k → 19 ≡ cellOf d k
 cell-past d k h = cell-out d k (omega (arith, start-most shape (suc k), ap total (take-all k shape h)))
 
--- by the block's start s and the next one's n
+-- a matrix's place by the block's start s and the next one's n
 pub record Place (d k s n : ℕ) : Type 0 where
   pub order : s ≤ n
   pub small : d < n - s → s + d < 2 ^ 32
   pub there : d < n - s → s + d ≡ cellOf d k
   pub not-there : n - s ≤ d → 19 ≡ cellOf d k
 
--- by the first six starts as a table
+-- a matrix's place by the first six starts as a table
 abbrev starts : List ℕ
 starts = span (startOf shape) 0 6
 

@@ -49,7 +49,7 @@ uncapped f off zero h l = refl
 uncapped f off (suc n) h l =
     rw (cap-same h, cap-same {n = suc n * f} (omega arith), cap-same {n = suc n * f + off} (omega arith), cap-same l)
 
--- by the capped factor and offset f and off, and the standard's g and o
+-- two inverses of a number: by the capped factor and offset f and off, and by the standard's g and o
 record Size (f off g o m n : ℕ) : Type 0 where
   plain : cappedInverseAbs f off n ≡ inverseAbs g o n
   near-size : Near f m (inverseAbs g o n)
@@ -58,7 +58,7 @@ record Size (f off g o m n : ℕ) : Type 0 where
 abbrev SizeAt : ℕ → ℕ → ℕ → Type 0
 SizeAt i m n = Size (quantFactor i) (quantOffset i) (factor i) (offset i) m n
 
--- by the remainder r: a number that is not 0 has a factor of at most 4 m, which is below 2^55
+-- the error by the remainder r: a number that is not 0 has a factor of at most 4 m, which is below 2^55
 size-by : (i m n r : ℕ) → m < 2 ^ 53 → n * quantFactor i + r ≡ 4 * m → r < quantFactor i → SizeAt i m n
 size-by i m zero r h e l = let z = zero-mul (quantFactor i) in record { plain = refl; near-size = omega arith; most-size = omega arith }
 size-by i m (suc n) r h e l =

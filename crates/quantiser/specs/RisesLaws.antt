@@ -21,7 +21,7 @@ unfolding cap
 cap-rises h = omega arith
 
 -- ---- factors
--- of one base
+-- the factors of one base rise
 factorBy-next : (r base : ℕ) → factorBy r base ≤ factorBy (suc r) base
 factorBy-next zero base = omega arith
 factorBy-next (suc zero) base = omega arith

@@ -150,8 +150,8 @@ pub fn forward_small(c: i64, f: u64) -> i64
     signed(c, forward_size(c, f))
 }
 
-// The place of the leading one of n / f, without the quotient: f, moved up until its leading one is at n's place, is
-// above n or not.
+// The place of the leading one of n / f, without the quotient: f is shifted until its leading one stands where n's
+// does; where it is then above n, the place is one lower.
 fn quotient_log2(n: u64, f: u64) -> u32
     requires { ⌜ (0 < f) × (f ≤ n) ⌝ }
     ensures { λ r. ⌜ r ≡ log2 (n / f) ⌝ }

@@ -105,7 +105,7 @@ NearBands g m index n (b ∷ bs) (r ∷ rs) = NearBand g m index n b r × NearBa
 abbrev pub SameSamples : Size → List ℕ → Plane → Type 0
 SameSamples z p f = (y x : ℕ) → y < z .height → x < z .width → f y x ≡ pos (getD p (y * z .width + x) 0)
 
--- settings s, lent matrix m, planes p, and the unit
+-- demand 3 of a call with settings s, lent matrix m and planes p, and of its unit
 pub record Demand3 (s : Settings) (m : List ℕ) (p : Three (List ℕ)) (unit : List ℕ) : Type 0 where
   pub reading : Reading
   -- nothing stops the reading, and it ends at the last byte

@@ -50,7 +50,8 @@ unfolding analysis
 one-number wr [] z = refl
 one-number wr (st ∷ ss) z = rw (one-number wr ss z) (one-stage wr st (not (st .adds)) z)
 
--- ---- one-slice 4:4:4 low delay, both wavelets 1, both depths 0, default matrix, not extended, target 51; the other settings are those of r
+-- ---- one-slice 4:4:4 low delay
+-- both wavelets 1, both depths 0, default matrix, not extended, target 51; the other settings are those of r
 unfoldable pub oneSlice : Settings → Settings
 oneSlice r = record {
   kind = LowDelay;
@@ -82,7 +83,7 @@ low-bytes g m b n q z some =
     length-toBytes (lowBits n q (w .luma) (w .colour))
     ∙ omega (arith, length-low n q (w .luma) (w .colour) (runs-fit (roomOf n) (z .y) (alternated (z .c1) (z .c2))) some)
 
--- of any size and with any planes
+-- the unit's length, for a picture of any size and any planes
 one-slice : (r : Settings) (m : List ℕ) (p : Three (List ℕ)) → lengthOf (oneSlice r) (planOf (oneSlice r) m p) ≡ 52
 unfolding oneSlice lengthOf planOf joined lowSlices lowPlan numeratorOf numerator majorVersion carriedMatrix parameterBytes parameterBits extendedBits log2In log2 lit interleaved codeU sliceBytes
 one-slice r m p =

@@ -62,13 +62,13 @@ unfoldable pub lowBits : ℕ → ℕ → List ℤ → List ℤ → Bits
 lowBits n q ys cs =
     lit 7 q ++ (lit (lengthBits n) (bitsOf ys) ++ (codes ys ++ (codes cs ++ oneBits (roomOf n - bitsOf ys - bitsOf cs))))
 
--- the runs that are written
+-- two runs: of luma, and of the colours together
 pub record Runs : Type 0 where
   pub luma : List ℤ
   pub colour : List ℤ
 
--- all but trailing zeros where that fits; else a cut: the longest luma run that fits, then the longest colour run in
--- the bits left
+-- the runs that are written: all but trailing zeros where that fits; else a cut: the longest luma run that fits, then
+-- the longest colour run in the bits left
 unfoldable pub keptRuns : ℕ → List ℤ → List ℤ → Runs
 keptRuns room ys cs =
     elim (leb (trimmedCost ys + trimmedCost cs) room) [

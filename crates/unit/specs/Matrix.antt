@@ -19,6 +19,6 @@ orNone (some vs) = vs
 unfoldable pub matrixValues : Settings → List ℕ → List ℕ
 matrixValues s m = elim (s .«custom_matrix») [ true ↦ m | false ↦ orNone (defaultOf s) ]
 
--- what the unit carries
+-- the custom matrix that the unit carries, if any
 unfoldable pub carriedMatrix : Settings → List ℕ → Option (List ℕ)
 carriedMatrix s m = elim (s .«custom_matrix») [ true ↦ some m | false ↦ none ]

@@ -53,7 +53,7 @@ read-exact {c} {r} o =
     let p = o .prediction in
     sym (o .is ∙ ap (λ (v : ℤ). p +ℤ v) (exact (c -ℤ p) (o .room)) ∙ by-parts (var p ⊞ (var c ⊟ var p)) (var c) (omega arith))
 
--- by the standard's formula, with no prediction
+-- a value rebuilt by the standard's formula, with no prediction
 read-plain : (i : ℕ) (c : ℤ) → natAbs c < 2 ^ 53 → ReadOf i c (inverse (forwardQuant c i) i)
 read-plain i c fits =
     let e : c -ℤ pos 0 ≡ c = +ℤ-idr c in

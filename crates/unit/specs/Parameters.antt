@@ -1,5 +1,4 @@
--- The transform parameters and their bits: ST 2042-1, 12.4; the major version: document 01, "Settings the box is
--- given".
+-- The transform parameters and their bits: ST 2042-1, 12.4.
 use mathlib.Core.Bool.{Bool, true, false, not, cond}
 use mathlib.Core.List.{List, [], _∷_, _++_}
 use mathlib.Core.Option.{Option, none, some}

@@ -191,7 +191,7 @@ read-pick z r C1 = refl
 read-pick z r C2 = refl
 
 module _ (kind : PictureKind) (g : Grid) (m : List ℕ) (b : Three (List Band)) (z : Three Size) (r : Reading) (alike : ReadAs kind g m b z r) where
-  -- of a component
+  -- what is read of a component
   pub bands-are : (c : Component)
       → pick c (readBands z r) ≡ readBandsBy g m (λ k. readAt (r .slices) k .index) kind (map sizeOf (pick c b)) (λ k. pick c (readAt (r .slices) k .numbers))
   bands-are c =

@@ -14,7 +14,7 @@ bound n w i = w * i / n
 unfoldable pub region : Plane → ℕ → ℕ → ℕ → ℕ → List ℤ
 region f t b l r = let c = r - l in span (λ k. f (t + k / c) (l + k % c)) 0 ((b - t) * c)
 
--- m slices down and n across; slices are numbered row by row
+-- the slices down and across; they are numbered row by row
 pub record Grid : Type 0 where
   pub down : ℕ
   pub across : ℕ
