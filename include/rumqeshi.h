@@ -31,7 +31,7 @@ enum {
     VC2_NO_TARGET = 5,           /* low delay without a picture's bytes */
     VC2_BAD_INDEX = 6,           /* a quantisation index is above 255 */
     VC2_BAD_TARGET = 7,          /* the picture's bytes are above 1,073,741,824 */
-    VC2_BAD_FRAME = 8,           /* format, mode, a frame side or an excursion is out of range, or a component side is 0 */
+    VC2_BAD_FRAME = 8,           /* format, mode, frame side or excursion is out of range, or a component side is 0 */
     VC2_BAD_MATRIX = 9,          /* a custom matrix has a wrong count of values, or one above 255 */
     VC2_NO_DEFAULT_MATRIX = 10,  /* Annex D has no default matrix for these wavelets and depths */
     VC2_BAD_AREA = 11,           /* the padded luma area is above 67,108,864 */
@@ -103,7 +103,8 @@ uint32_t vc2_oned_analysis(int64_t *row, size_t row_count, uint32_t index);
  *           not looked at where VC2_CUSTOM_MATRIX is 0, and may then have count 0.
  * y, c1, c2 the planes, row by row: as many samples as the component's width times its height.
  * work      scratch: at least three times the sum of the three components' padded areas. A padded
- *           width is a multiple of 2^(both depths), a padded height one of 2^VC2_DWT_DEPTH.
+ *           width is the width rounded up to a multiple of 2^(VC2_DWT_DEPTH_HO + VC2_DWT_DEPTH), a
+ *           padded height the height rounded up to one of 2^VC2_DWT_DEPTH.
  * out       where the unit goes.
  *
  * Answers, the first that applies:

@@ -42,11 +42,11 @@ that other load counts little. The units are compared after each call. Ratio: se
 over those of the port. Lent bytes: the work slice, 8 bytes a number, and an output as long as the
 unit. The speeds to reach, in the last lines, count 1920x1080 and 3840x2160 and not 64x64.";
 
-/// Each side encodes a picture at least so many times
+/// The least number of runs of each side.
 const LEAST_RUNS: u32 = 9;
-/// and until all its runs together have taken this,
+/// The least time of all runs of a side together.
 const LEAST_TIME: Duration = Duration::from_secs(2);
-/// but not again once they have taken this.
+/// The time of a side's runs together after which no further run begins.
 const MOST_TIME: Duration = Duration::from_secs(20);
 
 /// Frames of at least this width count for the speeds to reach.

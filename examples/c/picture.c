@@ -1,4 +1,4 @@
-/* Encodes the example picture of document 01 and prints the unit as its job program does, then a call that is refused. */
+/* Encodes document 01's example picture, prints the unit as its job program does, and makes a call that is refused. */
 #include <inttypes.h>
 #include <stdio.h>
 

@@ -127,7 +127,7 @@ impl Run {
         let found = match printed(program, bytes) {
             Ok(printed) if printed == text.as_bytes() => return,
             Ok(printed) => {
-                // From the first line on that differs.
+                // Only the first line that differs is shown.
                 let printed = String::from_utf8_lossy(&printed);
                 let same = printed.lines().zip(text.lines()).take_while(|(a, b)| a == b).count();
                 let line = |text: &str| text.lines().nth(same).map(String::from);

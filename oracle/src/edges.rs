@@ -1,5 +1,5 @@
 //! Jobs at the edges: each refusal on both sides of its boundary, each way to be malformed, and
-//! jobs whose outcome turns on one detail.
+//! jobs whose outcome depends on one detail.
 
 use crate::generate::content;
 use crate::jobs::{self, *};

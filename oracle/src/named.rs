@@ -140,7 +140,7 @@ impl Cases {
         }
     }
 
-    /// With this much output.
+    /// Makes the cases with an output of `room` bytes.
     fn in_room(&mut self, room: usize, cases: impl FnOnce(&mut Cases)) {
         let old = std::mem::replace(&mut self.room, room);
         cases(self);
@@ -406,7 +406,7 @@ impl Cases {
                 }
             }
         }
-        // Some of them by hand.
+        // Some wavelets and depths by hand.
         self.settings(&[(CUSTOM, 0), (WAVELET, 3), (WAVELET_HO, 1), (DEPTH, 2), (DEPTH_HO, 0)], 0);
         self.settings(&[(CUSTOM, 0), (WAVELET, 1), (WAVELET_HO, 3), (DEPTH, 2), (DEPTH_HO, 0)], 10);
         self.settings(&[(CUSTOM, 0), (DEPTH, 4), (DEPTH_HO, 0)], 0);

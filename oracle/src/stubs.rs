@@ -1,4 +1,4 @@
-//! Stand-ins for the parts of the Rust crate that its six files use and that are not at hand.
+//! Stand-ins for the parts of the Rust crate that its six files use and that are not available.
 
 /// The variants that the six files name.
 #[derive(Debug, Clone, Copy, PartialEq, Eq)]

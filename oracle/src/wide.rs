@@ -12,7 +12,7 @@ const MOST_BYTES: u64 = 1 << 24;
 /// Bytes in the output of calls with many slices.
 const MANY_OUTPUT: usize = 6 << 20;
 
-/// One call. Those with more than a few thousand slices are not among them.
+/// A random call; none has more than a few thousand slices.
 pub fn nth(rng: &mut Random) -> Call {
     match rng.below(26) {
         0..=3 => broken(rng),
@@ -82,7 +82,7 @@ fn fill(rng: &mut Random, job: &mut Job) {
     let rate = if s.kind == Kind::LowDelay { 2 } else { rng.below(3) as u32 };
     job.settings[RATE] = rate;
     job.settings[RATE_NUMBER] = match rate {
-        // Not looked at.
+        // The rate number of lossless is not looked at.
         0 if rng.one_in(4) => rng.sized(32) as u32,
         0 => 0,
         1 if rng.one_in(2) => rng.below(256) as u32,
@@ -161,7 +161,7 @@ fn near_its_length(rng: &mut Random) -> Call {
     lent(rng, &job)
 }
 
-/// High quality in one or two large slices, so that a component outgrows its byte.
+/// High quality in one or two large slices, so that a component needs more than 255 scalers.
 fn raised(rng: &mut Random) -> Call {
     let sides = |rng: &mut Random| [rng.range(20, 48), rng.range(20, 48)];
     let mut job = shape(rng, sides, 6_000);

@@ -101,7 +101,8 @@ function f τs xs n r a s c = record {
   body = body f xs r a s c;
 }
 
--- ---- the signatures of the callee and of the function, where ss are the plain arguments, and what the function has of its parameters at exit
+-- ---- the signatures of the callee and of the function, where ss are the plain arguments, and what the function has
+-- of its parameters at exit
 abbrev pub covered : (ss : List (Slot 1)) → Kepts ss → Ended
 covered ss ks = record {
   signature = record { lifetimes = 1; outlives = []; params = mutSliceOf (0 ∷ []) tt (plain (λ _. u8)) ∷ plain (λ _. T.the-row) ∷ ss; result = plain (λ _. T.the-row) };

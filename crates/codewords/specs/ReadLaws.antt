@@ -73,7 +73,6 @@ unfolding interleaved value
 uint-interleaved [] a rest = refl
 uint-interleaved (d ∷ ds) a rest = uint-interleaved ds (a * 2 + val d) rest
 
--- what is read of a word's bits, by any reader that goes over its pairs as above
 less-one : (v : ℕ) → pred (v + 1) ≡ v
 less-one v = ap pred (add-one v)
 

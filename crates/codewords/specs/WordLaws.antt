@@ -38,10 +38,10 @@ steps a =
     let y = bitAnd (bitOr x (x * 2 ^ 2 % 2 ^ 64)) 0x3333 in
     bitAnd (bitOr y (y * 2 ^ 1 % 2 ^ 64)) 0x5555
 
--- antt computes both at the 256 numbers
 table : (f : ℕ → ℕ) (a : ℕ) → a < 256 → getD (span f 0 256) a 0 ≡ f a
 table f a h = getD-span f 0 256 a 0 h ∙ ap f (zero-add a)
 
+-- the checker computes both sides at the 256 numbers
 pub spread-steps : (a : ℕ) → a < 256 → steps a ≡ spreadBits 8 a
 unfolding spreadBits
 spread-steps a h = sym (table steps a h) ∙ table (spreadBits 8) a h

@@ -59,7 +59,7 @@ laid-by {o} {o′} {w} {w′} {bs} p =
 full-laid : {o o′ : List ℕ} {w w′ : BitWriter} {bs s : Bits} → Laid o w bs o′ w′ s → Full s
 full-laid l = record { full = omega (arith, l .next) }
 
--- no byte
+-- no byte laid changes nothing
 none-laid : (o : List ℕ) (at : ℕ) → o ≡ laid o at (toBytes [])
 none-laid o at = sym (ap (laid o at) (pack-none 7 0) ∙ laid-nil o at)
 

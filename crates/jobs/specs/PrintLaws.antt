@@ -117,7 +117,7 @@ chunk-laid {d = d} {e = e} {g = g} b last hd he hg p q s = lays-same same (lays-
     same : d ∷ e ∷ g ∷ [] ≡ chunk b last
     same = rw (hd, he, hg)
 
--- that of the byte at place k
+-- the text of the byte at place k
 abbrev pub chunkAt : List ℕ → ℕ → List ℕ
 chunkAt bs k = chunk (getD bs k 0) (eqb (k % 16) 15 || eqb (k + 1) (length bs))
 

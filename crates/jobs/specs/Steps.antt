@@ -21,7 +21,7 @@ wordFrom bytes i = getD bytes i 0 * 2 ^ 24 + getD bytes (i + 1) 0 * 2 ^ 16 + get
 abbrev pub runEnd : ℕ → List ℕ → ℕ → ℕ
 runEnd k ws from = from + length (ofKind k (drop from ws))
 
--- the words, kind after kind
+-- where the words of each kind end
 unfoldable pub endsOf : List ℕ → Ends
 endsOf ws =
     let s = runEnd 0 ws 0 in

@@ -16,7 +16,7 @@ abbrev pub dn : ℤ → ℕ
 dn (pos n) = 0
 dn (negsuc n) = suc n
 
--- what every z has
+-- magnitude and sign of z by up and dn
 pub record Parts (z : ℤ) : Type 0 where
   pub one-side : min (up z) (dn z) ≡ 0
   pub abs : natAbs z ≡ up z + dn z
@@ -130,7 +130,7 @@ pub floor-law : (z : ℤ) {m : ℕ} → 0 < m → Floor z (shrZ z m) m
 floor-law (pos a) {m} h = let l = mod-lt a h in omega (arith, div-add-mod a m, mul-zero m)
 floor-law (negsuc a) {m} h = let l = mod-lt a h in omega (arith, div-add-mod a m, mul-zero m, mul-suc m (a / m))
 
--- m |floor (z / m)| is less than |z| + m
+-- m |floor (z / m)| is at most |z| + m
 pub abs-floor : (z : ℤ) (m : ℕ) → m * natAbs (shrZ z m) ≤ natAbs z + m
 abs-floor (pos a) m = omega (arith, div-mul-le-self a m, mul-comm m (a / m))
 abs-floor (negsuc a) m = omega (arith, div-mul-le-self a m, mul-comm m (suc (a / m)), suc-mul (a / m) m)

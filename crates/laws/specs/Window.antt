@@ -95,13 +95,13 @@ module _ (p n : ℕ) (ys l : List ℤ) (fits : p + n ≤ length l) (long : lengt
       (sym (drop-drop q p (put p n ys l)) ∙ ap (drop q) drop-put-at ∙ drop-append-le q ys (drop (p + n) l) (rw long h))
       ∙ ap (λ (x : List ℤ). take p l ++ x) (sym (append-assoc zs (drop q ys) (drop (p + n) l)))
 
-  -- all of them replaced once more
+  -- the n places replaced once more
   pub put-again : (zs : List ℤ) → put p n zs (put p n ys l) ≡ put p n zs l
   unfolding put
   put-again zs =
       ap₂ (λ (x y : List ℤ). x ++ (zs ++ y)) take-put (sym (drop-drop n p (put p n ys l)) ∙ ap (drop n) drop-put-at ∙ drop-at ys (drop (p + n) l) n long)
 
-  -- the places behind them
+  -- the places behind the n replaced too
   pub put-next : (m : ℕ) (zs : List ℤ) → put (p + n) m zs (put p n ys l) ≡ put p (n + m) (ys ++ zs) l
   unfolding put
   put-next m zs =

@@ -75,7 +75,7 @@ wrap-bits z n j h =
     let w = var (x .k) ⊞ var (pos q -ℤ pos j) in
     unique z _ _ (record { k = x .k +ℤ (pos q -ℤ pos j); law = omega arith; fits = x .fits }) (wraps z)
 
--- 1 below zero
+-- 1 where z is below 0, else 0
 abbrev pub sg : ℤ → ℕ
 sg (pos n) = 0
 sg (negsuc n) = 1

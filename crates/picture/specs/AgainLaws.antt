@@ -1,4 +1,4 @@
--- Rebuilding a slice does not look at what stood in its places: another candidate rebuilt before leaves no trace.
+-- Rebuilding a slice does not depend on what stood in its places: a candidate rebuilt before it changes nothing.
 use mathlib.Core.Path.{_≡_, refl, sym, ap, ap₂, _∙_, fun-ext}
 use mathlib.Core.Bool.{cond}
 use mathlib.Core.List.{List}
@@ -210,7 +210,7 @@ pub length-rebuilt : (w : List ℤ) (p : Picture) (k q : ℕ) → length (rebuil
 unfolding rebuiltIn
 length-rebuilt w p k q = length-three (strip0 p (p .y) k q) (strip0 p (p .c1) k q) (strip0 p (p .c2) k q) w
 
--- what is rebuilt at index r leaves no trace where index q is rebuilt behind it
+-- index q gives the same planes where index r was rebuilt before it
 pub again : (p : Picture) (w : List ℤ) (k q r : ℕ) → SliceIn p w k 0 → rebuiltIn (rebuiltIn w p k r) p k q ≡ rebuiltIn w p k q
 unfolding rebuiltIn
 again p w k q r h =
@@ -240,11 +240,11 @@ rebuilt-behind {p} {w} {k} h q i f =
 
 -- ---- candidates
 module _ (p : Picture) (k : ℕ) where
-  -- nothing is tried yet
+  -- before any trial
   pub tried-none : (w : List ℤ) → Small (p .front) (p .end) w → Tried p k w w
   tried-none w s = record { same = λ q. refl; small = s; size = refl }
 
-  -- one more
+  -- one trial more
   pub tried-more : (w v u : List ℤ) (q : ℕ) → Arranged p → k < slicesIn p → Tried p k w v → u ≡ rebuiltIn v p k q → Small (p .front) (p .end) u → Tried p k w u
   tried-more w v u q a h t e s = record {
     same = λ r. ap (λ (x : List ℤ). rebuiltIn x p k r) e ∙ again p v k r q (record { arranged = a; small = t .small; slice = h; index = omega arith }) ∙ t .same r;
@@ -252,11 +252,11 @@ module _ (p : Picture) (k : ℕ) where
     size = ap length e ∙ length-rebuilt v p k q ∙ t .size;
   }
 
-  -- more, one after the other
+  -- trials one after the other
   pub tried-then : (w v u : List ℤ) → Tried p k w v → Tried p k v u → Tried p k w u
   tried-then w v u t o = record { same = λ q. o .same q ∙ t .same q; small = o .small; size = o .size ∙ t .size }
 
-  -- what fits, fits still
+  -- trials do not change what fits
   pub tried-fits : (w v : List ℤ) (room : ℕ) → Tried p k w v → lowFitsIn v p room k ≡ lowFitsIn w p room k
   unfolding lowFitsIn
   tried-fits w v room t = fun-ext (λ q. rw (t .same q))

@@ -59,7 +59,7 @@ pub record Halving (f : ℕ → Bool) (top : ℕ) (r : Range) : Type 0 where
   pub order : r .lo ≤ r .hi
   pub most : r .hi ≤ top
 
--- at the start
+-- the range at the start
 pub halving-start : (f : ℕ → Bool) (top : ℕ) → Halving f top (record { lo = 0; hi = top })
 halving-start f top = record { same = refl; order = omega arith; most = omega arith }
 
@@ -101,7 +101,7 @@ module _ (r : Range) (mid : ℕ) (h : r .lo < r .hi) (m : mid ≡ (r .lo + r .hi
     pub halving-turn : (d : Bool) (n : Range) → d ≡ f mid → n ≡ halfOf r mid d → Halving f top n
     halving-turn d n g e = rw e (half-halving d (sym g))
 
--- at the end
+-- the range at the end
 module _ {f : ℕ → Bool} {top : ℕ} {r : Range} (v : Halving f top r) where
   pub halving-end : r .hi ≤ r .lo → r .lo ≡ elect 0 top f
   halving-end h = sym (halve-done f (r .hi - r .lo) (r .lo) (r .hi) h) ∙ v .same ∙ sym (elect-halves f 0 top (omega arith))

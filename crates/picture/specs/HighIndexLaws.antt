@@ -80,7 +80,7 @@ choice-few w p k q a h =
     let c2 = run-few w p (p .c2) k q (a .c2 .area) in
     record { index = h; words = (y .0, (c1 .0, c2 .0)); bits = (y .1, (c1 .1, c2 .1)) }
 
--- put together of the three runs
+-- a choice put together of its three runs
 pub choice-is : (w : List ℤ) (p : Picture) (k q : ℕ) (y c1 c2 : Packed) → y ≡ packedOf (runOf w p (p .y) k q) → c1 ≡ packedOf (runOf w p (p .c1) k q)
     → c2 ≡ packedOf (runOf w p (p .c2) k q) → _≡_ {A = Choice} (record { index = q; y = y; c1 = c1; c2 = c2 }) (choiceBy (numbersIn w p k) q)
 unfolding numbersIn
@@ -152,7 +152,7 @@ size-is z p c y c1 c2 h a b d = (
   omega (arith, a .1, b .1, d .1),
 )
 
--- no bytes take no scalers
+-- 0 bytes take 0 scalers
 ceiling-none : (c : ℕ) → 1 ≤ c → ceiling 0 c * c ≡ 0
 ceiling-none c h = let e : 0 + (c - 1) < c = omega arith in rw (div-eq-of-lt e, zero-mul)
 

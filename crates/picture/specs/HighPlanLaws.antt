@@ -114,7 +114,7 @@ largest-more [] s = refl
 largest-more (t ∷ ss) s = ap (max (mostOf t)) (largest-more ss s) ∙ max-swap (mostOf t) (mostOf s) (largestNeed ss)
 
 module _ (w : List ℤ) (p : Picture) (t : Terms) (from : ℕ) where
-  -- no slice yet
+  -- before any slice is planned
   pub plans-none : (r : SliceCoder) → r .at ≡ from → r .«cut_slices» ≡ 0 → r .largest ≡ 0 → r .words ≡ 0 → PlansTo w p t from 0 r
   unfolding largestNeed
   plans-none r a u l v = record {
@@ -188,7 +188,7 @@ module _ (slices : ℕ → List SlicePlan) where
       let n : ℕ = largestNeed (slices c) in
       ap (λ (b : Bool). let r : ℕ = elim b [ true ↦ c | false ↦ scalerFrom slices f (ceiling n 255) ] in r) (le-leb n (255 * c) h)
 
-  -- else it is the next one's
+  -- else the scaler is raised
   pub scaler-next : (f c : ℕ) → 255 * c < largestNeed (slices c) → scalerFrom slices (suc f) c ≡ scalerFrom slices f (ceiling (largestNeed (slices c)) 255)
   unfolding scalerFrom
   scaler-next f c h =
@@ -240,13 +240,13 @@ pub record Settling (w : List ℤ) (p : Picture) (s : Settings) (m : List ℕ) (
   pub plan : PlansTo w p (termsOf s m c) (slicesFrom s m c) (slicesIn p) r
 
 module _ (w : List ℤ) (p : Picture) (s : Settings) (m : List ℕ) where
-  -- before the first turn
+  -- settling before the first turn
   pub settling-first : (r : SliceCoder) → s .«slice_size_scaler» ≤ 65535
       → PlansTo w p (termsOf s m (s .«slice_size_scaler»)) (slicesFrom s m (s .«slice_size_scaler»)) (slicesIn p) r
       → Settling w p s m (s .«slice_size_scaler») r
   settling-first r few h = record { turns = λ most f b l. refl; rises = omega arith; few = omega arith; plan = h }
 
-  -- a turn
+  -- a turn of settling
   pub settling-turn : (c : ℕ) (a r : SliceCoder) → Settling w p s m c a → 255 * c < a .largest
       → let d : ℕ = (a .largest + 254) / 255 in PlansTo w p (termsOf s m d) (slicesFrom s m d) (slicesIn p) r → Settling w p s m d r
   settling-turn c a r h l o =
@@ -261,7 +261,7 @@ module _ (w : List ℤ) (p : Picture) (s : Settings) (m : List ℕ) where
         plan = o;
       }
 
-  -- when no need is more than 255 scalers
+  -- settling ends when no need is more than 255 scalers
   pub settling-ends : (c : ℕ) (a : SliceCoder) → 1 ≤ s .«slice_size_scaler» → Settling w p s m c a → a .largest ≤ 255 * c
       → Settles w p s m (record { scaler = c; end = a .at })
   settling-ends c a some h l =

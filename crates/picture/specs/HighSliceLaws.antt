@@ -60,7 +60,7 @@ module _ {c : ℕ} {xs : List ℤ} {b n : ℕ} (h : Counted c xs b n) where
   pub kept-held : b ≤ 8 * (n * c)
   kept-held = rw (bits-are, scalers-are) (cost-held c xs (h .some))
 
-  -- as the code puts it together
+  -- a component's bits as the code puts them together
   component-parts : componentBits c xs ≡ lit 8 n ++ (codes xs ++ oneBits (fillOf c n b))
   unfolding componentBits
   component-parts =
@@ -92,7 +92,7 @@ module _ {c : ℕ} {xs : List ℤ} {b n : ℕ} (h : Counted c xs b n) where
         component-wrote f = rw component-parts (wrote-then (room .sound) a (wrote-then (a .sound) d f))
 
 -- ---- the prefix
--- one byte more
+-- one prefix byte more
 prefix-more : (i : ℕ) → zeroBits (8 * (i + 1)) ≡ zeroBits (8 * i) ++ lit 8 0
 prefix-more i =
     let e : 8 * (i + 1) ≡ 8 * i + 8 = omega arith in
@@ -102,11 +102,11 @@ pub prefix-turn : {o o′ o″ : List ℕ} {w w′ w″ : BitWriter} (i : ℕ) �
     → Wrote o w (zeroBits (8 * (i + 1))) o″ w″
 prefix-turn i s a b = rw (prefix-more i) (wrote-then s a b)
 
--- room for it
+-- room for the next prefix byte
 pub prefix-next : {o o′ : List ℕ} {w w′ : BitWriter} (n i : ℕ) → i < n → Room o w (8 * n) → Wrote o w (zeroBits (8 * i)) o′ w′ → Room o′ w′ 8
 prefix-next n i h r a = room-after 8 r a (omega (arith, length-replicate (8 * i) false))
 
--- all n
+-- all n prefix bytes
 pub prefix-all : {o o′ : List ℕ} {w w′ : BitWriter} (i n : ℕ) → i ≡ n → Wrote o w (zeroBits (8 * i)) o′ w′ → Wrote o w (zeroBits (8 * n)) o′ w′
 prefix-all i n e a = rw e at a
 
@@ -194,7 +194,7 @@ module _ (w : List ℤ) (i : ℕ) (xs : List ℤ) (b : Below xs) (e : wordsAt w 
     few = few;
   }
 
--- a choice
+-- a choice whose words stand in w
 module _ (w : List ℤ) (i q : ℕ) (z : Three (List ℤ)) (e : wordsAt w i (length (sliceWords z)) ≡ sliceWords z)
     (b : Below (z .y) × (Below (z .c1) × Below (z .c2))) where
   abbrev choice : Choice

@@ -60,7 +60,7 @@ narrower : (b : Bool) (w x y : ℕ) → cond b (w / x) (w / y) ≤ w
 narrower true w x y = div-le-self w x
 narrower false w x y = div-le-self w y
 
--- halved once more
+-- a side halved once more
 halves : (w m : ℕ) → w / 2 ^ suc m ≡ w / 2 ^ m / 2
 halves w m = ap (λ (x : ℕ). w / x) (pow-suc 2 m) ∙ sym (div-div-eq-div-mul w (2 ^ m) 2)
 
@@ -251,7 +251,7 @@ module _ (w : List ℤ) (l : Layout) (c second : Component) (pair : Bool) (k q :
       (omega (arith, run-length n, partSize-most (gridIn l) (bandSize l c n) k, band-fits l c n h))
 
 -- ---- windows
--- as the code puts one together
+-- a window as the code makes it
 pub window-is : (l : Layout) (c : Component) (n k : ℕ) (z : Size) (t b x y : ℕ)
     → z ≡ bandSize l c n
     → t ≡ bound (l .down) (z .height) (k / l .across)
@@ -350,7 +350,7 @@ module _ (w : List ℤ) (l : Layout) (c second : Component) (pair : Bool) (k q :
   pub run-turn : (n : ℕ) → runNumbers w l c second pair k q n ++ bandNumbers w l c second pair k q n ≡ runNumbers w l c second pair k q (n + 1)
   run-turn n = let f : suc n ≡ n + 1 = omega arith in sym (run-next w l c second pair k q n) ∙ ap (runNumbers w l c second pair k q) f
 
-  -- costs
+  -- the cost of the subbands so far
   pub cost-none : (t : Cost) → t ≡ addAll t (runNumbers w l c second pair k q 0)
   cost-none t = sym (ap (addAll t) (run-none w l c second pair k q) ∙ added-none add1 t)
 
@@ -360,7 +360,7 @@ module _ (w : List ℤ) (l : Layout) (c second : Component) (pair : Bool) (k q :
       f ∙ ap₂ (λ (r : Cost) (s : Strip). addAll r (stripNumbers w s)) d e
       ∙ sym (added-append add1 t (runNumbers w l c second pair k q n) (bandNumbers w l c second pair k q n)) ∙ ap (addAll t) (run-turn n)
 
-  -- what is written
+  -- the bits written of the subbands so far
   pub put-none : {o : List ℕ} {p : Put} {n : ℕ} → Room o (p .writer) n → Puts o p (runNumbers w l c second pair k q 0) o p
   put-none r = puts-same (sym (run-none w l c second pair k q)) (puts-none r)
 
@@ -433,7 +433,7 @@ module _ (w : List ℤ) (l : Layout) (c second : Component) (pair : Bool) (k q :
   rest-length n =
       omega (arith, ap length (run-first n), length-append (stripNumbers w firstStrip) (restNumbers w l c second pair k q n), run-length w l c second pair k q (suc n))
 
-  -- tallies
+  -- the tally of the subbands so far
   pub first-addable : {a e : ℕ} → RunIn l c second a e k q w → c .width * c .height ≤ 67108864 → (t : Tally) → t ≡ tallyAll noTally (stripNumbers w firstStrip)
       → Addable t (2 * (c .width * c .height))
   first-addable h m t e =

@@ -84,7 +84,7 @@ module _ (p : Picture) (n : ℕ) where
   cutsIn w (suc j) = cutsIn w j + isLast (lowIndexIn (workAt w j) j)
 
 -- ---- outcomes
--- candidates leave what another one makes
+-- trials have made v of w: at every index the same planes are rebuilt from either
 pub record Tried (p : Picture) (k : ℕ) (w v : List ℤ) : Type 0 where
   pub same : (q : ℕ) → rebuiltIn v p k q ≡ rebuiltIn w p k q
   pub small : Small (p .front) (p .end) v

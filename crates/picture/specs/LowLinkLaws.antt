@@ -55,7 +55,7 @@ use Rattle.picture.specs.Encoded.{Coding, CodesAny}
 use Rattle.picture.specs.AnalysedLaws.{called-arranged, count-few, grid-is, slices-are, values-in, bands-y, bands-c1, bands-c2, small-by, holds-y, holds-c1, holds-c2, joined-span, codes-refused, codes-written}
 use Rattle.picture.specs.AgainLaws.{length-strip}
 
--- one slice more
+-- how many slices carry index 127, with one slice more
 last-more : (ps : List SlicePlan) (s : SlicePlan) → lastIndices (ps ++ (s ∷ [])) ≡ lastIndices ps + isLast (s .index)
 last-more [] s = by (eqb (s .index) 127)
   where
@@ -118,7 +118,7 @@ module _ (p : Picture) (k q : ℕ) (slice : k < slicesIn p) where
         ahead = omega (arith, f, d .rebuilt, d .coefs .0);
       }
 
-  -- component d's strip leaves component c, whose plane is elsewhere
+  -- component d's strip leaves component c, whose plane is elsewhere, as it was
   has-other : (c d : Component) (bs : List Band) (r : Plane) (w : List ℤ) → Bands (p .layout) c bs → Placed p c → Placed p d → p .front ≤ length w
       → ((i : ℕ) → i < c .width * c .height → d .rebuilt ≤ c .rebuilt + i → d .rebuilt + d .width * d .height ≤ c .rebuilt + i)
       → Has p c bs r w → Has p c bs r (rebuiltStrip w (strip0 p d k q))
@@ -170,7 +170,7 @@ module _ (p : Picture) (m : List ℕ) (b : Three (List Band)) (h : Linked p m b)
   g = gridIn (p .layout)
 
   module _ (r : Three Plane) (w : List ℤ) (k : ℕ) (slice : k < slicesIn p) (f : Follows p b r w) where
-    -- at any index
+    -- the rebuilt planes at any index
     pub follows-rebuilt : (q : ℕ) → Follows p b (lowLeft g m b r k q) (rebuiltIn w p k q)
     unfolding rebuiltIn
     follows-rebuilt q =
@@ -413,7 +413,7 @@ module _ {s : Settings} {m : List ℕ} {p : Picture} {w : List ℤ} {n d l : ℕ
   same-parameters =
       ap₂ (λ (n d : ℕ). parametersBy s m (lowDelay n d)) (h .numerator) (h .slices ∙ ap slicesIn (h .coding .picture) ∙ slices-are s m)
 
-  -- whatever the planes
+  -- the length, whatever the planes
   same-length : (pl : Three (List ℕ)) → l ≡ lengthOf s (planOf s m pl)
   same-length pl =
       h .long ∙ ap₂ (λ (t : Parameters) (n : ℕ). 17 + parameterBytes (majorVersion s) t + n) same-parameters (h .numerator)

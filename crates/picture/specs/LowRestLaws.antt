@@ -71,7 +71,7 @@ joined-is xs ys t r h e = rw e (by (trimmed ys) refl)
         ∙ ap₂ (λ (m n : ℕ). record { count = m; bits = n }) (sym (length-append xs (z ∷ zs))) (sym (bits-append xs (z ∷ zs)))
         ∙ ap (λ (zs : List ℤ). record { count = length zs; bits = bitsOf zs }) (sym f)
 
--- as the code makes it
+-- the joined run as the code makes it
 pub joined-none : (t : Tally) (r : Trimmed) → r .count ≡ 0 → trimmedBy t ≡ joinedOf t r
 joined-none t r h = rw (eq-eqb (r .count) 0 h)
 
@@ -94,7 +94,7 @@ within-is a b s t h e = rw (le-leb a b h, e)
 
 -- ---- a slice's numbers in two parts
 module _ (w : List ℤ) (l : Layout) (c second : Component) (pair : Bool) (k q : ℕ) where
-  -- both are few
+  -- the numbers of the first subband and of the others are few
   parts-few : c .width * c .height ≤ 67108864
       → length (stripNumbers w (firstStrip w l c second pair k q)) + length (restNumbers w l c second pair k q (bandCount l - 1)) ≤ 2 ^ 27
   parts-few h =
@@ -175,7 +175,7 @@ module _ {v : List ℤ} {p : Picture} {k q : ℕ} {f : First} {r : Rest} (h : Fi
   colour-joined : joinedOf (f .colour) (r .colour) ≡ trimmedOf (colourFirst v p k q ++ colourRest v p k (r .index))
   colour-joined = joined-is (colourFirst v p k q) (colourRest v p k (r .index)) (f .colour) (r .colour) (tally-of _ _ (h .colour)) (u .colour)
 
-  -- with runs of this index
+  -- where the runs known are of this index
   pub luma-whole : r .index ≡ q → joinedOf (f .luma) (r .luma) ≡ trimmedOf (lumaIn v p k q)
   luma-whole e =
       luma-joined ∙ ap (λ (i : ℕ). trimmedOf (lumaFirst v p k q ++ lumaRest v p k i)) e
@@ -244,7 +244,7 @@ module _ {v : List ℤ} {p : Picture} {k q : ℕ} {f : First} {r : Rest} (h : Fi
         by true o d = fits-high (leb-true q (r .index) o) (ltb-true room (bitsWith f r) d)
         by false o d = absurd (let z : _≡_ {A = ℕ} 0 1 = cc in omega arith)
 
--- with runs of two indices at hand
+-- where the runs of two indices are known
 module _ {v : List ℤ} {p : Picture} {k q : ℕ} {f : First} {low high : Rest} (h : FirstOf v p k q f) (a : Known v p k low) (b : Known v p k high)
     (w : List ℤ) (e : v ≡ rebuiltIn w p k q) (room : ℕ) where
   pub surely-either : (s t : Bool) → s ≡ (leb (low .index) q && leb (bitsWith f low) room) → t ≡ (leb (high .index) q && leb (bitsWith f high) room)

@@ -112,7 +112,7 @@ module _ (w : List ℤ) (p : Picture) (t : Terms) where
   words-before zero = omega arith
   words-before (suc k) = omega (arith, words-before k, length-append (wordsTo w p t k) (wordsIn w p t k), words-most w p k (indexIn w p t k))
 
-  -- before the coefficients, behind those of the slices before
+  -- a slice's words fit before the coefficients, behind the words of earlier slices
   pub words-room : (k : ℕ) → Arranged p → k < slicesIn p → length (wordsTo w p t k) + sliceNumberCount p k ≤ p .front
   words-room k a b =
       let within : (c : Component) → countTo (p .layout) c k + countOf (p .layout) c k ≤ c .width * c .height = λ c. count-within (p .layout) c k (a .layout) b in
@@ -229,7 +229,7 @@ module _ (v : List ℤ) (i n : ℕ) (e : at v i ≡ pos n) where
   plain-is : natAbs (at v i) ≡ n
   plain-is = ap natAbs e
 
--- as the machine reads it
+-- a noted number as the machine reads it
 pub read-plain : (v : List ℤ) (i : ℕ) → at v i ≡ pos (natAbs (at v i)) → natAbs (at v i) < 2 ^ 63 → toZ w64 (ofZ w64 (at v i)) ≡ pos (natAbs (at v i))
 read-plain v i e h = ap (λ (z : ℤ). toZ w64 (ofZ w64 z)) e ∙ toZ-ofZ {w = w64} {z = pos (natAbs (at v i))} (fit (pos (natAbs (at v i))) h)
 
@@ -275,7 +275,7 @@ choice-from {v} {u} {j} {c} same h = record {
   c2-bits = same (j + 5 + 1) (omega arith) (omega arith) ∙ h .c2-bits;
 }
 
--- behind the coefficients
+-- a note behind the coefficients leaves them small
 pub note-small : {a n : ℕ} {v : List ℤ} (i : ℕ) (c : Choice) → n ≤ i → Small a n v → Small a n (noteIn v i c)
 note-small {a} {n} {v} i c l h = record {
   bound = λ k o. rw (note-before v i c k (omega arith)) (h .bound k o);
@@ -379,7 +379,7 @@ module _ {w : List ℤ} {p : Picture} {t : Terms} where
     choice = λ k l m. subst (ChoiceAt v (p .end + 7 * k)) (sym (choice-same p w v h (o .same) t k l)) (o .choice k l m);
   }
 
--- without a byte target they are those of any terms
+-- without a byte target the notes are those of any terms
 pub notes-stand : {w v : List ℤ} {p : Picture} {t : Terms} (s : Settings) → t .rate ≡ s .rate → Notes w p t (slicesIn p) v → isTarget (s .rate) ≡ false
     → (x : Terms) → x .rate ≡ s .rate → Notes w p x (slicesIn p) v
 notes-stand {w} {v} {p} {t} s e o f x d = record {
@@ -394,7 +394,7 @@ notes-stand {w} {v} {p} {t} s e o f x d = record {
     stands : (k : ℕ) → indexIn w p x k ≡ indexIn w p t k
     stands k = index-stands w p t x k (d ∙ sym e) (ap isTarget e ∙ f)
 
--- a pass with other terms behind one
+-- the notes of a pass with other terms after a pass
 pub notes-after : {w v u : List ℤ} {p : Picture} {t x : Terms} {n : ℕ} → WorkIn p w → Notes w p t n v
     → Notes v p x (slicesIn p) u → Notes w p x (slicesIn p) u
 notes-after {w} {v} {u} {p} {t} {x} h o i = record {
@@ -417,7 +417,7 @@ plans-by {w} {v} {p} {t} {from} {r} e d f h = record {
   words = h .words ∙ ap length f;
 }
 
--- planned before or behind a pass
+-- the plan of a pass with other terms after a pass
 module _ {w v : List ℤ} {p : Picture} {t x : Terms} {n from : ℕ} {r : SliceCoder} (h : WorkIn p w) (o : Notes w p t n v) where
   pub plans-after : PlansTo v p x from (slicesIn p) r → PlansTo w p x from (slicesIn p) r
   plans-after = plans-by (runs-alike p w v h (o .same) x) (plans-alike p w v h (o .same) x) (words-alike p w v h (o .same) x (slicesIn p) (omega arith))

@@ -223,7 +223,7 @@ unfolding region
 length-region f t b l r = length-span _ 0 ((b - t) * (r - l))
 
 module _ (w : List ℤ) (l : Layout) (c second d e : Component) (k q : ℕ) (wide : second .width ≡ c .width) (high : second .height ≡ c .height) where
-  -- only the sides count
+  -- components of equal sides have subbands of equal sides
   same-size : (n : ℕ) → bandSize l second n ≡ bandSize l c n
   unfolding bandSize
   same-size n = rw (wide, high)
@@ -295,7 +295,7 @@ unfolding leftLD
 left-front g m [] r q k h = absurd (omega arith)
 left-front g m (b ∷ bs) r q k h = refl
 
--- what is rebuilt lies before the coefficients
+-- level 0 has at most as many numbers as its component
 area-most : (l : Layout) (c : Component) → bandSize l c 0 .height * bandSize l c 0 .width ≤ c .width * c .height
 area-most l c =
     rw (size-low l c 0 (omega arith), mul-comm (c .width) (c .height)) (mul-le-mul (div-le-self (c .height) _) (div-le-self (c .width) _))

@@ -47,7 +47,7 @@ module _ (p : Picture) (k q from : ℕ) {w : List ℤ} (s : SliceIn p w k q) (pl
   run-same : (v : List ℤ) → ((i : ℕ) → p .front ≤ i → at v i ≡ at w i) → (c : Component) → RunIn (p .layout) c c (p .front) (p .end) k q w → runOf v p c k q ≡ runOf w p c k q
   run-same v same c h = run-alike (p .front) (p .end) w v (λ i a b. same i a) (p .layout) c c false k q q w h plain
 
-  -- luma
+  -- luma's run can be packed
   pub y-ready : RunIn (p .layout) (p .y) (p .y) (p .front) (p .end) k q w × ((p .layout .predicted ≡ false) × (from + countOf (p .layout) (p .y) k ≤ p .front))
   y-ready = (run-y s, (plain, omega (arith, room)))
 
@@ -57,7 +57,7 @@ module _ (p : Picture) (k q from : ℕ) {w : List ℤ} (s : SliceIn p w k q) (pl
         ap (λ (v : List ℤ). at v i) (a .work)
         ∙ laid-behind w from (packed 0 (runOf w p (p .y) k q)) i (omega (arith, b, room, run-words w p (p .y) k q))
 
-    -- the first colour
+    -- the first colour's run can be packed
     pub c1-ready : Small (p .front) (p .end) v₁
         → RunIn (p .layout) (p .c1) (p .c1) (p .front) (p .end) k q v₁ × ((p .layout .predicted ≡ false) × (r₁ .at + countOf (p .layout) (p .c1) k ≤ p .front))
     c1-ready t = (run-c1 (slice-of t), (plain, omega (arith, room, a .at, run-words w p (p .y) k q)))
@@ -69,7 +69,7 @@ module _ (p : Picture) (k q from : ℕ) {w : List ℤ} (s : SliceIn p w k q) (pl
           ∙ laid-behind v₁ (r₁ .at) (packed 0 (runOf v₁ p (p .c1) k q)) i (omega (arith, h, room, a .at, run-words w p (p .y) k q, run-words v₁ p (p .c1) k q))
           ∙ same₁ i h
 
-      -- the second one
+      -- the second colour's run can be packed
       pub c2-ready : Small (p .front) (p .end) v₂
           → RunIn (p .layout) (p .c2) (p .c2) (p .front) (p .end) k q v₂ × ((p .layout .predicted ≡ false) × (r₂ .at + countOf (p .layout) (p .c2) k ≤ p .front))
       c2-ready t = (run-c2 (slice-of t), (plain, omega (arith, room, a .at, b .at, run-words w p (p .y) k q, run-words v₁ p (p .c1) k q)))

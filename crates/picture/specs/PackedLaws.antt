@@ -77,7 +77,7 @@ unfolding zerosWord laid
 zeros-some w v at zero h e = absurd (h refl)
 zeros-some w v at (suc n) h e = record { is = e; next = omega arith; size = ap length e ∙ length-set w at (pos (mark + suc n)) }
 
--- as the machine adds it up
+-- the word of n zeros as the machine adds it up
 pub word-is : (n : ℕ) → n ≤ 2 ^ 30 → toZ w64 mark +ℤ toZ w64 n ≡ pos (mark + n)
 word-is n h = ap₂ _+ℤ_ (toZ-pos w64 {n = mark} (omega arith)) (toZ-pos w64 {n = n} (omega (arith, h)))
 
@@ -173,7 +173,7 @@ unfolding laid
 laid-behind w i [] k h = refl
 laid-behind w i (v ∷ vs) k h = laid-behind (set w i v) (suc i) vs k (omega arith) ∙ getD-set-other w i k v (pos 0) (λ e. omega arith)
 
--- fewer can be packed too
+-- where k numbers can be packed, fewer can
 pub packable-less : {a b k m : ℕ} {t : Packing} → a ≤ b → m ≤ k → Packable a t k → Packable b t m
 packable-less h l p = record { room = omega (arith, p .room); zeros = omega (arith, p .zeros); bits = omega (arith, p .bits) }
 
@@ -329,7 +329,7 @@ module _ {a n : ℕ} {w : List ℤ} {s : Strip} (h : Single a n w s) where
   lies : Between a n s
   lies = between (h .plain .within) (h .plain .plain)
 
-  -- how many numbers
+  -- how many numbers places, rows and a strip have at most
   places-most : (y x k : ℕ) → length (chunks (places w s y x) k) ≤ k
   places-most y x k = omega (arith, chunks-length (places w s y x) 1 k (λ j. omega (arith, ap length (place-single h y (x + j)))))
 

@@ -78,7 +78,7 @@ cost-falls [] (y ∷ ys) a = absurd a
 cost-falls (x ∷ xs) [] a = absurd a
 cost-falls (x ∷ xs) (y ∷ ys) a = trim-falls x y (trimmed xs) (trimmed ys) (a .0) (cost-falls xs ys (a .1))
 
--- behind other numbers
+-- costs behind other numbers
 pub cost-behind : (xs ys zs : List ℤ) → trimmedCost ys ≤ trimmedCost zs → trimmedCost (xs ++ ys) ≤ trimmedCost (xs ++ zs)
 unfolding trimmedCost trimmed
 cost-behind [] ys zs h = h
@@ -87,7 +87,7 @@ cost-behind (x ∷ xs) ys zs h = trim-falls x x (trimmed (xs ++ ys)) (trimmed (x
 ceiling-rises : (m n c : ℕ) → 1 ≤ c → m ≤ n → ceiling m c ≤ ceiling n c
 ceiling-rises m n c p h = le-div-iff-mul-le p .1 (omega (arith, div-mul-le-self (m + (c - 1)) c))
 
--- in whole scalers
+-- costs in whole scalers
 whole-falls : (c : ℕ) (xs ys : List ℤ) → 1 ≤ c → Falls xs ys → scalersOf c xs * c ≤ scalersOf c ys * c
 whole-falls c xs ys p a =
     mul-le-mul-right c (ceiling-rises (needOf xs) (needOf ys) c p
@@ -145,7 +145,7 @@ module _ (w : List ℤ) (l : Layout) (c second : Component) (pair : Bool) (k i j
       rw (run-chunks w l c second pair k i n, run-chunks w l c second pair k j n)
       (falls-chunks (bandNumbers w l c second pair k j) (bandNumbers w l c second pair k i) n strip-falls)
 
-  -- behind the first subband
+  -- the numbers behind the first subband
   rest-falls : (n : ℕ) → Falls (restNumbers w l c second pair k j n) (restNumbers w l c second pair k i n)
   unfolding restNumbers
   rest-falls zero = tt

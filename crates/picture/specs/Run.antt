@@ -98,7 +98,7 @@ pub record Small (a n : ℕ) (l : List ℤ) : Type 0 where
   pub few : n < 2 ^ 30
   pub order : a ≤ n
 
--- a strip whose planes lie where they should
+-- a strip whose rebuilt planes lie in the first a numbers, and whose coefficients lie behind them up to n
 pub record Within (a n : ℕ) (s : Strip) : Type 0 where
   pub rows : s .top ≤ s .bottom
   pub columns : s .left ≤ s .right

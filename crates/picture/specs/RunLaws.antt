@@ -149,7 +149,7 @@ small-set {a} {n} {l} i v m h b = record {
     by k q (yes e) = rw (e, getD-set-same l i v (pos 0) (omega (arith, m .long, m .order))) b
     by k q (no e) = rw (getD-set-other l i k v (pos 0) e) (m .bound k q)
 
--- every number's code word has at most 128 bits
+-- a quantised number is at most 2^63 in size
 pub number-by : (f : ℕ) (c : ℤ) → natAbs (forwardBy f c) ≤ 2 ^ 63
 unfolding forwardBy
 number-by f c = omega (arith, abs-signed c (cap (4 * natAbs c / f)), cap-lt (4 * natAbs c / f))

@@ -175,7 +175,7 @@ module _ (l : List ℤ) (s : Strip) (fits : Apart l s) where
   pub number-lt : (y x : ℕ) → Inside s y x → y * s .width + x < s .height * s .width
   number-lt y x i = digits-lt {q = y} {m = s .height} {r = x} {c = s .width} (omega (arith, i .above, fits .high)) (omega (arith, i .left-of, fits .wide))
 
-  -- one more place
+  -- one place more is rebuilt
   done-place : (m : List ℤ) (y x : ℕ) → Inside s y x → Done l s m (y * s .width + x)
       → Done l s (set m (s .rebuilt + (y * s .width + x)) (valueIn m s y x)) (y * s .width + x + 1)
   done-place m y x i d = record {

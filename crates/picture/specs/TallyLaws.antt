@@ -52,7 +52,7 @@ addable-after t xs m n h s l =
     let k = tallied-count t xs in
     record { bits = omega (arith, bits-most xs s, h .bits); count = omega (arith, h .count) }
 
--- fewer can be added too
+-- where two numbers can be added, one can
 pub countable-less : {b m : ℕ} → Counted b m 2 → Counted b m 1
 countable-less h = record { bits = h .bits; count = omega (arith, h .count) }
 
@@ -77,7 +77,6 @@ tally-of xs t e =
     let d : t ≡ tallyOf (addAll (noCost 0) xs) = e ∙ sym (tally-cost (noCost 0) xs) in
     rw d (record { bits = h .bits; count = h .count; keep = h .keep })
 
--- trailing zeros have a bit each
 pub bits-more : (x : ℤ) (xs : List ℤ) → bitsOf (x ∷ xs) ≡ length (codeS x) + bitsOf xs
 unfolding codes
 bits-more x xs = length-append (codeS x) (codes xs)
@@ -86,6 +85,7 @@ pub bits-none : bitsOf [] ≡ 0
 unfolding codes
 bits-none = refl
 
+-- trailing zeros have a bit each
 pub trailing-bits : (xs : List ℤ) → bitsOf xs ≡ trimmedCost xs + (length xs - length (trimmed xs))
 unfolding trimmed trimmedCost
 trailing-bits [] = omega (arith, bits-none)

@@ -41,7 +41,7 @@ pub factor-least : (i : ℕ) → 4 ≤ factor i
 unfolding factor
 factor-least i = omega (arith, factorBy-least (i % 4) (2 ^ (i / 4)), pow-pos (i / 4))
 
--- from index 2 on
+-- from index 2 on a factor is at least 6
 pub factor-six : (i : ℕ) → 2 ≤ i → 6 ≤ factor i
 unfolding factor
 factor-six i h = factorBy-six (i % 4) (i / 4) (omega arith)
@@ -71,7 +71,7 @@ pub factor-same : (i : ℕ) → quantFactor i < 2 ^ 63 - 1 → factor i ≡ quan
 unfolding quantFactor cap
 factor-same i h = omega arith
 
--- ---- a factor as the code makes it: by the formulas below index 128, where the base is small and the factor is not capped
+-- ---- a factor as the code makes it: by the formulas below index 128, where the base is small and no factor is capped
 pub factorBy-rest : (r base : ℕ) → 3 ≤ r → (440253 * base + 32722) / 65444 ≡ factorBy r base
 factorBy-rest zero base h = absurd (omega arith)
 factorBy-rest (suc zero) base h = absurd (omega arith)
@@ -111,14 +111,14 @@ pub quantOffset-lt : (i : ℕ) → quantOffset i < 2 ^ 63
 unfolding quantOffset
 quantOffset-lt i = offsetBy-lt i (quantFactor i)
 
--- from index 2 on
+-- from index 2 on an offset is half of the capped factor plus one
 pub quantOffset-half : (i : ℕ) → 2 ≤ i → quantOffset i ≡ cap (quantFactor i + 1) / 2
 unfolding quantOffset
 quantOffset-half zero h = absurd (omega arith)
 quantOffset-half (suc zero) h = absurd (omega arith)
 quantOffset-half (suc (suc i)) h = refl
 
--- with a factor that is not capped
+-- the offset where the factor is not capped
 pub offset-same : (i : ℕ) → quantFactor i < 2 ^ 63 - 1 → offset i ≡ quantOffset i
 unfolding quantOffset offset
 offset-same zero h = refl

@@ -22,7 +22,8 @@ log2-mono a b p h =
 top-log2 : {w j : ℕ} → Top w j → j ≡ log2 w
 top-log2 {w} {j} t = top-unique w j (log2 w) t (log2-top w (omega (arith, pow-pos j)))
 
--- ---- of a quotient n / f, where f has it at j and n has it d places above: d where f moved up d places is not above n, else one less
+-- ---- of a quotient n / f, where f has it at j and n has it d places above: d where f moved up d places is not above
+-- n, else one less
 moved-lt : (f j d : ℕ) → Top f j → f * 2 ^ d < 2 ^ (j + d) * 2
 moved-lt f j d s = omega (arith, pow-add 2 j d, mul-lt-mul-of-pos-right (s .high) (pow-pos d))
 

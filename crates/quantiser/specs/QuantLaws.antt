@@ -1,5 +1,5 @@
 -- What the layers above cite of the quantiser: how near, how large and of which sign a rebuilt coefficient is, that no
--- cap touches a coefficient below 2^53, and the bounds of factors and numbers.
+-- cap changes a coefficient below 2^53, and the bounds of factors and numbers.
 use mathlib.Core.Path.{_≡_, refl, sym, ap, _∙_}
 use Prim.Native.Nat.{ℕ, zero, suc, _+_, _*_, _/_, _%_, _^_, _≤_, _<_}
 use native.Mathlib.Nat.{mod-lt, div-add-mod', div-eq-of-lt, div-le-of-le-mul, mul-le-mul-right, suc-mul, zero-mul, mul-le-mul-left}
@@ -82,7 +82,7 @@ pub record Rebuilt (c : ℤ) (i : ℕ) : Type 0 where
   pub near-size : Near (quantFactor i) (natAbs c) size
   pub most : size ≤ natAbs c + natAbs c / 2 + 1
 
--- what makes 0 of 0 sees nothing of the sign of 0
+-- a function that gives 0 for 0 does not depend on the sign of 0
 signed-through : (c : ℤ) (g : ℕ → ℕ) (n : ℕ) → g 0 ≡ 0 → signed (signed c n) (g n) ≡ signed c (g n)
 signed-through c g zero e = rw (e, signed-zero c)
 signed-through c g (suc n) e = signed-signed c (suc n) (g (suc n)) (omega arith)

@@ -55,7 +55,7 @@ forward-code f c =
     let m = cap (4 * natAbs c / f) in
     code-sign c m ∙ ap (λ (k : ℕ). codeM k (ltZ c (pos 0))) (sym (abs-signed c m))
 
--- ---- as the code makes it
+-- ---- the number as the code makes it
 pub forward-sign : (f m : ℕ) (z c : ℤ) → z ≡ c → m ≡ natAbs (forwardBy f z) → signed z m ≡ forwardBy f c
 unfolding forwardBy
 forward-sign f m z c e d = ap (signed z) (d ∙ abs-signed z (cap (4 * natAbs z / f))) ∙ ap (forwardBy f) e

@@ -13,10 +13,11 @@
 //   17  quant_offset: index, answer, value
 //   18  forward_quant: coefficient, index, answer, value
 //   19  inverse_quant: number, index, answer, value
-//   20  default_quant_matrix: wavelet, horizontal-only wavelet, depth, horizontal-only depth, count (0 if there is none), values
+//   20  default_quant_matrix: wavelet, horizontal-only wavelet, depth, horizontal-only depth, count (0 if there is
+//       none), values
 //   32  oned_analysis: wavelet, answer (0, 1), n, row (n words), row after the call (n words)
-//   33  dwt: wavelet, horizontal-only wavelet, depth, horizontal-only depth, width, height, d (the offset is 2^(d-1)), samples, all
-//       coefficients of the padded component in subband order, each band row by row
+//   33  dwt: wavelet, horizontal-only wavelet, depth, horizontal-only depth, width, height, d (the offset is
+//       2^(d-1)), samples, all coefficients of the padded component in subband order, each band row by row
 //   34  long row: wavelet, n, answer (0, 1 or 15) for a row of n zeros
 //   48  job: bytes of the job, the job packed, bytes of the printed text, the text packed
 // What is printed: a line for each case that differs or is malformed, with its number from 1 on and its kind; then for
@@ -59,7 +60,7 @@ fn run_transform(kind: u64, w: &[u64]) -> Verdict {
     }
 }
 
-// A case of n words is run.
+// Runs a case, by its kind.
 fn run_case(kind: u64, w: &[u64]) -> Verdict {
     match kind {
         1 => words::uint_len(w),

@@ -136,7 +136,7 @@ module _ (s : Settings) (m : List ℕ) (p : Three (List ℕ)) (work : List ℤ) 
       (paddedSize (s .«dwt_depth_ho») (s .«dwt_depth») z .width) (paddedSize (s .«dwt_depth_ho») (s .«dwt_depth») z .height)
       (v .wavelet-ho) (v .wavelet) (omega (arith, v .depths)) (padded-is (s .«dwt_depth_ho») (s .«dwt_depth») z) (t .samples c) (omega arith) .below))
 
-  -- what is read of a component's bands is near its coefficients
+  -- the samples of a component, where the bands read equal its coefficients
   samples-back : (c : Component) (bs : List Band) → EqualBands (pick c (coefficientsOf s p)) bs
       → SameSamples (pick c (sizesOf s)) (pick c p)
       (λ y x. idwt (s .«wavelet_index_ho») (s .«wavelet_index») bs (s .«dwt_depth_ho») (s .«dwt_depth») y x +ℤ pos (offsetOf (pick c (depthsOf s))))

@@ -1,5 +1,5 @@
--- Laws of the election of an index: it stays between its ends, below the upper end it fits, and where fitting
--- stays, it is the least that fits.
+-- Laws of the election of an index: it stays between its ends, below the upper end it fits, and where what fits at an
+-- index fits at every larger one, it is the least that fits.
 use mathlib.Core.Path.{_≡_, refl, sym, ap, _∙_, subst}
 use mathlib.Core.Bool.{Bool, true, false}
 use Prim.Native.Nat.{ℕ, zero, suc, _+_, _-_, _/_, _≤_, _<_}
@@ -103,7 +103,8 @@ module _ (fits : ℕ → Bool) where
       (λ h. halve-elects n (mid + 1) hi hi (omega arith) (omega arith) (λ l. absurd (omega arith)))
       (λ h. halve-under n (mid + 1) hi (omega arith) (omega arith))
 
-  -- where fitting stays up to hi, an index with no fit just below it is at most one that fits
+  -- where what fits at an index fits at every larger one up to hi, an index with no fit just below it is at most one
+  -- that fits
   under-le : (hi q m : ℕ) → ((i j : ℕ) → i ≤ j → j ≤ hi → fits i ≡ true → fits j ≡ true) → q ≤ hi → Under 0 q → (m < hi → fits m ≡ true) → q ≤ m
   under-le hi q m rises h u f =
       le-of-suc-le-suc (lt-of-not-le λ (g : suc m ≤ q).

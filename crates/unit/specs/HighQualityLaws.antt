@@ -171,7 +171,7 @@ module _ (slices : ℕ → List SlicePlan) where
 
 -- ---- shares
 module _ (n d : ℕ) where
-  -- earlier ones are larger, by at most one byte
+  -- an earlier share is not smaller, and larger by at most one byte
   pub share-falls : (i j : ℕ) → i ≤ j → (shareOf n d j ≤ shareOf n d i) × (shareOf n d i ≤ suc (shareOf n d j))
   unfolding shareOf
   share-falls i j h = by (ltb i (n % d)) (ltb j (n % d)) refl refl
@@ -214,7 +214,7 @@ module _ (g : Grid) (m : List ℕ) (b : Three (List Band)) (p : ℕ) (r : RateCo
   pub high-many : length (highSlices g m b p r c n) ≡ sliceCount g
   high-many = length-span _ 0 (sliceCount g)
 
-  -- each takes its size
+  -- each slice takes its size
   pub high-bytes : 1 ≤ c → map bytesOf (highSlices g m b p r c n) ≡ span takes 0 (sliceCount g)
   unfolding highPlan
   high-bytes h =

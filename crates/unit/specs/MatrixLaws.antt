@@ -18,7 +18,7 @@ pub record Matrix (n : ℕ) (vs : List ℕ) : Type 0 where
   pub many : length vs ≡ n
   pub small : AllMost 255 vs
 
--- if there is one
+-- a matrix for n subbands, if there is one
 abbrev pub MatrixIf : ℕ → Option (List ℕ) → Type 0
 MatrixIf n none = Unit {0}
 MatrixIf n (some vs) = Matrix n vs

@@ -52,7 +52,7 @@ reads-extended version t h l = by (leb 3 version) (λ u. l (nleb→lt 3 version 
     by true g = reads-pair t h
     by false g = let e = g tt in rw (e .0, e .1) (reads-pure _)
 
--- 12.4.5.2
+-- 12.4.5.2: the slice parameters are read back
 reads-slice-parameters : (k : PictureKind) (p : SliceParameters) → SliceFits k p → Reads (readSliceParameters k) (sliceParameterBits p) p
 reads-slice-parameters LowDelay (lowDelay n d) h =
     reads-bind _ (reads-uint n)
@@ -67,7 +67,7 @@ reads-slice-parameters HighQuality (highQuality p c) h =
     reads-bind _ (reads-uint p)
     (reads-last _ (reads-such (leb 1) (le→leb 1 c h) (reads-uint c)) (reads-pure _))
 
--- 12.4.5.3
+-- 12.4.5.3: matrix values are read back
 reads-all : (vs : List ℕ) → Reads (readUints (length vs)) (codesU vs) vs
 unfolding readUints codesU
 reads-all [] = reads-pure []
@@ -83,7 +83,7 @@ reads-matrix n (some vs) d h =
 reads-matrix n none none h = absurd h
 reads-matrix n none (some vs) h = reads-bind _ (reads-such (λ f. f || true) tt (reads-bool false)) (reads-pure none)
 
--- 12.4.1
+-- 12.4.1: the transform parameters are read back
 pub reads-parameters : (version : ℕ) (kind : PictureKind) (t : Parameters) → Legal version kind t → Reads (readParameters kind version) (parameterBits version t) t
 unfolding readParameters parameterBits
 reads-parameters version kind t l =

@@ -55,7 +55,7 @@ module _ (n w x : ℕ) (hn : 0 < n) (hx : x < w) where
       let d : (suc x * n - 1) / w < suc k = div-lt-iff-lt-mul hw .1 (omega (arith, a, b, mul-comm w (suc k))) in
       omega arith
 
--- parts go on as places do
+-- a later place is in no earlier part
 pub part-mono : (n w a x : ℕ) → x < w → a ≤ x → partOf n w a ≤ partOf n w x
 unfolding partOf
 part-mono n w a x hx l =
@@ -99,7 +99,7 @@ module _ (g : Grid) (z : Size) (k y x : ℕ) where
         le-leb (left g z k) x (i .right-of),
       ) (lt-ltb x (right g z k) (i .left-of))
 
--- slices go on as places do: the neighbours that a prediction asks for are in slices that are not later
+-- a place not above or left of another is in no earlier slice: a prediction's neighbours are in no later slice
 pub slice-mono : (g : Grid) (z : Size) (b a y x : ℕ) → y < z .height → x < z .width → b ≤ y → a ≤ x → sliceOf g z b a ≤ sliceOf g z y x
 slice-mono g z b a y x hy hx hb ha =
     omega (arith, mul-le-mul-right (g .across) (part-mono (g .down) (z .height) b y hy hb), part-mono (g .across) (z .width) a x hx ha)
@@ -197,11 +197,11 @@ unfoldable pub storeFirst : ℕ → ℕ → ℕ → List ℤ → Plane → ℕ �
 storeFirst t l c vs p zero = p
 storeFirst t l c vs p (suc n) = store (storeFirst t l c vs p n) (t + n / c) (l + n % c) (getD vs n (pos 0))
 
--- slice k's numbers vs
+-- the plane p with slice k's numbers vs stored
 abbrev pub put : Grid → Size → ℕ → List ℤ → Plane → Plane
 put g z k vs p = storeFirst (top g z k) (left g z k) (right g z k - left g z k) vs p (partSize g z k)
 
--- the first k slices
+-- the plane p with the numbers of the first k slices stored
 unfoldable pub putAll : Grid → Size → (ℕ → List ℤ) → Plane → ℕ → Plane
 putAll g z s p zero = p
 putAll g z s p (suc k) = put g z k (s k) (putAll g z s p k)

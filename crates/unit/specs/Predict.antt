@@ -45,6 +45,6 @@ module _ (g : ℕ → ℕ → ℤ → ℤ) where
   scanRows zero w = []
   scanRows (suc h) w = let r = firstRow 0 (pos 0) w in r ∷ nextRows w 1 r h
 
-  -- h rows of w
+  -- the plane of h rows of w
   unfoldable pub scan : ℕ → ℕ → Plane
   scan h w = let rs = scanRows h w in ofRows rs

@@ -214,7 +214,7 @@ module _ (g : Grid) (m : List ℕ) (index : ℕ → ℕ) where
   abbrev pub indexAt : ℕ → Size → ℕ → ℕ → ℕ
   indexAt n z y x = index (sliceOf g z y x) - getD m n 0
 
-  -- rebuilt at their band's index, 13.3
+  -- 13.3: the values of a subband, each rebuilt at its band's index
   abbrev pub inversePlane : ℕ → Size → (ℕ → List ℤ) → Plane
   inversePlane n z s y x = inverse (numberPlane g z s y x) (indexAt n z y x)
 

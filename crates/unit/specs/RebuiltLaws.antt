@@ -38,7 +38,7 @@ module _ (g : Grid) (b : Band) (i k : ℕ) (r : Plane) (y x : ℕ) (hy : y < b .
   pub rebuilt-in : inside g (sizeOf b) k y x ≡ true → rebuilt g b i k r y x ≡ rebuiltAt i (b .plane y x) (predict (rebuilt g b i k r) y x)
   rebuilt-in e = rebuilt-by true e
 
-  -- another one stays as it was
+  -- a place of another slice stays as it was
   pub rebuilt-out : inside g (sizeOf b) k y x ≡ false → rebuilt g b i k r y x ≡ r y x
   rebuilt-out e = rebuilt-by false e
 
@@ -48,7 +48,7 @@ unfoldable pub stateAt : Grid → List ℕ → List Band → (ℕ → ℕ) → �
 stateAt g m bs q zero = zeroPlane
 stateAt g m bs q (suc k) = leftLD g m bs (stateAt g m bs q k) (q k) k
 
--- only the indices of these slices count
+-- the indices of slices from k on change nothing
 pub state-cong : (g : Grid) (m : List ℕ) (bs : List Band) (q r : ℕ → ℕ) (k : ℕ) → ((j : ℕ) → j < k → q j ≡ r j) → stateAt g m bs q k ≡ stateAt g m bs r k
 unfolding stateAt
 state-cong g m bs q r zero e = refl
@@ -130,7 +130,7 @@ module _ (g : Grid) (m : List ℕ) (q : ℕ → ℕ) (b : Band) (bs : List Band)
       ∙ ap (numberAt i (b .plane y x)) (state-predict (suc k) y x hy hx (omega arith))
 
 -- ---- sizes
--- a value rebuilt from a prediction p of c goes from p towards c, and past it by at most half of the way and 1
+-- a value rebuilt from a prediction p of c lies on c's side of p, beyond c by at most half of |c - p| and 1
 over : (d c p : ℤ) (s n : ℕ) → c -ℤ p ≡ d → natAbs c ≤ n → natAbs p ≤ 3 * n + 2 → s ≤ natAbs d + natAbs d / 2 + 1 → natAbs (p +ℤ signed d s) ≤ 3 * n + 2
 over (pos a) c p s n e hc hp hs =
     let v = p +ℤ pos s in

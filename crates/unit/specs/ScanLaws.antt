@@ -47,7 +47,7 @@ by-neighbours h w P f (suc y) (suc x) hy hx =
       by-neighbours h w P f y (suc x) (omega arith) hx,
     )
 
--- a prediction sees only them
+-- a prediction depends on its neighbours alone
 pub predict-same : (p q : Plane) (y x : ℕ) → Neighbours (λ b a. p b a ≡ q b a) y x → predict p y x ≡ predict q y x
 unfolding predict
 predict-same p q zero zero e = refl

@@ -182,7 +182,7 @@ module _ (s : Settings) (m : List ℕ) (p : Three (List ℕ)) where
   abbrev pub highOverhead : ℕ
   highOverhead = 17 + parameterBytes (majorVersion s) (highParameters s m (scalerOf s m (coefficientsOf s p)))
 
--- a slice takes bytes, and a share of none is none
+-- a slice takes at least 4 bytes, and a share of 0 bytes is 0
 taken-some : (s : Settings) (m : List ℕ) (p : Three (List ℕ)) (k : ℕ) → 4 ≤ takenBy s m p k
 unfolding sliceSize
 taken-some s m p k = omega arith
@@ -225,7 +225,7 @@ module _ (s : Settings) (m : List ℕ) (p : Three (List ℕ)) (work : List ℤ) 
             (high-index (gridOf s) (matrixValues s m) b (s .«slice_prefix_bytes») (s .rate) f c (highBytes s m c)) (scaler-fits s m b (coefficients-within s p));
       }
 
-  -- whatever the unit's length
+  -- the plan is sound, whatever the unit's length
   pub planned : SoundBy s (s .kind) (planOf s m p)
   unfolding planOf
   planned = sound-by (s .kind) (v .rate)

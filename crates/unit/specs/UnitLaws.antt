@@ -116,7 +116,7 @@ full-head s n t =
     (full-append (full-lit 32 (s .«prev_unit_len») refl) (full-append (full-lit 32 (s .«picture_number») refl)
     (full-fill (parameterBits (majorVersion s) t))))))
 
--- how many bytes it takes
+-- how many bits the head has
 length-head : (s : Settings) (n : ℕ) (t : Parameters) → length (headBits s n t) ≡ 8 * (17 + parameterBytes (majorVersion s) t)
 unfolding headBits parameterBytes
 length-head s n t =

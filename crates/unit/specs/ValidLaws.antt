@@ -32,7 +32,7 @@ use Rattle.unit.specs.MatrixLaws.{Matrix, MatrixIf, default-matrix}
 use Rattle.unit.specs.PaddedLaws.{padded-wide, padded-high, padded-mono}
 use Rattle.unit.specs.TestLaws.{no-truth, or-none, both, at-most, same, some-of, between, all-most}
 
--- rules 5 to 7
+-- rules 5 to 7 are not broken
 record RateKept (k : PictureKind) (r : RateControl) : Type 0 where
   target : noTarget k r ≡ false
   index : badIndex r ≡ false
@@ -46,7 +46,7 @@ rate-fits HighQuality Lossless = (λ h. tt, λ h. record { target = refl; index 
 rate-fits HighQuality (FixedQuantIndex q) = (λ h. at-most 255 q .0 (h .index), λ h. record { target = refl; index = at-most 255 q .1 h; bytes = refl })
 rate-fits HighQuality (PictureBytes n) = (λ h. at-most 1073741824 n .0 (h .bytes), λ h. record { target = refl; index = refl; bytes = at-most 1073741824 n .1 h })
 
--- rules 9 and 10
+-- rules 9 and 10 are not broken
 record MatrixKept (n : ℕ) (m : List ℕ) (custom : Bool) (d : Option (List ℕ)) : Type 0 where
   own : (custom && (not (eqb (length m) n) || anyAbove 255 m)) ≡ false
   default : (not custom && isNone d) ≡ false

@@ -104,7 +104,7 @@ module _ (s : LiftStage) (plus : Bool) (h w : ℕ) (l now : List ℤ) (n : ℕ) 
     now-at : (y : ℕ) → y < h → at now (y * w + x) ≡ at (lifted wrap (stageOf s) plus n column) y
     now-at y hy = inv .now-is .same y x hy hx ∙ column-at (lifted wrap (stageOf s) plus n) h w (asPlane w l) y x hx
 
-    -- the new number
+    -- the number that is updated
     value-is : valueOf (stageOf s) plus o ((2 * n + to) * w) (1 * x) now ≡ at (lifted wrap (stageOf s) plus (n + 1) column) (2 * n + to)
     unfolding delta
     value-is =
@@ -117,7 +117,7 @@ module _ (s : LiftStage) (plus : Bool) (h w : ℕ) (l now : List ℤ) (n : ℕ) 
         ∙ ap (λ (z : ℕ). at (lifted wrap st plus n column) (place st z n j)) (sym column-long) ∙ reads-old wrap st plus n n column side (omega arith) more-here j) in
         ap₂ (change wrap plus) here (ap (scaled wrap st) sums) ∙ sym (hit wrap st plus (n + 1) n column side (omega arith) (rw column-long (omega (arith, side))))
 
-    -- any other one
+    -- a number that is not updated
     same-is : (y : ℕ) → y ≢ 2 * n + to → at (lifted wrap (stageOf s) plus n column) y ≡ at (lifted wrap (stageOf s) plus (n + 1) column) y
     same-is y d =
         let st = stageOf s in

@@ -17,7 +17,7 @@ use Rattle.wavelet.specs.Planes.{raise}
 use Rattle.wavelet.specs.PlaneLists.{rows-list}
 
 -- ---- what the functions ask and leave
--- len numbers of l, from on, each step after the other, with b accuracy bits added
+-- len numbers of l from place `from` on, each `step` places behind the last, with b accuracy bits added
 abbrev pub copied : ℕ → List ℤ → ℕ → ℕ → ℕ → List ℤ
 copied b l from step len = row len (λ k. raise wrap b (at l (from + step * k)))
 

@@ -45,7 +45,7 @@ pub record EvenSides (h w : ℕ) : Type 0 where
   pub h-le : h ≤ 65536
   pub w-le : w ≤ 65536
 
--- L, H; LL, HL, LH, HH
+-- the bands of a plane one after the other: L, H; LL, HL, LH, HH
 abbrev pub halves : ℕ → ℕ → Plane → List ℤ
 halves h w g = asList h (w / 2) (partH 0 g) ++ asList h (w / 2) (partH 1 g)
 
@@ -140,7 +140,7 @@ plane-there n off h w l = record {
       getD-drop (n + off) l k (pos 0) ∙ sym (ap (λ (z : List ℤ). at z k) (piece-drop n off (h * w) l) ∙ at-piece (n + off) (h * w) l k (digits-lt hy hx));
 }
 
--- the scratch does not show behind it
+-- what the scratch holds changes nothing behind it
 behind : (n off m : ℕ) (S R l : List ℤ) → Place n off m l → length R ≡ m → drop n (put (n + off) m S (put 0 m R l)) ≡ put off m S (drop n l)
 behind n off m S R l p long =
     drop-put n off m S (put 0 m R l) (omega (arith, p .fits, length-put 0 m R l (omega (arith, p .fits)) long))

@@ -99,7 +99,7 @@ module _ (wr : ℤ → ℤ) where
         let f : k % 2 ≡ st .to = omega arith in
         at-row (length xs) (newAt wr st plus m xs) k i ∙ rw (e, f, eq-eqb (st .to) (st .to) refl, lt-ltb n m l)
 
-    -- any other one
+    -- a place that is not updated
     pub miss : (m k : ℕ) (xs : List ℤ) → (k % 2 ≡ st .to → m ≤ k / 2) → at (lifted wr st plus m xs) k ≡ at xs k
     unfolding lifted
     miss m k xs h = by (decLt k (length xs)) (ℕ-discrete (k % 2) (st .to))

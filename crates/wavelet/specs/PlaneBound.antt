@@ -226,11 +226,11 @@ dwt-times i j g k zero n M f l = dwtH-times i j g k n M f (omega arith)
 dwt-times i j g k (suc d) zero M f l = absurd (omega arith)
 dwt-times i j g k (suc d) (suc n) M f l = le-trans (dwt-times i j g k d n (vhGrown i j M) f (omega arith)) (times-le g n (vhGrown i j M) (g * M) (f .vh-le M))
 
--- for every pair of filters a level is at most 110 times
 grown-le : (i : ℕ) → i ≤ 6 → (M : ℕ) → grown i M ≤ 7408 * M / 1000
 unfolding grown growth
 grown-le = each-filter (λ i. (M : ℕ) → grown i M ≤ 7408 * M / 1000) (λ M. omega arith) (λ M. omega arith) (λ M. omega arith) (λ M. omega arith) (λ M. omega arith) (λ M. omega arith) (λ M. omega arith)
 
+-- with every pair of filters a level makes numbers at most 110 times as large
 pub any-factor : (i j : ℕ) → i ≤ 6 → j ≤ 6 → Factor i j 110
 any-factor i j hi hj = record {
   one = omega arith;

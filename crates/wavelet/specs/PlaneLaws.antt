@@ -21,7 +21,7 @@ use Rattle.wavelet.specs.Planes.{Band, coefficients, ofRows, rowsBy, col
 agree-turned : (h w : ℕ) (f g : Plane) → Agree h w f g → Agree w h (turned f) (turned g)
 agree-turned h w f g e = record { same = λ y x hy hx. e .same x y hx hy }
 
--- a pass sees only its own rows
+-- a pass depends on its own rows alone
 pub rows-cong : (A : List ℤ → List ℤ) (h w : ℕ) (f g : Plane) → Agree h w f g → rowsBy A h w f ≡ rowsBy A h w g
 unfolding rowsBy
 rows-cong A h w f g e =
@@ -184,7 +184,7 @@ module _ (i j : ℕ) (hi : i ≤ 6) (hj : j ≤ 6) where
         ∙ lower-raise b (f y x) (bits-le i hi);
   }
 
-  -- only the first bands count
+  -- bands behind the first n + 1 change nothing
   pub idwtH-left : (bs ts : List Band) (n : ℕ) → n < length bs → idwtH i (bs ++ ts) n ≡ idwtH i bs n
   unfolding idwtH
   idwtH-left bs ts zero l = ap (λ (r : Band). r .plane) (band-left bs ts 0 l)

@@ -71,7 +71,7 @@ twoTaps t shift = record { to = 0; adds = false; shift = shift; ahead = 0; back 
 abbrev pub twoPlaces : ℕ → ℕ → List ℕ
 twoPlaces i j = i ∷ j ∷ replicate 6 0
 
--- ---- one function after the other
+-- ---- laws of the code's functions
 pub taps-long : (s : LiftStage) → Legal s → length (stageOf s .taps) ≡ s .count
 unfolding stageOf
 taps-long s l = length-take-le (s .count) (s .taps) (omega (arith, l .long, l .count-le))
@@ -125,7 +125,7 @@ module _ (st : Stage) (plus : Bool) (o : List ℕ) (p step : ℕ) where
   apart : 1 ≤ step → (h i : ℕ) → h < i → p + step * i ≢ p + step * h
   apart s h i l e = omega (arith, mul-lt-mul-of-pos-left {k = step} l s)
 
-  -- a place that is
+  -- a place that is updated
   pub ran-at : (m i : ℕ) (xs : List ℤ) → 1 ≤ step → i < m → p + step * i < length xs → at (ran st plus o p step m xs) (p + step * i) ≡ valueOf st plus o p (step * i) xs
   unfolding ran
   ran-at zero i xs s l b = absurd (omega arith)

@@ -27,7 +27,7 @@ stageAt j = getD stages j (type1 0 0 0 [])
 unfoldable pub isCount : ℕ → Bool
 isCount c = eqb c 1 || (eqb c 2 || (eqb c 4 || eqb c 8))
 
--- what the workers ask of a stage
+-- what the lifting functions ask of a stage
 pub record Legal (s : LiftStage) : Type 0 where
   pub side : s .to ≤ 1
   pub shift-le : s .shift ≤ 12

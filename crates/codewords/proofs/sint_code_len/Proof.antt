@@ -14,7 +14,6 @@ use Rattle.codewords.proofs.sint_code_len.Reads as reads
 use Rattle.codewords.proofs.sint_code_len.Lts as lts
 use Rattle.codewords.proofs.unsigned_abs.Reads as unsigned-abs-reads
 
--- src/lib.rt:31:9
 unsigned-abs-requires : tie.Need-unsigned-abs-requires
 unsigned-abs-requires c κs = search needs
 

@@ -15,7 +15,7 @@ use Rattle.picture.proofs.low_index.rebuild_planes.Reads as rebuild-pla
 use Rattle.picture.proofs.low_index.rest_of.Reads as rest-of-reads
 use Rattle.picture.proofs.low_index.surely_fits.Reads as surely-fits-reads
 
--- the runs at hand, where the planes are rebuilt
+-- the runs known, where the planes are rebuilt
 both : (c : tie.After-first-tallies) → let a = c .before .before .before .before .before .args in
     let v = c .before .before .before .rebuild-planes .last .0 in Known v (a .p) (a .k) (a .low) × Known v (a .p) (a .k) (a .high)
 both c =
