@@ -21,10 +21,10 @@ module _ {A : Type 0} where
   unfoldable pub give : A → Parser A
   give x = λ s. got x s
 
-  -- a field: one that is missing stops the reading where it began
-  abbrev pub field : Bits → Option (A × Bits) → Read A
-  field s none = stop s
-  field s (some r) = got (r .0) (r .1)
+  -- what was found, or, where a field is missing, a stop where it began
+  abbrev pub orStop : Bits → Option (A × Bits) → Read A
+  orStop s none = stop s
+  orStop s (some r) = got (r .0) (r .1)
 
   abbrev pub checked : (A → Bool) → Bits → Read A → Read A
   checked test s (stop t) = stop t
@@ -51,7 +51,7 @@ nbitsFrom (suc k) a [] = none
 nbitsFrom (suc k) a (b ∷ s) = nbitsFrom k (a * 2 + val b) s
 
 unfoldable pub readNbits : ℕ → Parser ℕ
-readNbits k s = field s (nbitsFrom k 0 s)
+readNbits k s = orStop s (nbitsFrom k 0 s)
 
 -- A.3.2: one bit as a yes or no
 abbrev pub boolFrom : Bits → Option (Bool × Bits)
@@ -59,7 +59,7 @@ boolFrom [] = none
 boolFrom (b ∷ s) = some (b, s)
 
 unfoldable pub readBool : Parser Bool
-readBool s = field s (boolFrom s)
+readBool s = orStop s (boolFrom s)
 
 -- A.4.3: starts at 1; while the next bit is 0 it doubles and adds the bit after; then 1 is taken off
 abbrev pub uintFrom : ℕ → Bits → Option (ℕ × Bits)
@@ -69,7 +69,7 @@ uintFrom a (false ∷ []) = none
 uintFrom a (false ∷ b ∷ s) = uintFrom (a * 2 + val b) s
 
 unfoldable pub readUint : Parser ℕ
-readUint s = field s (uintFrom 1 s)
+readUint s = orStop s (uintFrom 1 s)
 
 -- A.4.4: a number that is not 0 is followed by its sign
 abbrev pub signFrom : ℕ → Bits → Option (ℤ × Bits)
@@ -83,7 +83,7 @@ sintFrom none = none
 sintFrom (some r) = signFrom (r .0) (r .1)
 
 unfoldable pub readSint : Parser ℤ
-readSint s = field s (sintFrom (uintFrom 1 s))
+readSint s = orStop s (sintFrom (uintFrom 1 s))
 
 -- A.2.4: on to the next whole byte. A unit is whole bytes, so the bits left over eights are those of the byte begun
 unfoldable pub byteAlign : Parser (Unit {0})
@@ -100,7 +100,7 @@ splitFrom (suc n) (b ∷ s) = more b (splitFrom n s)
     more b (some r) = some (b ∷ r .0, r .1)
 
 unfoldable pub readBits : ℕ → Parser Bits
-readBits n s = field s (splitFrom n s)
+readBits n s = orStop s (splitFrom n s)
 
 -- ---- inside a bounded block, A.4.2: past its end every bit reads as 1
 unfoldable pub uintb : ℕ → Bits → ℕ × Bits

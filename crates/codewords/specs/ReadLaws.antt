@@ -14,21 +14,21 @@ use Rattle.codewords.specs.Bit.{Bits, val, lit, value, oneBits}
 use Rattle.codewords.specs.BitLaws.{length-lit, value-of-lit}
 use Rattle.codewords.specs.Code.{log2, interleaved, codeU, sign, codeS, codes, zeroFilled}
 use Rattle.codewords.specs.CodeLaws.{value-code}
-use Rattle.codewords.specs.Read.{got, stop, Parser, give, field, checked, such, after, _⊳_, nbitsFrom, readNbits, readBool, uintFrom, readUint, signFrom, sintFrom, readSint, byteAlign, splitFrom, readBits, uintb, signb, sintb, sintsb}
+use Rattle.codewords.specs.Read.{got, stop, Parser, give, orStop, checked, such, after, _⊳_, nbitsFrom, readNbits, readBool, uintFrom, readUint, signFrom, sintFrom, readSint, byteAlign, splitFrom, readBits, uintb, signb, sintb, sintsb}
 use Rattle.codewords.specs.ByteLaws.{Full}
 
 -- p reads x from w, whatever follows, and stops where w ends
 pub record Reads {A : Type 0} (p : Parser A) (w : Bits) (x : A) : Type 0 where
   pub at : (rest : Bits) → p (w ++ rest) ≡ got x rest
 
-pub reads-pure : {A : Type 0} (x : A) → Reads (give x) [] x
+pub reads-give : {A : Type 0} (x : A) → Reads (give x) [] x
 unfolding give
-reads-pure x = record { at = λ rest. refl }
+reads-give x = record { at = λ rest. refl }
 
-pub reads-bind : {A B : Type 0} {p : Parser A} {w : Bits} {x : A} (f : A → Parser B) {v : Bits} {y : B}
+pub reads-then : {A B : Type 0} {p : Parser A} {w : Bits} {x : A} (f : A → Parser B) {v : Bits} {y : B}
     → Reads p w x → Reads (f x) v y → Reads (p ⊳ f) (w ++ v) y
 unfolding _⊳_
-reads-bind {p = p} {w = w} f {v = v} a b = record {
+reads-then {p = p} {w = w} f {v = v} a b = record {
   at = λ rest.
       ap (λ s. after (p s) f) (append-assoc w v rest) ∙ ap (λ o. after o f) (a .at (v ++ rest)) ∙ b .at rest;
 }
@@ -58,7 +58,7 @@ pub reads-nbits : (k v : ℕ) → v < 2 ^ k → Reads (readNbits k) (lit k v) v
 unfolding readNbits
 reads-nbits k v h = record {
   at = λ rest.
-      ap (field (lit k v ++ rest))
+      ap (orStop (lit k v ++ rest))
       (ap (λ (j : ℕ). nbitsFrom j 0 (lit k v ++ rest)) (sym (length-lit k v)) ∙ nbits-value (lit k v) 0 rest
       ∙ ap (λ (x : ℕ). some (x, rest)) (value-of-lit k v h));
 }
@@ -84,7 +84,7 @@ uint-code v rest =
 
 pub reads-uint : (v : ℕ) → Reads readUint (codeU v) v
 unfolding readUint
-reads-uint v = record { at = λ rest. ap (field (codeU v ++ rest)) (uint-code v rest) }
+reads-uint v = record { at = λ rest. ap (orStop (codeU v ++ rest)) (uint-code v rest) }
 
 -- ---- signed numbers
 sign-code : (z : ℤ) (rest : Bits) → signFrom (natAbs z) (sign z ++ rest) ≡ some (z, rest)
@@ -96,7 +96,7 @@ pub reads-sint : (z : ℤ) → Reads readSint (codeS z) z
 unfolding readSint codeS
 reads-sint z = record {
   at = λ rest.
-      ap (field (codeU (natAbs z) ++ sign z ++ rest))
+      ap (orStop (codeU (natAbs z) ++ sign z ++ rest))
       (ap (λ (s : Bits). sintFrom (uintFrom 1 s)) (append-assoc (codeU (natAbs z)) (sign z) rest)
       ∙ ap sintFrom (uint-code (natAbs z) (sign z ++ rest)) ∙ sign-code z rest);
 }
@@ -127,7 +127,7 @@ split-append (b ∷ w) rest = rw (split-append w rest)
 pub reads-bits : (n : ℕ) (w : Bits) → length w ≡ n → Reads (readBits n) w w
 unfolding readBits
 reads-bits n w e = record {
-  at = λ rest. ap (field (w ++ rest)) (ap (λ (k : ℕ). splitFrom k (w ++ rest)) (sym e) ∙ split-append w rest);
+  at = λ rest. ap (orStop (w ++ rest)) (ap (λ (k : ℕ). splitFrom k (w ++ rest)) (sym e) ∙ split-append w rest);
 }
 
 -- ---- bounded blocks

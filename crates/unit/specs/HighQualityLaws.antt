@@ -15,7 +15,7 @@ use Rattle.codewords.specs.Bit.{Bits, lit, oneBits, zeroBits}
 use Rattle.codewords.specs.BitLaws.{length-lit}
 use Rattle.codewords.specs.Code.{codes}
 use Rattle.codewords.specs.Read.{sintsb}
-use Rattle.codewords.specs.ReadLaws.{Reads, reads-pure, reads-bind, reads-last, reads-nbits, reads-bits, block-codes}
+use Rattle.codewords.specs.ReadLaws.{Reads, reads-give, reads-then, reads-last, reads-nbits, reads-bits, block-codes}
 use Rattle.codewords.specs.ByteLaws.{Full, full-length}
 use Rattle.wavelet.specs.Planes.{Band}
 use Rattle.unit.specs.declared.PictureKind.the-variants.{HighQuality}
@@ -72,7 +72,7 @@ module _ (c : ℕ) (xs : List ℤ) (some : 1 ≤ c) where
       let e : sintsb (length xs) (block c xs) ≡ xs =
       block-codes (length xs) (trimmed xs) (8 * (scalersOf c xs * c) - trimmedCost xs) ∙ filled-trimmed xs in
       subst (Reads (readComponent c (length xs)) (componentBits c xs)) e
-      (reads-bind _ (reads-nbits 8 (scalersOf c xs) h) (reads-last _ (reads-bits _ (block c xs) length-block) (reads-pure _)))
+      (reads-then _ (reads-nbits 8 (scalersOf c xs) h) (reads-last _ (reads-bits _ (block c xs) length-block) (reads-give _)))
 
 -- ---- slices
 -- every component's need is at most n bytes
@@ -95,10 +95,10 @@ module _ (p c q : ℕ) (z : Three (List ℤ)) (some : 1 ≤ c) where
   pub reads-high : q < 256 → Needs (255 * c) z → Reads (readHigh p c (map3 length z)) (highBits p c q z) (record { index = q; numbers = z })
   unfolding readHigh highBits
   reads-high h f =
-      reads-bind _ (reads-bits (8 * p) (zeroBits (8 * p)) (length-replicate (8 * p) false)) (reads-bind _ (reads-nbits 8 q h)
-      (reads-bind _ (reads-component c (z .y) some (scalers-few c (z .y) some (f .y)))
-      (reads-bind _ (reads-component c (z .c1) some (scalers-few c (z .c1) some (f .c1)))
-      (reads-last _ (reads-component c (z .c2) some (scalers-few c (z .c2) some (f .c2))) (reads-pure _)))))
+      reads-then _ (reads-bits (8 * p) (zeroBits (8 * p)) (length-replicate (8 * p) false)) (reads-then _ (reads-nbits 8 q h)
+      (reads-then _ (reads-component c (z .y) some (scalers-few c (z .y) some (f .y)))
+      (reads-then _ (reads-component c (z .c1) some (scalers-few c (z .c1) some (f .c1)))
+      (reads-last _ (reads-component c (z .c2) some (scalers-few c (z .c2) some (f .c2))) (reads-give _)))))
 
 -- ---- the largest need
 pub needs-split : (s : SlicePlan) (ss : List SlicePlan) (n : ℕ) → largestNeed (s ∷ ss) ≤ n → Needs n (s .numbers) × (largestNeed ss ≤ n)

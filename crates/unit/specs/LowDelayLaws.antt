@@ -16,7 +16,7 @@ use Rattle.codewords.specs.BitLaws.{length-lit, lit-none}
 use Rattle.codewords.specs.Code.{codes, zeroFilled}
 use Rattle.codewords.specs.CodeLaws.{codes-none}
 use Rattle.codewords.specs.Read.{sintsb}
-use Rattle.codewords.specs.ReadLaws.{Reads, reads-pure, reads-bind, reads-last, reads-such, reads-nbits, reads-bits, block-codes}
+use Rattle.codewords.specs.ReadLaws.{Reads, reads-give, reads-then, reads-last, reads-such, reads-nbits, reads-bits, block-codes}
 use Rattle.codewords.specs.ByteLaws.{Full, full-length}
 use Rattle.wavelet.specs.Planes.{Band}
 use Rattle.unit.specs.Three.{Three, map3}
@@ -106,8 +106,8 @@ pub reads-blocks : (n q : ℕ) (c : Three ℕ) (l : ℕ) (a b : Bits)
     → Reads (readLow n c) (lit 7 q ++ (lit (lengthBits n) l ++ (a ++ b))) (lowRead q (sintsb (c .y) a) (sintsb (c .c1 + c .c2) b))
 unfolding readLow
 reads-blocks n q c l a b hq hl hr ea eb =
-    reads-bind _ (reads-nbits 7 q hq) (reads-bind _ (reads-such _ (le→leb l (roomOf n) hr) (reads-nbits (lengthBits n) l hl))
-    (reads-bind _ (reads-bits l a ea) (reads-last _ (reads-bits (roomOf n - l) b eb) (reads-pure _))))
+    reads-then _ (reads-nbits 7 q hq) (reads-then _ (reads-such _ (le→leb l (roomOf n) hr) (reads-nbits (lengthBits n) l hl))
+    (reads-then _ (reads-bits l a ea) (reads-last _ (reads-bits (roomOf n - l) b eb) (reads-give _))))
 
 block-only : (n : ℕ) (ys : List ℤ) → sintsb n (codes ys) ≡ zeroFilled n ys
 block-only n ys = ap (sintsb n) (sym (append-nil (codes ys))) ∙ block-codes n ys 0

@@ -171,8 +171,8 @@ readEnd [] = got tt []
 readEnd (b ∷ s) = stop (b ∷ s)
 
 -- a picture unit of so many bytes: parse information, picture number, transform parameters, slices
-unfoldable pub readBits8 : Three Size → ℕ → ℕ → Parser Reading
-readBits8 z version bytes =
+unfoldable pub readPicture : Three Size → ℕ → ℕ → Parser Reading
+readPicture z version bytes =
     such (readNbits 32) (eqb 0x42424344) ⊳ λ prefix.
     such (readNbits 8) (λ c. eqb c 0xC8 || eqb c 0xE8) ⊳ λ c.
     such (readNbits 32) (λ n. eqb n 0 || eqb n bytes) ⊳ λ next.
@@ -186,7 +186,7 @@ readBits8 z version bytes =
 
 -- the reading of a unit, by the component sizes and the major version
 unfoldable pub readUnit : Three Size → ℕ → List ℕ → Read Reading
-readUnit z version bytes = readBits8 z version (length bytes) (fromBytes bytes)
+readUnit z version bytes = readPicture z version (length bytes) (fromBytes bytes)
 
 -- ---- coefficients, 13.5.5 and 13.5.6
 abbrev pub emptySlice : SliceRead

@@ -22,7 +22,7 @@ use Rattle.unit.specs.Parameters.{Parameters, parameterBits, parameterBy
 use Rattle.unit.specs.ParameterLaws.{reads-parameters}
 use Rattle.unit.specs.Plan.{SlicePlan, Plan}
 use Rattle.unit.specs.Unit.{majorVersion, parseCode, sliceRuns, joined, headBits, lengthOf, unitOf}
-use Rattle.unit.specs.Reader.{SliceRead, Reading, readParameters, SliceNumbers, bitsLeft, readSlice, readEach, gridIn, countsIn, kindOf, readEnd, readBits8, readUnit}
+use Rattle.unit.specs.Reader.{SliceRead, Reading, readParameters, SliceNumbers, bitsLeft, readSlice, readEach, gridIn, countsIn, kindOf, readEnd, readPicture, readUnit}
 use Rattle.unit.specs.Demand.{bytesOf, SameSlices, Follow}
 use Rattle.unit.specs.Sound.{SoundSlice, SoundSlices, Legal, Sound}
 
@@ -162,9 +162,9 @@ module _ (z : Three Size) (version n prev num : ℕ) (k : PictureKind) (t : Para
   slices : Finds (readEach (λ k. readSlice (8 * n) (t .sliceParameters) k (countsIn z t k)) 0 (sliceCount (gridIn t))) (allBits ss) (readsFrom h ss) []
   slices = rw (← many) (read-slices z t (8 * n) 0 h ss sound long)
 
-  read-all : Finds (readBits8 z version n)
+  read-all : Finds (readPicture z version n)
       (lit 32 0x42424344 ++ (lit 8 (parseCode k) ++ (lit 32 n ++ (lit 32 prev ++ (lit 32 num ++ (b ++ (fill (length b) ++ allBits ss))))))) found []
-  unfolding readBits8
+  unfolding readPicture
   read-all =
       finds-then _ (finds _ (reads-such (eqb 0x42424344) tt (reads-nbits 32 0x42424344 (omega arith))))
       (finds-then _ (finds _ (reads-such (λ c. eqb c 0xC8 || eqb c 0xE8) (code-test k) (reads-nbits 8 (parseCode k) (code-lt k))))
@@ -219,7 +219,7 @@ module _ (s : Settings) (a : Plan) (o : Sound s a) where
   pub reads-unit : readUnit (sizesOf s) (majorVersion s) (unitOf s a) ≡ got (readingOf s a) []
   unfolding readUnit readingOf
   reads-unit =
-      ap₂ (λ (n : ℕ) (w : Bits). readBits8 (sizesOf s) (majorVersion s) n w) (length-unit s a) unit-bits
+      ap₂ (λ (n : ℕ) (w : Bits). readPicture (sizesOf s) (majorVersion s) n w) (length-unit s a) unit-bits
       ∙ read-all (sizesOf s) (majorVersion s) (lengthOf s a) (s .«prev_unit_len») (s .«picture_number») (s .kind) (a .parameters) (a .slices)
       (o .long) (o .previous) (o .number) (o .legal) (o .many) (o .slices) (17 + parameterBytes (majorVersion s) (a .parameters)) unit-long .is
       ∙ ap (λ (k : PictureKind). got (record { kind = k; number = s .«picture_number»; parameters = a .parameters; slices = readsFrom (17 + parameterBytes (majorVersion s) (a .parameters)) (a .slices) }) [])

@@ -11,7 +11,7 @@ use Rattle.laws.specs.Window.{piece, put, length-lent, put-lent, length-put, dr
 use Rattle.laws.specs.Plane.{asList}
 use Rattle.wavelet.specs.Pad.{padded, componentOf}
 use Rattle.wavelet.specs.Level.{Place}
-use Rattle.wavelet.specs.Walk.{Deep, none}
+use Rattle.wavelet.specs.Walk.{Deep, no-level}
 use Rattle.wavelet.specs.declared.component.Component as Sides
 use Rattle.wavelet.specs.declared.component.Transform as Levels
 
@@ -50,7 +50,7 @@ pub padded-none : (i j k d : ℕ) (s : List ℕ) (o w h pw ph n off : ℕ) (l ys
     → drop n (take (n + off) l ++ (ys ++ drop (n + off + ph * pw - (n + off)) (drop (n + off) l))) ≡ put off (ph * pw) (componentOf i j k d s o w h pw ph) (drop n l)
 padded-none i j k d s o w h pw ph n off l ys y z p ey =
     let m : ℕ = ph * pw in
-    ap (drop n) (put-lent (n + off) m ys l ∙ ap (λ (x : List ℤ). put (n + off) m x l) (ey ∙ none i j k d ph pw (padded s o w h) y z))
+    ap (drop n) (put-lent (n + off) m ys l ∙ ap (λ (x : List ℤ). put (n + off) m x l) (ey ∙ no-level i j k d ph pw (padded s o w h) y z))
     ∙ drop-put n off m (componentOf i j k d s o w h pw ph) l (omega (arith, p .fits))
 
 -- one after the other: done is there, and the next one goes behind it

@@ -46,11 +46,11 @@ deep-across (suc k) zero h w ih iv y z p =
       record { sides = rw e (s .1); h-le = p .h-le; w-le = omega (arith, p .w-le); ih-le = p .ih-le; iv-le = p .iv-le },
     )
 
-pub quarter-le : (h w : ℕ) → h / 2 * (w / 2) ≤ h * w
-quarter-le h w = mul-le-mul (omega arith) (omega arith)
+pub quarter-area : (h w : ℕ) → h / 2 * (w / 2) ≤ h * w
+quarter-area h w = mul-le-mul (omega arith) (omega arith)
 
-pub half-le : (h w : ℕ) → h * (w / 2) ≤ h * w
-half-le h w = mul-le-mul {n₁ = h} {m₁ = w / 2} {n₂ = h} {m₂ = w} (omega arith) (omega arith)
+pub half-area : (h w : ℕ) → h * (w / 2) ≤ h * w
+half-area h w = mul-le-mul {n₁ = h} {m₁ = w / 2} {n₂ = h} {m₂ = w} (omega arith) (omega arith)
 
 pub place-down : (n off m q : ℕ) (l new : List ℤ) → Place n off m l → q ≤ m → length new ≡ length l → Place n off q new
 place-down n off m q l new p h e = record { room = omega (arith, p .room); fits = omega (arith, p .fits) }
@@ -121,7 +121,7 @@ pub walk-both : (ih iv k d h w n off : ℕ) (f : Plane) (l l1 l2 : List ℤ) →
     → drop n l2 ≡ put off (h * w) (coefficients (dwt wrap ih iv k d h w f)) (drop n l)
 walk-both ih iv k d h w n off f l l1 l2 z e p e1 e2 =
     let g = vhPass wrap ih iv h w f in
-    step n off (h * w) (h / 2 * (w / 2)) l l1 l2 (quarters h w g) (coefficients (dwt wrap ih iv k d h w f)) p (quarter-le h w) (length-quarters h w g (e .high) (e .wide)) e1
+    step n off (h * w) (h / 2 * (w / 2)) l l1 l2 (quarters h w g) (coefficients (dwt wrap ih iv k d h w f)) p (quarter-area h w) (length-quarters h w g (e .high) (e .wide)) e1
     (coefficientsOf ih iv k (d - 1) (h / 2) (w / 2)) e2 (both-list ih iv k d h w f z)
 
 -- one horizontal-only level, and the walk on its first half
@@ -131,15 +131,15 @@ pub walk-across : (ih iv k d h w n off : ℕ) (f : Plane) (l l1 l2 : List ℤ) �
     → drop n l2 ≡ put off (h * w) (coefficients (dwt wrap ih iv k d h w f)) (drop n l)
 walk-across ih iv k d h w n off f l l1 l2 y z e p e1 e2 =
     let g = hPass wrap ih h w f in
-    step n off (h * w) (h * (w / 2)) l l1 l2 (halves h w g) (coefficients (dwt wrap ih iv k d h w f)) p (half-le h w) (length-halves h w g (e .wide)) e1
+    step n off (h * w) (h * (w / 2)) l l1 l2 (halves h w g) (coefficients (dwt wrap ih iv k d h w f)) p (half-area h w) (length-halves h w g (e .wide)) e1
     (coefficientsOf ih iv (k - 1) 0 h (w / 2)) e2 (across-list ih iv k d h w f y z)
 
 -- no level is left
-pub none : (ih iv k d h w : ℕ) (f : Plane) → d ≤ 0 → k ≤ 0 → asList h w f ≡ coefficients (dwt wrap ih iv k d h w f)
+pub no-level : (ih iv k d h w : ℕ) (f : Plane) → d ≤ 0 → k ≤ 0 → asList h w f ≡ coefficients (dwt wrap ih iv k d h w f)
 unfolding dwt dwtH
-none ih iv zero zero h w f y z = sym (append-nil (asList h w f))
-none ih iv (suc k) zero h w f y z = absurd (omega arith)
-none ih iv k (suc d) h w f y z = absurd (omega arith)
+no-level ih iv zero zero h w f y z = sym (append-nil (asList h w f))
+no-level ih iv (suc k) zero h w f y z = absurd (omega arith)
+no-level ih iv k (suc d) h w f y z = absurd (omega arith)
 
 pub walk-none : (ih iv k d h w n off : ℕ) (l : List ℤ) → d ≤ 0 → k ≤ 0 → Place n off (h * w) l
     → drop n l ≡ put off (h * w) (coefficientsOf ih iv k d h w (piece off (h * w) (drop n l))) (drop n l)
@@ -147,4 +147,4 @@ walk-none ih iv k d h w n off l y z p =
     let u = drop n l in
     let o = piece off (h * w) u in
     let fit : off + h * w ≤ length u = rw (length-drop n l) (omega (arith, p .fits)) in
-    put-self off (h * w) u ∙ ap (λ (x : List ℤ). put off (h * w) x u) (sym (asList-back h w o (length-piece off (h * w) u fit)) ∙ none ih iv k d h w (asPlane w o) y z)
+    put-self off (h * w) u ∙ ap (λ (x : List ℤ). put off (h * w) x u) (sym (asList-back h w o (length-piece off (h * w) u fit)) ∙ no-level ih iv k d h w (asPlane w o) y z)

@@ -10,26 +10,26 @@ use Rattle.picture.proofs.layout.band_size.Tie as tie
 level-of-requires : tie.Need-level-of-requires
 level-of-requires c κs = search needs
 
-add-band-width : tie.Need-add-band-width
-add-band-width c = search needs
+add-subband-width : tie.Need-add-subband-width
+add-subband-width c = search needs
 
-band-width-requires : tie.Need-band-width-requires
-band-width-requires c κs =
+subband-width-requires : tie.Need-subband-width-requires
+subband-width-requires c κs =
     let s = c .before .before in
     let a = s .args in
     omega (arith, s .pre .0 .depths, c .before .level-of .ensures, level-most (a .l .«depth_ho») (a .l .depth) (a .n) (s .pre .1))
 
-band-height-requires : tie.Need-band-height-requires
-band-height-requires c κs =
+subband-height-requires : tie.Need-subband-height-requires
+subband-height-requires c κs =
     let s = c .before .before .before in
     let a = s .args in
     omega (arith, s .pre .0 .depths, c .before .before .level-of .ensures, level-most (a .l .«depth_ho») (a .l .depth) (a .n) (s .pre .1))
 
 returns : tie.Need-returns
 unfolding bandSize
-returns c = rw (c .band-height .ensures, c .before .band-width .ensures, c .before .before .before .level-of .ensures) refl
+returns c = rw (c .subband-height .ensures, c .before .subband-width .ensures, c .before .before .before .level-of .ensures) refl
 
 pub band-size-spec : {M : Type 1} → statement M
 band-size-spec =
     tie.close
-    (tie.spec level-of-requires add-band-width band-width-requires band-height-requires returns)
+    (tie.spec level-of-requires add-subband-width subband-width-requires subband-height-requires returns)

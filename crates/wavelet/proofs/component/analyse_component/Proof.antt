@@ -1,7 +1,7 @@
 -- `component::analyse_component` meets its contract.
 use Prim.Native.Nat.{_*_, _/_}
 use Rattle.wavelet.specs.Pad.{padded}
-use Rattle.wavelet.specs.Walk.{deep-both, deep-across, place-down, quarter-le, half-le, walk-both, walk-across}
+use Rattle.wavelet.specs.Walk.{deep-both, deep-across, place-down, quarter-area, half-area, walk-both, walk-across}
 use Rattle.wavelet.specs.Component.{padded-none}
 use borrow.Author.Needs.{needs}
 use Rattle.wavelet.proofs.component.analyse_component.Statement.{statement}
@@ -19,7 +19,7 @@ dwt-requires c κs =
     let a = st .args in
     let level = c .before .before .before .vh-component in (
       deep-both (a .t .k) (a .t .d) (a .c .ph) (a .c .pw) (a .t .ih) (a .t .iv) (c .before .before .before .before .before .if1 .taken) (st .pre .deep) .1,
-      place-down (a .n) (a .off) (a .c .ph * a .c .pw) (a .c .ph / 2 * (a .c .pw / 2)) (a .work .now) (level .last .0) (st .pre .place) (quarter-le (a .c .ph) (a .c .pw)) (level .kept .0),
+      place-down (a .n) (a .off) (a .c .ph * a .c .pw) (a .c .ph / 2 * (a .c .pw / 2)) (a .work .now) (level .last .0) (st .pre .place) (quarter-area (a .c .ph) (a .c .pw)) (level .kept .0),
     )
 
 h-component-requires : tie.Need-h-component-requires
@@ -35,7 +35,7 @@ dwt-requires-2 c κs =
     let level = c .before .before .before .h-component in
     let flat = c .before .before .before .before .before .before .before .if1 .left in (
       deep-across (a .t .k) (a .t .d) (a .c .ph) (a .c .pw) (a .t .ih) (a .t .iv) flat (c .before .before .before .before .before .if2 .taken) (st .pre .deep) .1,
-      place-down (a .n) (a .off) (a .c .ph * a .c .pw) (a .c .ph * (a .c .pw / 2)) (a .work .now) (level .last .0) (st .pre .place) (half-le (a .c .ph) (a .c .pw)) (level .kept .0),
+      place-down (a .n) (a .off) (a .c .ph * a .c .pw) (a .c .ph * (a .c .pw / 2)) (a .work .now) (level .last .0) (st .pre .place) (half-area (a .c .ph) (a .c .pw)) (level .kept .0),
     )
 
 add-to : tie.Need-add-to

@@ -7,7 +7,7 @@ use Rattle.laws.specs.Window.{piece}
 use Rattle.laws.specs.Plane.{asPlane}
 use borrow.Fn.Kinds.{In}
 use borrow.Fn.PlainCycle.{Measures, is, falls, and}
-use Rattle.wavelet.specs.Walk.{deep-both, deep-across, place-down, quarter-le, half-le, walk-both, walk-across, walk-none}
+use Rattle.wavelet.specs.Walk.{deep-both, deep-across, place-down, quarter-area, half-area, walk-both, walk-across, walk-none}
 use Rattle.wavelet.proofs.plane.dwt.Reads as dwt
 use Rattle.wavelet.proofs.plane.dwt.Kinds as dwt-kinds
 use Rattle.wavelet.proofs.plane.+dwt.Lts-dwt as dwt-lts
@@ -54,7 +54,7 @@ dwt-dwt-requires t c κs =
       omega (arith, st .pre .0, some),
       (
         deep-both (a .k) (a .d) (a .h) (a .w) (a .ih) (a .iv) some (st .pre .1 .0) .1,
-        place-down (a .n) (a .off) (a .h * a .w) (a .h / 2 * (a .w / 2)) (a .work .now) (level .last .0) (st .pre .1 .1) (quarter-le (a .h) (a .w)) (level .kept .0),
+        place-down (a .n) (a .off) (a .h * a .w) (a .h / 2 * (a .w / 2)) (a .work .now) (level .last .0) (st .pre .1 .1) (quarter-area (a .h) (a .w)) (level .kept .0),
       ),
     )
 
@@ -78,7 +78,7 @@ dwt-dwt-requires-2 t c κs =
       omega (arith, st .pre .0, some),
       (
         deep-across (a .k) (a .d) (a .h) (a .w) (a .ih) (a .iv) flat some (st .pre .1 .0) .1,
-        place-down (a .n) (a .off) (a .h * a .w) (a .h * (a .w / 2)) (a .work .now) (level .last .0) (st .pre .1 .1) (half-le (a .h) (a .w)) (level .kept .0),
+        place-down (a .n) (a .off) (a .h * a .w) (a .h * (a .w / 2)) (a .work .now) (level .last .0) (st .pre .1 .1) (half-area (a .h) (a .w)) (level .kept .0),
       ),
     )
 

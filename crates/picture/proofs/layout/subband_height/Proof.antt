@@ -1,9 +1,9 @@
--- `layout::band_height` meets its contract.
+-- `layout::subband_height` meets its contract.
 use mathlib.Core.Path.{refl}
 use borrow.Author.Tests.{le-leb, lt-leb}
 use borrow.Author.Needs.{needs}
-use Rattle.picture.proofs.layout.band_height.Statement.{statement}
-use Rattle.picture.proofs.layout.band_height.Tie as tie
+use Rattle.picture.proofs.layout.subband_height.Statement.{statement}
+use Rattle.picture.proofs.layout.subband_height.Tie as tie
 
 shr-result : tie.Need-shr-result
 shr-result c = search needs
@@ -26,7 +26,7 @@ returns c = let a = c .before .args in rw (le-leb (a .level) (a .depth-ho) (c .i
 returns-2 : tie.Need-returns-2
 returns-2 c = let a = c .before .args in rw (lt-leb (a .level) (a .depth-ho) (c .if1 .left)) refl
 
-pub band-height-spec : {M : Type 1} → statement M
-band-height-spec =
+pub subband-height-spec : {M : Type 1} → statement M
+subband-height-spec =
     tie.close
     (tie.spec shr-result add-result sub-result add-result-2 shr-result-2 returns returns-2)
