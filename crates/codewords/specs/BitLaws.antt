@@ -41,7 +41,7 @@ pub lit-none : (v : ℕ) → lit 0 v ≡ []
 unfolding lit
 lit-none v = refl
 
-half-power : (v k : ℕ) → v / 2 ^ suc k ≡ v / 2 / 2 ^ k
+pub half-power : (v k : ℕ) → v / 2 ^ suc k ≡ v / 2 / 2 ^ k
 half-power v k = ap (λ (n : ℕ). v / n) (pow-succ' 2 k) ∙ sym (div-div-eq-div-mul v 2 (2 ^ k))
 
 -- k + 1 bits by the k higher ones and the lowest

@@ -2,16 +2,15 @@
 use mathlib.Core.Path.{_≡_, refl, sym, ap, ap₂, _∙_}
 use mathlib.Core.Bool.{Bool, true, false}
 use mathlib.Core.List.{[], _∷_, _++_, append-assoc}
-use Prim.Native.Nat.{ℕ, zero, suc, _+_, _-_, _*_, _/_, _%_, _^_, _≤_, _<_}
-use native.Mathlib.Nat.{mod-lt, zero-add, zero-lt-suc, pow-suc}
+use Prim.Native.Nat.{ℕ, zero, suc, _+_, _*_, _/_, _%_, _^_, _≤_, _<_}
+use native.Mathlib.Nat.{mod-lt, zero-lt-suc, pow-suc}
 use native.Mathlib.Numerals.{add-one}
 use native.Mathlib.Omega.{arith}
-use lib.ListN.{getD}
 use lib.Dec.{eqb}
 use lib.Pow.{field, mod-mod-pow}
 use lib.Bits.{bitAnd, bitOr}
 use mir.Val.{boolByte}
-use Rattle.laws.specs.Rows.{span, getD-span}
+use Rattle.laws.specs.Rows.{table}
 use Rattle.codewords.specs.Bit.{Bits, val, lit}
 use Rattle.codewords.specs.BitLaws.{val-bit, byte-val, lit-none, lit-low, lit-more}
 use Rattle.codewords.specs.Code.{log2, interleaved, codeU, codeM}
@@ -38,13 +37,10 @@ steps a =
     let y = bitAnd (bitOr x (x * 2 ^ 2 % 2 ^ 64)) 0x3333 in
     bitAnd (bitOr y (y * 2 ^ 1 % 2 ^ 64)) 0x5555
 
-table : (f : ℕ → ℕ) (a : ℕ) → a < 256 → getD (span f 0 256) a 0 ≡ f a
-table f a h = getD-span f 0 256 a 0 h ∙ ap f (zero-add a)
-
 -- the checker computes both sides at the 256 numbers
 pub spread-steps : (a : ℕ) → a < 256 → steps a ≡ spreadBits 8 a
 unfolding spreadBits
-spread-steps a h = sym (table steps a h) ∙ table (spreadBits 8) a h
+spread-steps a h = sym (table steps 256 a 0 h) ∙ table (spreadBits 8) 256 a 0 h
 
 -- the n low bits of x, each behind a 0
 pub interleaved-spread : (n k x : ℕ) → n ≤ k → interleaved (lit n x) ≡ lit (2 * n) (spreadBits k x)

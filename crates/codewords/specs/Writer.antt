@@ -1,12 +1,12 @@
 -- What a bit writer has written: whole bytes laid over the output, and the bits that are pending.
 use mathlib.Core.Path.{_≡_}
 use mathlib.Core.List.{List, [], _++_}
-use Prim.Native.Nat.{ℕ, _+_, _-_, _*_, _%_, _^_, _≤_, _<_}
+use Prim.Native.Nat.{ℕ, _+_, _-_, _*_, _^_, _≤_, _<_}
 use lib.ListN.{length, take, drop}
 use Rattle.laws.specs.Laid.{laid}
 use Rattle.codewords.specs.declared.writer.BitWriter.{BitWriter}
 use Rattle.codewords.specs.Bit.{Bits, lit, zeroBits}
-use Rattle.codewords.specs.Bytes.{toBytes}
+use Rattle.codewords.specs.Bytes.{toBytes, padding}
 
 -- the bits pending
 abbrev pub pendingOf : BitWriter → Bits
@@ -37,11 +37,7 @@ pub record Flushes (o : List ℕ) (w : BitWriter) (o′ : List ℕ) (w′ : BitW
   pub wrote : Wrote o w [] o′ w′
   pub part : w′ .«pending_bits» < 8
 
--- the bits up to the end of the byte
-abbrev pub padding : BitWriter → ℕ
-padding w = (8 - w .«pending_bits» % 8) % 8
-
 -- zeros were written up to the end of the byte, and no bit is pending
 pub record Aligns (o : List ℕ) (w : BitWriter) (o′ : List ℕ) (w′ : BitWriter) : Type 0 where
-  pub wrote : Wrote o w (zeroBits (padding w)) o′ w′
+  pub wrote : Wrote o w (zeroBits (padding (w .«pending_bits»))) o′ w′
   pub whole : w′ .«pending_bits» ≡ 0

@@ -17,6 +17,13 @@ use Rattle.codewords.specs.Bytes.{toBytes}
 use Rattle.codewords.specs.ByteLaws.{Full, pack-none, pack-part, length-toBytes, toBytes-append}
 use Rattle.codewords.specs.Writer.{pendingOf, Sound, Room, Wrote, Flushes}
 
+-- ---- a writer at the start of a byte, with no bit pending
+abbrev pub startAt : ℕ → BitWriter
+startAt i = record { at = i; pending = 0; «pending_bits» = 0 }
+
+pub start-sound : (i : ℕ) → Sound (startAt i)
+start-sound i = record { part = omega arith; small = omega arith }
+
 -- ---- a write by the bits s that it laid
 record Laid (o : List ℕ) (w : BitWriter) (bs : Bits) (o′ : List ℕ) (w′ : BitWriter) (s : Bits) : Type 0 where
   next : w′ .at * 8 ≡ w .at * 8 + length s

@@ -6,7 +6,8 @@ ghost use Prim.Native.Nat.{_≤_, _^_};
 ghost use lib.ListN.{length};
 ghost use Rattle.codewords.specs.Bit.{lit, oneBits};
 ghost use Rattle.codewords.specs.Code.{codeU, codeM, codeS};
-ghost use Rattle.codewords.specs.Writer.{Room, Wrote, Flushes, Aligns, padding};
+ghost use Rattle.codewords.specs.Bytes.{padding};
+ghost use Rattle.codewords.specs.Writer.{Room, Wrote, Flushes, Aligns};
 
 // Puts one bit.
 pub fn put_bit(out: &mut [u8], w: BitWriter, bit: bool) -> BitWriter
@@ -70,7 +71,7 @@ pub fn flush(out: &mut [u8], w: BitWriter) -> BitWriter
 
 // Puts zeros up to the end of the byte; no bit is pending then.
 pub fn byte_align(out: &mut [u8], w: BitWriter) -> BitWriter
-    requires { ⌜ Room (now out) w (padding w) ⌝ }
+    requires { ⌜ Room (now out) w (padding (w .«pending_bits»)) ⌝ }
     ensures { λ r. ⌜ Aligns (now (out .entry)) w (now (out .exit)) r ⌝ }
 {
     let mut s = w;

@@ -6,7 +6,8 @@ ghost use Prim.Native.Nat.{_≤_, _^_};
 ghost use lib.ListN.{length};
 ghost use Rattle.codewords.specs.Bit.{lit, oneBits};
 ghost use Rattle.codewords.specs.Code.{codeU, codeM, codeS};
-ghost use Rattle.codewords.specs.Writer.{Room, Wrote, Flushes, Aligns, padding};
+ghost use Rattle.codewords.specs.Bytes.{padding};
+ghost use Rattle.codewords.specs.Writer.{Room, Wrote, Flushes, Aligns};
 
 // Puts one bit.
 pub(crate) fn put_bit(out: &mut [u8], w: &mut BitWriter, bit: bool)
@@ -58,7 +59,7 @@ pub(crate) fn flush(out: &mut [u8], w: &mut BitWriter)
 
 // Puts zeros up to the end of the byte; no bit is pending then.
 pub(crate) fn byte_align(out: &mut [u8], w: &mut BitWriter)
-    requires { ⌜ Room (now out) (now w) (padding (now w)) ⌝ }
+    requires { ⌜ Room (now out) (now w) (padding (now w .«pending_bits»)) ⌝ }
     ensures { λ _. ⌜ Aligns (now (out .entry)) (now (w .entry)) (now (out .exit)) (now (w .exit)) ⌝ }
 {
     *w = crate::writer::byte_align(out, *w);

@@ -7,10 +7,10 @@ ghost use mathlib.Core.List.{[], _∷_, _++_};
 ghost use lib.ListN.{length};
 ghost use Rattle.laws.specs.Laid.{laid};
 ghost use Rattle.codewords.specs.Bit.{lit, oneBits};
-ghost use Rattle.codewords.specs.Bytes.{toBytes};
+ghost use Rattle.codewords.specs.Bytes.{toBytes, padding};
 ghost use Rattle.codewords.specs.Code.{interleaved, codeU, codeM, codeS};
 ghost use Rattle.codewords.specs.Spread.{spreadBits};
-ghost use Rattle.codewords.specs.Writer.{Room, Wrote, Flushes, Aligns, padding};
+ghost use Rattle.codewords.specs.Writer.{Room, Wrote, Flushes, Aligns};
 
 // The place where the bits pending go, these bits, and how many they are: fewer than 32.
 pub struct BitWriter {
@@ -182,7 +182,7 @@ pub(crate) fn put_sint(out: &mut [u8], w: BitWriter, v: i64) -> BitWriter
 
 // Puts zeros up to the end of the byte; no bit is pending then.
 pub(crate) fn byte_align(out: &mut [u8], w: BitWriter) -> BitWriter
-    requires { ⌜ Room (now out) w (padding w) ⌝ }
+    requires { ⌜ Room (now out) w (padding (w .«pending_bits»)) ⌝ }
     ensures { λ r. ⌜ Aligns (now (out .entry)) w (now (out .exit)) r ⌝ }
 {
     let s = put_short(out, w, 0, (8 - w.pending_bits % 8) % 8);

@@ -1,6 +1,6 @@
 -- What the entry points leave behind their references.
 use mathlib.Core.Path.{_≡_}
-use mathlib.Core.Bool.{true, false, cond}
+use mathlib.Core.Bool.{Bool, true, false, cond}
 use mathlib.Core.List.{List}
 use Prim.Native.Nat.{ℕ}
 use lib.Dec.{ltb}
@@ -36,14 +36,16 @@ pub record Left : Type 0 where
   pub work : List ℤ
   pub values : Values
 
--- what a picture call leaves: 100 where the words are no settings, and nothing changes
-unfoldable pub leftOf : List ℕ → List ℕ → Three (List ℕ) → List ℕ → List ℤ → Values → Left
-leftOf ws m p out work v =
-    let o = outcomeOf (settingsOf ws) m p out work in
-    elim (known ws) [
-      | true ↦ record { number = numberOf (o .answer); output = o .output; work = o .work; values = valuesOf (o .answer) v }
-      | false ↦ record { number = 100; output = out; work = work; values = v }
-    ]
+module _ (ws m : List ℕ) (p : Three (List ℕ)) (out : List ℕ) (work : List ℤ) (v : Values) where
+  -- what a picture call leaves, by whether the words are settings: 100 where they are none, and nothing changes
+  abbrev pub leftIf : Bool → Left
+  leftIf true =
+      let o = outcomeOf (settingsOf ws) m p out work in
+      record { number = numberOf (o .answer); output = o .output; work = o .work; values = valuesOf (o .answer) v }
+  leftIf false = record { number = 100; output = out; work = work; values = v }
+
+  unfoldable pub leftOf : Left
+  leftOf = leftIf (known ws)
 
 -- the picture call: words, matrix, planes, lent slices and values as they came and as they are left
 pub record Picture (ws m : List ℕ) (p : Three (List ℕ)) (out : List ℕ) (work : List ℤ) (v : Values) (after : Left) : Type 0 where

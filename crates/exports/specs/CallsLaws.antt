@@ -30,7 +30,7 @@ use Rattle.unit.specs.Outcome.{Outcome, numberOf, tooLong, codedIf, outcomeIf, 
 use Rattle.unit.specs.DemandLaws.{isAccepted}
 use Rattle.unit.specs.Demand.{Demand3}
 use Rattle.picture.specs.Encoded.{Encodes}
-use Rattle.exports.specs.Calls.{Gives, Values, valuesOf, Left, leftOf, Picture}
+use Rattle.exports.specs.Calls.{Gives, Values, valuesOf, Left, leftIf, leftOf, Picture}
 
 -- ---- the four quantiser calls, by the answer a of the call inside
 -- what is behind the reference after an answer
@@ -92,18 +92,9 @@ left-same : (n k : ℕ) (o u : List ℕ) (w x : List ℤ) (a b : Values) → n �
 left-same n k o u w x a b e f g h = rw (e, f, g, h)
 
 module _ (ws m : List ℕ) (p : Three (List ℕ)) (out : List ℕ) (work : List ℤ) (v : Values) where
-  -- what is left, by whether the words are settings
-  abbrev leftIf : Bool → Left
-  leftIf b =
-      let o = outcomeOf (settingsOf ws) m p out work in
-      elim b [
-        | true ↦ record { number = numberOf (o .answer); output = o .output; work = o .work; values = valuesOf (o .answer) v }
-        | false ↦ record { number = 100; output = out; work = work; values = v }
-      ]
-
-  left-if : (b : Bool) → known ws ≡ b → leftOf ws m p out work v ≡ leftIf b
+  left-if : (b : Bool) → known ws ≡ b → leftOf ws m p out work v ≡ leftIf ws m p out work v b
   unfolding leftOf
-  left-if b e = ap leftIf e
+  left-if b e = ap (leftIf ws m p out work v) e
 
   -- words that are no settings
   pub picture-unknown : known ws ≡ false → Picture ws m p out work v (record { number = 100; output = out; work = work; values = v })

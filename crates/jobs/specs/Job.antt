@@ -117,11 +117,16 @@ unitIn (Refused n) out = []
 unfoldable pub textOf : Outcome → List ℕ
 textOf o = lineOf (tells (o .answer)) ++ bytesFrom 0 (unitIn (o .answer) (o .output))
 
--- what a job prints, where output and work slice are lent as out and work
+-- `job` and a line feed
+abbrev pub jobText : List ℕ
+jobText = 106 ∷ 111 ∷ 98 ∷ 10 ∷ []
+
+-- the outcome of the call of a job's words, where output and work slice are lent as out and work
+abbrev pub outcomeIn : List ℕ → List ℕ → List ℤ → Outcome
+outcomeIn ws out work =
+    let p = partsOf ws in
+    outcomeOf (settingsOf (p .settings)) (p .matrix) (record { y = p .y; c1 = p .c1; c2 = p .c2 }) out work
+
+-- what a job prints
 unfoldable pub printed : List ℕ → List ℕ → List ℤ → List ℕ
-printed bytes out work =
-    let p = partsOf (wordsOf bytes) in
-    elim (wellFormed bytes) [
-      | true ↦ textOf (outcomeOf (settingsOf (p .settings)) (p .matrix) (record { y = p .y; c1 = p .c1; c2 = p .c2 }) out work)
-      | false ↦ 106 ∷ 111 ∷ 98 ∷ 10 ∷ []
-    ]
+printed bytes out work = elim (wellFormed bytes) [ true ↦ textOf (outcomeIn (wordsOf bytes) out work) | false ↦ jobText ]

@@ -22,8 +22,8 @@ use Rattle.unit.specs.Outcome.{tells, lengthIn, codedOf, tooLong, codedIf, code
 use Rattle.picture.specs.Sides.{planes}
 use Rattle.picture.specs.Encoded.{Encodes}
 use Rattle.jobs.specs.declared.parse.Ends.{Ends}
-use Rattle.jobs.specs.Job.{wordsOf, contentOf, partsOf, inOrder, lineOf, bytesFrom, unitIn, textOf, printed}
-use Rattle.jobs.specs.Steps.{endsOf, outcomeIn, Called, jobText, printedBy}
+use Rattle.jobs.specs.Job.{wordsOf, contentOf, partsOf, inOrder, lineOf, bytesFrom, unitIn, textOf, jobText, outcomeIn, printed}
+use Rattle.jobs.specs.Steps.{endsOf, Called, printedBy}
 use Rattle.jobs.specs.PrintLaws.{lays-same, lays-read}
 use Rattle.jobs.specs.ParseLaws.{part, part-long, part-join, length-part, contents-count, parted, ready}
 

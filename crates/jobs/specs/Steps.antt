@@ -7,10 +7,8 @@ use lib.Dec.{eqb, leb}
 use lib.IntN.{ℤ}
 use lib.ListN.{length, drop, getD}
 use Rattle.unit.specs.declared.Answer.{Answer}
-use Rattle.unit.specs.Words.{settingsOf}
-use Rattle.unit.specs.Outcome.{Outcome, outcomeOf}
 use Rattle.jobs.specs.declared.parse.Ends.{Ends}
-use Rattle.jobs.specs.Job.{ofKind, partsOf, inOrder, hexDigit, textOf}
+use Rattle.jobs.specs.Job.{ofKind, inOrder, hexDigit, outcomeIn, textOf, jobText}
 
 -- ---- words
 -- the word whose bytes stand from i on
@@ -40,21 +38,11 @@ abbrev pub chunk : ℕ → Bool → List ℕ
 chunk b last = hexDigit (b / 16) ∷ hexDigit (b % 16) ∷ cond last 10 32 ∷ []
 
 -- ---- the job
--- the outcome of the call of a job's words
-abbrev pub outcomeIn : List ℕ → List ℕ → List ℤ → Outcome
-outcomeIn ws out work =
-    let p = partsOf ws in
-    outcomeOf (settingsOf (p .settings)) (p .matrix) (record { y = p .y; c1 = p .c1; c2 = p .c2 }) out work
-
 -- what the call of a job leaves
 pub record Called (ws out : List ℕ) (work : List ℤ) (out′ : List ℕ) (work′ : List ℤ) (r : Answer) : Type 0 where
   pub answer : r ≡ outcomeIn ws out work .answer
   pub output : out′ ≡ outcomeIn ws out work .output
   pub work-left : work′ ≡ outcomeIn ws out work .work
-
--- `job` and a line feed
-abbrev pub jobText : List ℕ
-jobText = 106 ∷ 111 ∷ 98 ∷ 10 ∷ []
 
 -- what is printed of whole words
 unfoldable pub printedBy : List ℕ → List ℕ → List ℤ → List ℕ

@@ -9,8 +9,8 @@ ghost use lib.ListN.{length};
 ghost use Rattle.laws.specs.Laid.{Lays};
 ghost use Rattle.unit.specs.Outcome.{tells, lengthIn};
 ghost use Rattle.unit.specs.declared.Answer.the-variants.{Accepted};
-ghost use Rattle.jobs.specs.Job.{decimal, lineOf, hexDigit, bytesFrom, unitIn};
-ghost use Rattle.jobs.specs.Steps.{chunk, jobText};
+ghost use Rattle.jobs.specs.Job.{decimal, lineOf, hexDigit, bytesFrom, unitIn, jobText};
+ghost use Rattle.jobs.specs.Steps.{chunk};
 
 fn put(text: &mut [u8], at: usize, c: u8) -> usize
     requires { ⌜ at < length (now text) ⌝ }

@@ -1,9 +1,9 @@
 -- What the machine's signed operations ask at 64 bits, and what its quotient and remainder are, by up and dn.
 use mathlib.Core.Path.{_≡_, refl, sym, _∙_}
 use mathlib.Core.Bool.{true, false}
-use Prim.Native.Nat.{ℕ, suc, _+_, _-_, _/_, _%_, _^_, _≤_, _<_}
+use Prim.Native.Nat.{ℕ, suc, _+_, _*_, _-_, _/_, _%_, _^_, _≤_, _<_}
 use native.Mathlib.Omega.{arith}
-use native.Mathlib.Nat.{zero-div, zero-mod}
+use native.Mathlib.Nat.{zero-div, zero-mod, mul-le-mul-right}
 use lib.IntN.{ℤ, pos, negsuc, natAbs, _-ℤ_}
 use lib.Signed.{shrZ, quotZ, remZ, ltZ, nonNeg}
 use lib.Dec.{T}
@@ -13,6 +13,10 @@ use Rattle.laws.specs.Integer.{up, dn, parts, neg-law, ext, var, _⊟_, 
 
 pub fit : (z : ℤ) → natAbs z < 2 ^ 63 → SFits w64 z
 fit z h = record { sfits = omega (arith, parts z) }
+
+-- the product of a number of at most 2^32 and one below 2^32 fits in 64 bits
+pub product-fits : (a b : ℕ) → a ≤ 2 ^ 32 → b < 2 ^ 32 → a * b < 2 ^ 64
+product-fits a b h g = omega (arith, mul-le-mul-right b h)
 
 pub unfit : (z : ℤ) → SFits w64 z → natAbs z ≤ 2 ^ 63
 unfit z h = omega (arith, parts z)

@@ -1,5 +1,4 @@
--- A plane as a function of y and x; the same as a list, row by row; a plane kept as a list between two passes, so that
--- each value is computed once.
+-- A plane as a function of y and x; the same as a list, row by row.
 use mathlib.Core.Path.{_≡_, sym, ap, ap₂, _∙_}
 use Prim.Native.Nat.{ℕ, zero, suc, _+_, _*_, _/_, _%_, _<_}
 use native.Mathlib.Nat.{zero-add, div-add-mod', div-lt-iff-lt-mul, mod-lt, mul-comm}
@@ -62,6 +61,3 @@ asList-back h w l e =
     (λ k b.
     getD-span (λ k. asPlane w l (k / w) (k % w)) 0 (h * w) k (pos 0) (rw (length-asList h w (asPlane w l)) at b)
     ∙ rw (zero-add k) (ap (at l) (div-add-mod' k w)))
-
-unfoldable pub kept : ℕ → ℕ → Plane → Plane
-kept h w f = let l = asList h w f in asPlane w l

@@ -32,6 +32,10 @@ module _ {A : Type 0} where
   getD-span f i (suc n) zero d h = ap f (omega arith)
   getD-span f i (suc n) (suc k) d h = getD-span f (suc i) n k d (le-of-suc-le-suc h) ∙ ap f (omega arith)
 
+  -- a table's rule: a list that the checker computes to a function's first values has its value at each place
+  pub table : (f : ℕ → A) (n i : ℕ) (d : A) → i < n → getD (span f 0 n) i d ≡ f i
+  table f n i d h = getD-span f 0 n i d h ∙ ap f (zero-add i)
+
   pub span-ext : (f g : ℕ → A) (i n : ℕ) → ((k : ℕ) → i ≤ k → k < i + n → f k ≡ g k) → span f i n ≡ span g i n
   span-ext f g i zero e = refl
   span-ext f g i (suc n) e = ap₂ _∷_ (e i (omega arith) (omega arith)) (span-ext f g (suc i) n (λ k a b. e k (omega arith) (omega arith)))

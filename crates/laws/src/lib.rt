@@ -1,1 +1,1 @@
-// Laws that the proofs of more than one layer cite stand in specs/. There is no code here.
+// Definitions and laws that more than one layer uses stand in specs/. There is no code here.

@@ -3,7 +3,7 @@ use mathlib.Core.Path.{_≡_, refl, sym, ap, ap₂, _∙_, fun-ext}
 use mathlib.Core.Bool.{cond}
 use mathlib.Core.List.{List}
 use Prim.Native.Nat.{ℕ, _+_, _*_, _-_, _/_, _%_, _≤_, _<_}
-use native.Mathlib.Nat.{div-add-mod', div-lt-iff-lt-mul, mod-lt, mul-comm}
+use native.Mathlib.Nat.{div-add-mod', div-lt-iff-lt-mul, mod-lt}
 use native.Mathlib.Omega.{arith}
 use native.Mathlib.Decide.{decLe, decLt}
 use lib.Arith.{digits-lt}
@@ -18,8 +18,8 @@ use Rattle.picture.specs.declared.layout.Component.{Component}
 use Rattle.picture.specs.declared.layout.Picture.{Picture}
 use Rattle.picture.specs.Run.{planeFrom, valueIn, rebuiltStrip, Inside, Small}
 use Rattle.picture.specs.RunLaws.{rebuilt-rows-length}
-use Rattle.picture.specs.Layout.{bandSize, stripOf, RunIn}
-use Rattle.picture.specs.LayoutLaws.{band-fits}
+use Rattle.picture.specs.Layout.{stripOf, RunIn}
+use Rattle.picture.specs.LayoutLaws.{first-fits}
 use Rattle.picture.specs.StripLaws.{Apart, same-row, same-column, number-lt, rebuilt-here, rebuilt-other}
 use Rattle.picture.specs.NumberLaws.{apart-run}
 use Rattle.picture.specs.Picture.{slicesIn, Arranged, SliceIn}
@@ -191,19 +191,13 @@ apart-index p c k q r w a = record { rows = a .rows; columns = a .columns; wide 
 apart-strip : (p : Picture) (c : Component) (k q : ℕ) (w : List ℤ) → RunIn (p .layout) c c (p .front) (p .end) k 0 w → Apart w (strip0 p c k q)
 apart-strip p c k q w r = apart-index p c k 0 q w (apart-run (p .layout) c c (p .front) (p .end) k 0 w r)
 
--- level 0 lies within a component's area
-first-fits : (p : Picture) (c : Component) → let z = bandSize (p .layout) c 0 in z .height * z .width ≤ c .width * c .height
-first-fits p c =
-    let z = bandSize (p .layout) c 0 in
-    omega (arith, band-fits (p .layout) c 0 (omega arith), mul-comm (z .width) (z .height))
-
 in-order : (p : Picture) (k q : ℕ) → Arranged p → InOrder (strip0 p (p .y) k q) (strip0 p (p .c1) k q) (strip0 p (p .c2) k q)
 unfolding stripOf
 in-order p k q a = record {
-  first = omega (arith, first-fits p (p .y), a .behind-y);
-  second = omega (arith, first-fits p (p .c1), a .behind-c1);
-  behind-s = omega (arith, first-fits p (p .c2), a .c2 .rebuilt, a .y .coefs .0);
-  behind-t = omega (arith, first-fits p (p .c2), a .c2 .rebuilt, a .c1 .coefs .0);
+  first = omega (arith, first-fits (p .layout) (p .y), a .behind-y);
+  second = omega (arith, first-fits (p .layout) (p .c1), a .behind-c1);
+  behind-s = omega (arith, first-fits (p .layout) (p .c2), a .c2 .rebuilt, a .y .coefs .0);
+  behind-t = omega (arith, first-fits (p .layout) (p .c2), a .c2 .rebuilt, a .c1 .coefs .0);
 }
 
 pub length-rebuilt : (w : List ℤ) (p : Picture) (k q : ℕ) → length (rebuiltIn w p k q) ≡ length w
@@ -236,7 +230,7 @@ rebuilt-behind {p} {w} {k} h q i f =
     (out (p .y) (h .arranged .y .rebuilt) ay) (out (p .c1) (h .arranged .c1 .rebuilt) a1) (out (p .c2) (h .arranged .c2 .rebuilt) a2)
   where
     out : (c : Component) → c .rebuilt + c .width * c .height ≤ p .front → Apart w (strip0 p c k q) → Outside (strip0 p c k q) i
-    out c r a = outside-plane w (strip0 p c k q) a i (λ g. omega (arith, first-fits p c, r, f))
+    out c r a = outside-plane w (strip0 p c k q) a i (λ g. omega (arith, first-fits (p .layout) c, r, f))
 
 -- ---- candidates
 module _ (p : Picture) (k : ℕ) where

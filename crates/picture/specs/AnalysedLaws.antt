@@ -2,8 +2,8 @@
 -- unit is put together.
 use mathlib.Core.Path.{_≡_, refl, sym, ap, ap₂, _∙_, subst}
 use mathlib.Core.Bool.{Bool, true, false}
-use mathlib.Core.List.{List, [], _∷_, _++_, append-assoc, append-nil}
-use mathlib.Core.Option.{Option, none, some}
+use mathlib.Core.List.{List, [], _∷_, _++_, append-assoc, append-nil, flatten}
+use mathlib.Core.Option.{Option, none, some, Option·getD}
 use Prim.Native.Nat.{ℕ, zero, suc, _+_, _*_, _-_, _^_, _≤_, _<_}
 use native.Mathlib.Nat.{mul-comm}
 use native.Mathlib.Omega.{arith}
@@ -11,7 +11,6 @@ use lib.Dec.{ltb}
 use lib.IntN.{ℤ}
 use lib.ListN.{length, drop, take, getD, replicate, length-append, length-replicate, length-drop, List·getD-append}
 use lib.Seq.{take-at, drop-at, drop-drop}
-use Rattle.laws.specs.Ceiling.{roundedUp}
 use Rattle.laws.specs.Rows.{span, span-suc}
 use Rattle.laws.specs.Chunks.{chunks}
 use Rattle.laws.specs.Laid.{Lays, laid-is}
@@ -26,13 +25,13 @@ use Rattle.unit.specs.Three.{Three}
 use Rattle.unit.specs.Sizes.{Size, lumaSize, colourSize, depthsOf, offsetOf}
 use Rattle.unit.specs.Slices.{sliceCount}
 use Rattle.unit.specs.Subbands.{paddedSize, subbandCount}
-use Rattle.unit.specs.Matrix.{defaultOf, orNone, matrixValues}
+use Rattle.unit.specs.Matrix.{defaultOf, matrixValues}
 use Rattle.unit.specs.MatrixLaws.{MatrixIf, default-matrix}
-use Rattle.unit.specs.PaddedLaws.{rounded-mono}
+use Rattle.unit.specs.PaddedLaws.{rounded-few}
 use Rattle.unit.specs.Parameters.{parameterBytes}
 use Rattle.unit.specs.Coefficients.{bandsOf, coefficientsOf}
 use Rattle.unit.specs.Plan.{SlicePlan, Plan}
-use Rattle.unit.specs.Unit.{majorVersion, gridOf, sliceRuns, joined, headBits, lengthOf, unitOf}
+use Rattle.unit.specs.Unit.{majorVersion, gridOf, sliceRuns, headBits, lengthOf, unitOf}
 use Rattle.unit.specs.UnitLaws.{length-unit}
 use Rattle.unit.specs.Outcome.{codedOf, tooLong}
 use Rattle.unit.specs.Valid.{MatrixFits, Valid}
@@ -78,19 +77,6 @@ module _ {s : Settings} {m : List ℕ} {p : Three (List ℕ)} {w : List ℤ} (v 
   }
 
 -- ---- padded sides
--- 65536 is a multiple of the powers that sides are padded to
-even : (j : ℕ) → j ≤ 5 → roundedUp (2 ^ j) 65536 ≡ 65536
-even zero h = refl
-even (suc zero) h = refl
-even (suc (suc zero)) h = refl
-even (suc (suc (suc zero))) h = refl
-even (suc (suc (suc (suc zero)))) h = refl
-even (suc (suc (suc (suc (suc zero))))) h = refl
-even (suc (suc (suc (suc (suc (suc j)))))) h = absurd (omega arith)
-
-rounded-few : (j n : ℕ) → j ≤ 5 → n ≤ 65535 → roundedUp (2 ^ j) n ≤ 65536
-rounded-few j n h l = rw (even j h) at (rounded-mono (2 ^ j) {a = n} {b = 65536} (omega arith))
-
 module _ (k d : ℕ) (z : Size) (h : d + k ≤ 5) where
   wide-few : z .width ≤ 65535 → paddedSize k d z .width ≤ 65536
   unfolding paddedSize
@@ -102,7 +88,7 @@ module _ (k d : ℕ) (z : Size) (h : d + k ≤ 5) where
 
 -- ---- the matrix
 values-by : (s : Settings) (m : List ℕ) (n : ℕ) (c : Bool) (d : Option (List ℕ)) → n ≡ subbandCount (s .«dwt_depth_ho») (s .«dwt_depth») → MatrixFits s m c d → MatrixIf n d
-    → length {A = ℕ} (elim c [ true ↦ m | false ↦ orNone d ]) ≡ n
+    → length {A = ℕ} (elim c [ true ↦ m | false ↦ Option·getD d [] ]) ≡ n
 values-by s m n true d e h g = h .0 ∙ sym e
 values-by s m n false none e h g = absurd h
 values-by s m n false (some vs) e h g = g .many
@@ -270,19 +256,19 @@ module _ (s : Settings) (m : List ℕ) where
     holds-c2 = a .c2
 
 -- ---- the slices' bytes
-pub joined-snoc : (ss : List SlicePlan) (a : SlicePlan) → joined (sliceRuns (ss ++ (a ∷ []))) ≡ joined (sliceRuns ss) ++ toBytes (a .bits)
-unfolding joined
+pub joined-snoc : (ss : List SlicePlan) (a : SlicePlan) → flatten (sliceRuns (ss ++ (a ∷ []))) ≡ flatten (sliceRuns ss) ++ toBytes (a .bits)
+unfolding flatten
 joined-snoc [] a = append-nil (toBytes (a .bits))
 joined-snoc (b ∷ ss) a =
     ap (λ (r : List ℕ). toBytes (b .bits) ++ r) (joined-snoc ss a)
-    ∙ sym (append-assoc (toBytes (b .bits)) (joined (sliceRuns ss)) (toBytes (a .bits)))
+    ∙ sym (append-assoc (toBytes (b .bits)) (flatten (sliceRuns ss)) (toBytes (a .bits)))
 
-pub joined-span : (f : ℕ → SlicePlan) (n : ℕ) → joined (sliceRuns (span f 0 n)) ≡ chunks (λ k. toBytes (f k .bits)) n
-unfolding joined chunks
+pub joined-span : (f : ℕ → SlicePlan) (n : ℕ) → flatten (sliceRuns (span f 0 n)) ≡ chunks (λ k. toBytes (f k .bits)) n
+unfolding flatten chunks
 joined-span f zero = refl
 joined-span f (suc n) =
     let e : 0 + n ≡ n = omega arith in
-    ap (λ (ss : List SlicePlan). joined (sliceRuns ss)) (span-suc f 0 n)
+    ap (λ (ss : List SlicePlan). flatten (sliceRuns ss)) (span-suc f 0 n)
     ∙ joined-snoc (span f 0 n) (f (0 + n))
     ∙ ap₂ _++_ (joined-span f n) (ap (λ (k : ℕ). toBytes (f k .bits)) e)
 
@@ -293,16 +279,16 @@ not-long len n e = let o = or-none (ltb len n) (ltb 4294967295 n) .0 e in (at-mo
 
 module _ (s : Settings) (a : Plan) where
   abbrev runs : List ℕ
-  runs = joined (sliceRuns (a .slices))
+  runs = flatten (sliceRuns (a .slices))
 
   abbrev head : List ℕ
   head = toBytes (headBits s (lengthOf s a) (a .parameters))
 
-  pub unit-parts : unitOf s a ≡ toBytes (headBits s (lengthOf s a) (a .parameters)) ++ joined (sliceRuns (a .slices))
+  pub unit-parts : unitOf s a ≡ toBytes (headBits s (lengthOf s a) (a .parameters)) ++ flatten (sliceRuns (a .slices))
   unfolding unitOf
   unit-parts = refl
 
-  pub length-parts : lengthOf s a ≡ 17 + parameterBytes (majorVersion s) (a .parameters) + length (joined (sliceRuns (a .slices)))
+  pub length-parts : lengthOf s a ≡ 17 + parameterBytes (majorVersion s) (a .parameters) + length (flatten (sliceRuns (a .slices)))
   unfolding lengthOf
   length-parts = refl
 
@@ -326,11 +312,11 @@ module _ (s : Settings) (a : Plan) where
       head-size = ap length headed ∙ omega (arith, length-append head (drop at out), length-drop at out, head-at, slices-end)
 
       -- there is room for the slices behind it
-      pub slices-room : at + length (joined (sliceRuns (a .slices))) ≤ length o
+      pub slices-room : at + length (flatten (sliceRuns (a .slices))) ≤ length o
       slices-room = omega (arith, head-size, slices-end)
 
       -- with them it is the unit; the rest stays
-      pub unit-laid : (r : ℕ) (o′ : List ℕ) → Lays o at (joined (sliceRuns (a .slices))) o′ r → o′ ≡ unitOf s a ++ drop (lengthOf s a) out
+      pub unit-laid : (r : ℕ) (o′ : List ℕ) → Lays o at (flatten (sliceRuns (a .slices))) o′ r → o′ ≡ unitOf s a ++ drop (lengthOf s a) out
       unit-laid r o′ l =
           let t : take at o ≡ head = ap (take at) headed ∙ take-at head (drop at out) at head-at in
           let d : drop at o ≡ drop at out = ap (drop at) headed ∙ drop-at head (drop at out) at head-at in
@@ -348,7 +334,7 @@ module _ (s : Settings) (a : Plan) where
 
     pub codes-written : (n at r : ℕ) (o o′ : List ℕ) (c : Coded) → tooLong (length out) (lengthOf s a) ≡ false → n ≡ lengthOf s a
         → at ≡ 17 + parameterBytes (majorVersion s) (a .parameters) → o ≡ toBytes (headBits s n (a .parameters)) ++ drop at out
-        → Lays o at (joined (sliceRuns (a .slices))) o′ r → c ≡ codedOf s a → Codes s a out o′ (Accepted c)
+        → Lays o at (flatten (sliceRuns (a .slices))) o′ r → c ≡ codedOf s a → Codes s a out o′ (Accepted c)
     codes-written n at r o o′ c e en ea eo l ec = record {
       answer = ap Accepted ec ∙ ap (answerBy s a) (sym e);
       output = unit-laid n at o (not-long (length out) (lengthOf s a) e .0) en ea eo r o′ l ∙ ap (outputBy s a out) (sym e);

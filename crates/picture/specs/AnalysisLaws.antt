@@ -10,7 +10,6 @@ use lib.IntN.{ℤ, pos, natAbs}
 use lib.ListN.{length, getD, take, drop, replicate, length-append, length-replicate, getD-replicate, List·getD-append}
 use lib.Seq.{getD-append-add, length-take-le}
 use lib.Pow.{pow-mono}
-use Rattle.laws.specs.Ceiling.{roundedUp}
 use Rattle.laws.specs.Rows.{at, span, row}
 use Rattle.laws.specs.Wrap.{wrap}
 use Rattle.wavelet.specs.Planes.{Band, coefficients}
@@ -30,7 +29,7 @@ use Rattle.unit.specs.Coefficients.{bandsOf, coefficientsOf}
 use Rattle.unit.specs.Valid.{Between}
 use Rattle.unit.specs.ValidLaws as valid
 use Rattle.unit.specs.Intlog2Laws.{depth-range, offset-is, offset-range}
-use Rattle.unit.specs.PaddedLaws.{padded-is}
+use Rattle.unit.specs.PaddedLaws.{rounded-few, padded-is}
 use Rattle.picture.specs.declared.layout.Component.{Component}
 use Rattle.picture.specs.declared.layout.Layout.{Layout}
 use Rattle.picture.specs.declared.layout.Picture.{Picture}
@@ -189,23 +188,13 @@ taken-of s p w k l c el ec =
 pub front-is : (s : Settings) (l c : below.Component) → Taken s l c → l .pw * l .ph + c .pw * c .ph + c .pw * c .ph ≡ frontOf s
 front-is s l c t = ap₂ (λ (a b : ℕ). a + b + b) (t .luma-area) (t .colour-area)
 
--- a side of at most 65535 is padded to at most 65536
-side-most : (j n : ℕ) → j ≤ 5 → n ≤ 65535 → roundedUp (2 ^ j) n ≤ 65536
-side-most zero n h l = omega arith
-side-most (suc zero) n h l = omega arith
-side-most (suc (suc zero)) n h l = omega arith
-side-most (suc (suc (suc zero))) n h l = omega arith
-side-most (suc (suc (suc (suc zero)))) n h l = omega arith
-side-most (suc (suc (suc (suc (suc zero))))) n h l = omega arith
-side-most (suc (suc (suc (suc (suc (suc j)))))) n h l = absurd (omega arith)
-
 deep-of : (s : Settings) (p : Three (List ℕ)) (w : List ℤ) → Ready s p w → (z : Size) → valid.Sides s z
     → Deep (s .«dwt_depth_ho») (s .«dwt_depth») (paddedIn s z .height) (paddedIn s z .width) (s .«wavelet_index_ho») (s .«wavelet_index»)
 unfolding paddedSize
 deep-of s p w k z h = record {
   sides = padded-is (s .«dwt_depth_ho») (s .«dwt_depth») z;
-  h-le = side-most (s .«dwt_depth») (z .height) (omega (arith, k .depths)) (h .height .few);
-  w-le = side-most (s .«dwt_depth_ho» + s .«dwt_depth») (z .width) (omega (arith, k .depths)) (h .width .few);
+  h-le = rounded-few (s .«dwt_depth») (z .height) (omega (arith, k .depths)) (h .height .few);
+  w-le = rounded-few (s .«dwt_depth_ho» + s .«dwt_depth») (z .width) (omega (arith, k .depths)) (h .width .few);
   ih-le = k .wavelet-ho;
   iv-le = k .wavelet;
 }

@@ -198,17 +198,6 @@ trimmed-prefix (x ∷ xs) = by x (trimmed xs) (trimmed-prefix xs)
     by (pos (suc n)) [] e = refl
     by (negsuc n) [] e = refl
 
-pub trimmed-most : (xs : List ℤ) → length (trimmed xs) ≤ length xs
-unfolding trimmed
-trimmed-most [] = omega arith
-trimmed-most (x ∷ xs) = by x (trimmed xs) (trimmed-most xs)
-  where
-    by : (x : ℤ) (ts : List ℤ) → length ts ≤ length xs → length (trimCons x ts) ≤ length (x ∷ xs)
-    by x (t ∷ ts) h = omega (arith, h)
-    by (pos zero) [] h = omega arith
-    by (pos (suc n)) [] h = omega arith
-    by (negsuc n) [] h = omega arith
-
 fit-take : (k : ℕ) (xs : List ℤ) (n : ℕ) → fitPrefix (take k xs) n ≡ take k (fitPrefix xs n)
 unfolding fitPrefix
 fit-take zero xs n = refl

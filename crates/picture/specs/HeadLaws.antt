@@ -14,10 +14,10 @@ use lib.Seq.{take-suc}
 use Rattle.laws.specs.Laid.{laid-is}
 use Rattle.codewords.specs.Bit.{Bits, lit, zeroBits}
 use Rattle.codewords.specs.BitLaws.{length-lit}
-use Rattle.codewords.specs.Bytes.{toBytes}
+use Rattle.codewords.specs.Bytes.{toBytes, padding}
 use Rattle.codewords.specs.ByteLaws.{length-toBytes}
-use Rattle.codewords.specs.Writer.{Sound, Room, Wrote, padding, Aligns}
-use Rattle.codewords.specs.WriterLaws.{wrote-then, room-after, bytes-laid}
+use Rattle.codewords.specs.Writer.{Room, Wrote, Aligns}
+use Rattle.codewords.specs.WriterLaws.{startAt, start-sound, wrote-then, room-after, bytes-laid}
 use Rattle.codewords.specs.declared.writer.BitWriter.{BitWriter}
 use Rattle.codewords.specs.Code.{codeU}
 use Rattle.codewords.specs.CodeLaws.{length-codeU, leading-log2}
@@ -176,13 +176,10 @@ room-rest a b r p = room-after (length b) r p (omega (arith, length-append a b))
 
 -- ---- the header
 abbrev pub start : BitWriter
-start = record { at = 0; pending = 0; «pending_bits» = 0 }
-
-pub start-sound : Sound start
-start-sound = record { part = omega arith; small = omega arith }
+start = startAt 0
 
 pub start-room : (o : List ℕ) (k : ℕ) → k ≤ 8 * length o → Room o start k
-start-room o k h = record { sound = start-sound; room = omega arith }
+start-room o k h = record { sound = start-sound 0; room = omega arith }
 
 pub info-length : (k : PictureKind) (n prev : ℕ) → length (infoOf k n prev) ≡ 104
 unfolding infoOf
@@ -206,10 +203,10 @@ last-fits x p l o e h = omega arith
 
 module _ {o o₁ : List ℕ} {w₁ : BitWriter} (h b : Bits) (e : length h ≡ 136) (fits : 17 + (length b + 7) / 8 ≤ length o) (p : Wrote o start (h ++ b) o₁ w₁) where
   -- what fills the last byte
-  fills : padding w₁ ≡ (8 - length b % 8) % 8
+  fills : padding (w₁ .«pending_bits») ≡ padding (length b)
   fills = let l = length-append h b in omega (arith, p .place, p .sound .part)
 
-  pub align-room : Room o₁ w₁ (padding w₁)
+  pub align-room : Room o₁ w₁ (padding (w₁ .«pending_bits»))
   align-room =
       let l = length-append h b in
       record { sound = p .sound; room = rw (p .size) (last-fits (w₁ .at) (w₁ .«pending_bits») (length b) (length o) (omega (arith, p .place)) fits) }
@@ -218,13 +215,13 @@ module _ {o o₁ : List ℕ} {w₁ : BitWriter} (h b : Bits) (e : length h ≡ 1
     pub head-end : w₂ .at ≡ 17 + (length b + 7) / 8
     head-end =
         let l = length-append h b in
-        omega (arith, q .wrote .place, q .whole, p .place, fills, length-replicate (padding w₁) false)
+        omega (arith, q .wrote .place, q .whole, p .place, fills, length-replicate (padding (w₁ .«pending_bits»)) false)
 
     pub head-bytes : o₂ ≡ toBytes ((h ++ b) ++ fill (length b)) ++ drop (w₂ .at) o
     head-bytes =
-        let bits : Bits = (h ++ b) ++ zeroBits (padding w₁) in
+        let bits : Bits = (h ++ b) ++ zeroBits (padding (w₁ .«pending_bits»)) in
         let k : 0 + length (toBytes bits) ≡ w₂ .at =
-        omega (arith, length-toBytes bits, length-append (h ++ b) (zeroBits (padding w₁)), length-append h b, length-replicate (padding w₁) false, fills, head-end) in
-        bytes-laid start-sound (wrote-then start-sound p (q .wrote)) refl (omega (arith, q .whole))
+        omega (arith, length-toBytes bits, length-append (h ++ b) (zeroBits (padding (w₁ .«pending_bits»))), length-append h b, length-replicate (padding (w₁ .«pending_bits»)) false, fills, head-end) in
+        bytes-laid (start-sound 0) (wrote-then (start-sound 0) p (q .wrote)) refl (omega (arith, q .whole))
         ∙ laid-is o 0 (toBytes bits) (omega (arith, k, head-end, fits))
         ∙ ap₂ (λ (j z : ℕ). toBytes ((h ++ b) ++ zeroBits z) ++ drop j o) k fills

@@ -2,8 +2,8 @@
 -- its bytes.
 use mathlib.Core.Path.{_≡_, refl, sym, ap, ap₂, _∙_, subst, fun-ext}
 use mathlib.Core.Bool.{Bool, true, false}
-use mathlib.Core.List.{List, _++_}
-use Prim.Native.Nat.{ℕ, _+_, _*_, _^_, _≤_, _<_}
+use mathlib.Core.List.{List, _++_, flatten}
+use Prim.Native.Nat.{ℕ, _+_, _*_, _≤_, _<_}
 use native.Mathlib.Omega.{arith}
 use lib.IntN.{ℤ}
 use lib.ListN.{length, drop}
@@ -28,11 +28,12 @@ use Rattle.unit.specs.Quantised.{numbersHQ}
 use Rattle.unit.specs.Plan.{SlicePlan, Plan}
 use Rattle.unit.specs.HighQuality.{shareOf, highNumbers, highIndex, highPlan, scalerFrom}
 use Rattle.unit.specs.HighQualityLaws.{needs-most}
-use Rattle.unit.specs.Unit.{majorVersion, gridOf, targetOf, highParameters, highBytes, highSlicesOf, scalerOf, planOf, sliceRuns, joined, headBits, lengthOf}
+use Rattle.unit.specs.Unit.{majorVersion, gridOf, highParameters, highBytes, highSlicesOf, scalerOf, planOf, sliceRuns, headBits, lengthOf}
 use Rattle.unit.specs.Unit as unit
 use Rattle.unit.specs.Outcome.{codedOf, cutCount, tooLong}
 use Rattle.unit.specs.Valid.{RateFits}
-use Rattle.unit.specs.SoundLaws.{coefficients-within}
+use Rattle.unit.specs.ValidLaws.{target-few}
+use Rattle.unit.specs.SoundLaws.{three, coefficients-within}
 use Rattle.picture.specs.declared.layout.Component.{Component}
 use Rattle.picture.specs.declared.layout.Picture.{Picture}
 use Rattle.picture.specs.declared.high_index.Terms.{Terms}
@@ -46,9 +47,6 @@ use Rattle.picture.specs.Encoded.{Codes, Coding, CodesAny}
 use Rattle.picture.specs.AnalysedLaws.{called-arranged, grid-is, slices-are, values-in, bands-y, bands-c1, bands-c2, small-by, holds-y, holds-c1, holds-c2, joined-span, length-parts, not-long, slices-room, codes-refused, codes-written}
 
 -- ---- a slice's index and plan
-three : {A : Type 0} {t u : Three A} → t .y ≡ u .y → t .c1 ≡ u .c1 → t .c2 ≡ u .c2 → t ≡ u
-three p q r = λ i. record { y = p i; c1 = q i; c2 = r i }
-
 index-by : (g : Grid) (v : List ℕ) (b : Three (List Band)) (x : ℕ) (r : RateControl) (c n k : ℕ)
     → indexBy r x c (shareOf n (sliceCount g) k) (highNumbers g v b x k) ≡ highIndex g v b x r c n k
 unfolding indexBy highIndex
@@ -135,7 +133,7 @@ plan-is s m p w d a e r z =
 
 module _ (w : List ℤ) (p : Picture) (s : Settings) (m : List ℕ) where
   -- the slices' bytes
-  pub runs-are : (c : ℕ) → highRuns w p (termsOf s m c) (slicesIn p) ≡ joined (sliceRuns (slicesBy w p s m c))
+  pub runs-are : (c : ℕ) → highRuns w p (termsOf s m c) (slicesIn p) ≡ flatten (sliceRuns (slicesBy w p s m c))
   runs-are c = sym (joined-span (planIn w p (termsOf s m c)) (slicesIn p))
 
   pub length-is : (r : Settled) → Settles w p s m r → r .end ≡ lengthOf s (codePlan w p s m (r .scaler))
@@ -183,11 +181,6 @@ plain-by : (s : Settings) (m : List ℕ) → s .kind ≡ HighQuality → picture
 unfolding pictureOf layoutOf
 plain-by s m e = ap isLow e
 
-rate-few : (r : RateControl) → RateFits HighQuality r → targetOf r ≤ 2 ^ 30
-rate-few Lossless h = omega arith
-rate-few (FixedQuantIndex q) h = omega arith
-rate-few (PictureBytes n) h = omega arith
-
 module _ {w : List ℤ} {p : Picture} {s : Settings} {m : List ℕ} (k : Coding s m HighQuality p w) where
   rate-in : RateFits HighQuality (s .rate)
   rate-in = subst (λ (k : PictureKind). RateFits k (s .rate)) (k .same) (k .called .rate)
@@ -212,7 +205,7 @@ module _ {w : List ℤ} {p : Picture} {s : Settings} {m : List ℕ} (k : Coding 
         rate = rate-in;
         prefix = k .called .prefix;
         scaler = (z .some, z .few);
-        bytes = omega (arith, rate-few (s .rate) rate-in);
+        bytes = omega (arith, target-few HighQuality (s .rate) rate-in);
       };
     }
 

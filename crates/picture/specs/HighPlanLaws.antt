@@ -21,7 +21,7 @@ use Rattle.unit.specs.declared.RateControl.{RateControl}
 use Rattle.unit.specs.declared.RateControl.the-variants.{Lossless, FixedQuantIndex, PictureBytes}
 use Rattle.unit.specs.Three.{Three}
 use Rattle.unit.specs.Plan.{SlicePlan}
-use Rattle.unit.specs.Valid.{RateFits}
+use Rattle.unit.specs.ValidLaws.{target-few}
 use Rattle.unit.specs.Parameters.{parameterBytes}
 use Rattle.unit.specs.HighQuality.{needOf, sliceSize, highBits, largestNeed, scalerFrom}
 use Rattle.unit.specs.HighQualityLaws.{length-high, next-rises}
@@ -157,12 +157,6 @@ pub terms-are : (s : Settings) (m : List ℕ) (c bytes target taken : ℕ) → b
 terms-are s m c bytes target taken e f g =
     ap (λ (n : ℕ). record { rate = s .rate; prefix = s .«slice_prefix_bytes»; scaler = c; bytes = n }) (e ∙ ap₂ _-_ f g)
 
--- a target is at most 2^30 bytes
-target-few : (r : RateControl) → RateFits HighQuality r → targetOf r ≤ 2 ^ 30
-target-few Lossless h = omega arith
-target-few (FixedQuantIndex q) h = omega arith
-target-few (PictureBytes n) h = omega arith
-
 -- slices can be planned with scaler c
 pub plan-in : {s : Settings} {p : Picture} {w : List ℤ} (m : List ℕ) (c : ℕ) → HighIn s p w → 1 ≤ c → c ≤ 2 ^ 24 → (t : Terms) → t ≡ termsOf s m c → PlanIn p t w
 plan-in {s} {p} {w} m c h some few t e = subst (λ (u : Terms). PlanIn p u w) (sym e) (record {
@@ -173,7 +167,7 @@ plan-in {s} {p} {w} m c h some few t e = subst (λ (u : Terms). PlanIn p u w) (s
     rate = h .rate;
     prefix = h .prefix;
     scaler = (some, few);
-    bytes = omega (arith, target-few (s .rate) (h .rate));
+    bytes = omega (arith, target-few HighQuality (s .rate) (h .rate));
   };
 })
 

@@ -17,7 +17,7 @@ use Rattle.codewords.specs.Bytes.{toBytes}
 use Rattle.codewords.specs.ByteLaws.{length-toBytes}
 use Rattle.codewords.specs.Code.{codes}
 use Rattle.codewords.specs.Writer.{Sound, Room, Wrote, Flushes}
-use Rattle.codewords.specs.WriterLaws.{wrote-then, room-after, flush-lays}
+use Rattle.codewords.specs.WriterLaws.{startAt, start-sound, wrote-then, room-after, flush-lays}
 use Rattle.codewords.specs.declared.writer.BitWriter.{BitWriter}
 use Rattle.unit.specs.Three.{Three}
 use Rattle.unit.specs.Trim.{trimmed, bitsOf, trimmedCost}
@@ -130,13 +130,6 @@ module _ (c : ℕ) (z : Three (List ℤ)) {o : List ℕ} {s : BitWriter} (room :
       three-wrote d = wrote-then (room .sound) a (wrote-then (a .sound) b d)
 
 -- ---- a slice
--- a writer at the start of a byte
-abbrev pub startAt : ℕ → BitWriter
-startAt at = record { at = at; pending = 0; «pending_bits» = 0 }
-
-start-sound : (at : ℕ) → Sound (startAt at)
-start-sound at = record { part = omega arith; small = omega arith }
-
 high-parts : (p c q : ℕ) (z : Three (List ℤ)) → highBits p c q z ≡ zeroBits (8 * p) ++ (lit 8 q ++ threeBits c z)
 unfolding highBits
 high-parts p c q z = refl

@@ -8,6 +8,7 @@ use lib.IntN.{ℤ}
 use lib.ListN.{length, getD}
 use Rattle.quantiser.specs.Quant.{quantFactor, quantOffset, bandIndex}
 use Rattle.unit.specs.Sizes.{Size, area}
+use Rattle.unit.specs.Subbands.{levelSize}
 use Rattle.unit.specs.Slices.{Grid, sliceCount, top, bottom, left, right}
 use Rattle.picture.specs.declared.strip.Strip.{Strip}
 use Rattle.picture.specs.declared.layout.Component.{Component}
@@ -25,15 +26,9 @@ bandCount l = 1 + l .«depth_ho» + 3 * l .depth
 abbrev pub gridIn : Layout → Grid
 gridIn l = record { down = l .down; across = l .across }
 
--- the sides of the n-th subband of padded sides: subband_width and subband_height, ST 2042-1, 13.2.3
+-- the sides of the n-th subband of a component, whose sides are padded
 unfoldable pub bandSize : Layout → Component → ℕ → Size
-bandSize l c n =
-    let t = l .«depth_ho» + l .depth in
-    let level = levelOf (l .«depth_ho») n in
-    record {
-      width = cond (eqb level 0) (c .width / 2 ^ t) (c .width / 2 ^ (t - level + 1));
-      height = cond (leb level (l .«depth_ho»)) (c .height / 2 ^ l .depth) (c .height / 2 ^ (t - level + 1));
-    }
+bandSize l c n = levelSize (l .«depth_ho») (l .depth) (record { width = c .width; height = c .height }) (levelOf (l .«depth_ho») n)
 
 -- how far behind the component's the coefficients of the n-th subband begin
 unfoldable pub startOf : Layout → Component → ℕ → ℕ

@@ -1,7 +1,7 @@
 -- Laws of layouts: the bands of a component follow one another within its padded area, a slice's strips lie within, and
 -- its numbers band by band.
 use mathlib.Core.Path.{_≡_, refl, sym, ap, ap₂, _∙_}
-use mathlib.Core.Bool.{Bool, true, false, cond, _&&_}
+use mathlib.Core.Bool.{Bool, true, false, cond, _&&_, and-false}
 use mathlib.Core.List.{List, [], _++_, append-nil, append-assoc}
 use Prim.Native.Nat.{ℕ, zero, suc, _+_, _*_, _-_, _/_, _%_, _^_, _≤_, _<_}
 use native.Mathlib.Nat.{div-div-eq-div-mul, pow-suc, div-one, div-le-self, div-lt-iff-lt-mul, mod-lt, mul-comm, mul-assoc}
@@ -153,6 +153,10 @@ module _ (l : Layout) (c : Component) where
       let d : l .depth - l .depth ≡ 0 = omega arith in
       let f : cut (l .depth - l .depth) (l .depth - l .depth) ≡ c .width * c .height = ap₂ cut d d ∙ ap₂ _*_ (div-one (c .width)) (div-one (c .height)) in
       omega (arith, start-next n, start-rises m (suc n), ap (startOf l c) e, deep-start (l .depth) (omega arith), f)
+
+  -- level 0 has at most as many numbers as its component
+  pub first-fits : bandSize l c 0 .height * bandSize l c 0 .width ≤ c .width * c .height
+  first-fits = omega (arith, band-fits 0 (omega arith), mul-comm (bandSize l c 0 .width) (bandSize l c 0 .height))
 
 -- ---- slices
 module _ {l : Layout} {k : ℕ} (i : LayoutIn l) (h : k < sliceCount (gridIn l)) where
@@ -391,10 +395,6 @@ module _ (w : List ℤ) (l : Layout) (c second : Component) (pair : Bool) (k q :
         )
 
 -- ---- the first subband, and the others
-pub no-and : (b : Bool) → (b && false) ≡ false
-no-and true = refl
-no-and false = refl
-
 module _ (w : List ℤ) (l : Layout) (c second : Component) (pair : Bool) (k q : ℕ) where
   -- the strip of level 0
   abbrev pub firstStrip : Strip
@@ -471,7 +471,7 @@ module _ (w : List ℤ) (l : Layout) (c second : Component) (pair : Bool) (k q :
     tally-ready t r g d f u =
         let m : suc (n - 1) ≡ n = omega arith in
         rw (f, d) (
-          record { small = h .small; within = strip-within h pair n b; plain = ap (λ (b : Bool). l .predicted && b) (ne-eqb n 0 (omega arith)) ∙ no-and (l .predicted) },
+          record { small = h .small; within = strip-within h pair n b; plain = ap (λ (b : Bool). l .predicted && b) (ne-eqb n 0 (omega arith)) ∙ and-false (l .predicted) },
           addable-after t (restNumbers w l c second pair k q (n - 1)) _ _ u (rest-small (n - 1))
               (omega (arith, rest-length (n - 1), ap (startOf l c) m, partSize-most (gridIn l) (bandSize l c n) k, band-fits l c n b)),
         )

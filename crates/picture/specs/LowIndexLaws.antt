@@ -2,8 +2,8 @@
 -- election.
 use mathlib.Core.Path.{_≡_, ap, _∙_}
 use mathlib.Core.List.{List}
-use Prim.Native.Nat.{ℕ, suc, _+_, _*_, _-_, _/_, _^_, _≤_, _<_}
-use native.Mathlib.Nat.{suc-mul, mul-le-mul-left, mul-le-mul-right, mul-one, add-mul-div-right}
+use Prim.Native.Nat.{ℕ, suc, _+_, _*_, _-_, _/_, _^_, _≤_}
+use native.Mathlib.Nat.{suc-mul, mul-le-mul-left, mul-one, add-mul-div-right}
 use native.Mathlib.Numerals.{add-one}
 use native.Mathlib.Omega.{arith}
 use borrow.Author.Tests.{eq-eqb, ne-eqb}
@@ -21,10 +21,6 @@ use Rattle.picture.specs.PictureLaws.{run-y, run-pair}
 use Rattle.picture.specs.Low.{strip0, rebuiltIn, isLast}
 
 -- ---- bytes
--- products of two numbers of 32 bits
-pub product-few : (a b : ℕ) → a ≤ 2 ^ 32 → b < 2 ^ 32 → a * b < 2 ^ 64
-product-few a b h g = omega (arith, mul-le-mul-right b h)
-
 module _ (n d k : ℕ) where
   pub bytes-rise : k * n / d ≤ (k + 1) * n / d
   bytes-rise = rw (add-one k) (div-rises d (omega (arith, suc-mul k n)))

@@ -1,9 +1,9 @@
 -- The code's low-delay slices are the unit's: rebuilt planes, numbers, indices and bytes, slice by slice.
 use mathlib.Core.Path.{_≡_, refl, sym, ap, ap₂, _∙_, fun-ext, subst}
 use mathlib.Core.Bool.{Bool, true, false, cond}
-use mathlib.Core.List.{List, [], _∷_, _++_}
-use Prim.Native.Nat.{ℕ, zero, suc, _+_, _*_, _-_, _≤_, _<_}
-use native.Mathlib.Nat.{mul-comm, mul-pos, zero-add}
+use mathlib.Core.List.{List, [], _∷_, _++_, flatten}
+use Prim.Native.Nat.{ℕ, zero, suc, _+_, _*_, _≤_, _<_}
+use native.Mathlib.Nat.{mul-pos, zero-add}
 use native.Mathlib.Omega.{arith}
 use lib.Arith.{digits-lt}
 use lib.Dec.{eqb, leb}
@@ -29,15 +29,14 @@ use Rattle.unit.specs.PlannedLaws.{lowState, lowElected, lowAt, low-span}
 use Rattle.unit.specs.declared.Settings.{Settings}
 use Rattle.unit.specs.declared.PictureKind.{PictureKind}
 use Rattle.unit.specs.declared.PictureKind.the-variants.{LowDelay}
-use Rattle.unit.specs.declared.RateControl.{RateControl}
-use Rattle.unit.specs.declared.RateControl.the-variants.{Lossless, FixedQuantIndex, PictureBytes}
 use Rattle.unit.specs.declared.Coded.{Coded}
 use Rattle.unit.specs.declared.Answer.the-variants.{Accepted, Refused}
 use Rattle.unit.specs.Parameters.{lowDelay, Parameters, parameterBytes}
 use Rattle.unit.specs.Matrix.{matrixValues}
 use Rattle.unit.specs.Coefficients.{coefficientsOf}
 use Rattle.unit.specs.Valid.{RateFits}
-use Rattle.unit.specs.Unit.{majorVersion, gridOf, parametersBy, targetOf, lowParameters, numeratorOf, planBy, planOf, sliceRuns, joined, headBits, lengthOf}
+use Rattle.unit.specs.ValidLaws.{target-few}
+use Rattle.unit.specs.Unit.{majorVersion, gridOf, parametersBy, targetOf, lowParameters, numeratorOf, planBy, planOf, sliceRuns, headBits, lengthOf}
 use Rattle.unit.specs.Outcome.{lastIndices, cutCount, scalerIn, codedOf, tooLong}
 use Rattle.unit.specs.LowDelayLaws.{numerator-least, bytes-all, low-bytes}
 use Rattle.unit.specs.SoundLaws.{length-is}
@@ -45,7 +44,7 @@ use Rattle.picture.specs.declared.layout.Component.{Component}
 use Rattle.picture.specs.declared.layout.Picture.{Picture}
 use Rattle.picture.specs.Run.{planeFrom, rebuiltStrip, Small}
 use Rattle.picture.specs.Layout.{bandCount, gridIn, bandSize, stripOf}
-use Rattle.picture.specs.LayoutLaws.{band-fits}
+use Rattle.picture.specs.LayoutLaws.{first-fits}
 use Rattle.picture.specs.StripLaws.{Apart, rebuilt-outside}
 use Rattle.picture.specs.NumberLaws.{Bands, Holds, bottom-most, right-most, left-front, holds-rebuilt, rebuilt-low, numbers-low, numbers-pair}
 use Rattle.picture.specs.Picture.{slicesIn, runOf, Placed, Arranged}
@@ -94,12 +93,6 @@ pub record Follows (p : Picture) (b : Three (List Band)) (r : Three Plane) (w : 
   pub c1 : Has p (p .c1) (b .c1) (r .c1) w
   pub c2 : Has p (p .c2) (b .c2) (r .c2) w
 
--- level 0 lies within the component's area
-level-fits : (p : Picture) (c : Component) → let z = bandSize (p .layout) c 0 in z .height * z .width ≤ c .width * c .height
-level-fits p c =
-    let z = bandSize (p .layout) c 0 in
-    omega (arith, band-fits (p .layout) c 0 (omega arith), mul-comm (z .width) (z .height))
-
 module _ (p : Picture) (k q : ℕ) (slice : k < slicesIn p) where
   abbrev grid : Grid
   grid = gridIn (p .layout)
@@ -108,7 +101,7 @@ module _ (p : Picture) (k q : ℕ) (slice : k < slicesIn p) where
   unfolding stripOf
   apart-in c w d h =
       let z = bandSize (p .layout) c 0 in
-      let f = level-fits p c in
+      let f = first-fits (p .layout) c in
       record {
         rows = bound-rises (p .layout .down) (z .height) (omega arith);
         columns = bound-rises (p .layout .across) (z .width) (omega arith);
@@ -130,8 +123,8 @@ module _ (p : Picture) (k q : ℕ) (slice : k < slicesIn p) where
       let e = bands .size 0 (omega arith) in
       let eh : bandAt bs 0 .high ≡ z .height = ap (λ (z : Size). z .height) e in
       let ew : bandAt bs 0 .wide ≡ z .width = ap (λ (z : Size). z .width) e in
-      let fc = level-fits p c in
-      let fd = level-fits p d in
+      let fc = first-fits (p .layout) c in
+      let fd = first-fits (p .layout) d in
       record {
         coefs = holds-rebuilt w s (c .coefs) bs fits (omega (arith, fd, pd .rebuilt, pc .coefs .0)) (has .coefs);
         plane = record {
@@ -154,7 +147,7 @@ module _ (p : Picture) (k q : ℕ) (slice : k < slicesIn p) where
         let s = strip0 p c k q in
         let fits = apart-in c w d room in
         record {
-          coefs = holds-rebuilt w s (c .coefs) bs fits (omega (arith, level-fits p c, d .rebuilt, d .coefs .0)) (has .coefs);
+          coefs = holds-rebuilt w s (c .coefs) bs fits (omega (arith, first-fits (p .layout) c, d .rebuilt, d .coefs .0)) (has .coefs);
           plane = rw left-is (rebuilt-low w (p .layout) c c m bs k q bands (has .coefs) slice values predicted r fits (has .plane));
         }
 
@@ -245,7 +238,7 @@ module _ (p : Picture) (m : List ℕ) (b : Three (List Band)) (h : Linked p m b)
         plane = record {
           same = λ y x hy hx.
               let hi : y * z .width + x < z .height * z .width = digits-lt {q = y} {m = z .height} {r = x} {c = z .width} (omega arith) (omega arith) in
-              zeros (c .rebuilt + (y * z .width + x)) (omega (arith, level-fits p c, d .rebuilt));
+              zeros (c .rebuilt + (y * z .width + x)) (omega (arith, first-fits (p .layout) c, d .rebuilt));
         };
       }
 
@@ -276,11 +269,11 @@ module _ (p : Picture) (m : List ℕ) (b : Three (List Band)) (h : Linked p m b)
     spans = low-span g m b n 0 (slicesIn p)
 
     -- the bytes of all slices
-    pub low-runs : lowRuns p n w (slicesIn p) ≡ joined (sliceRuns (lowSlices g m b n zeroPlanes 0 (slicesIn p)))
+    pub low-runs : lowRuns p n w (slicesIn p) ≡ flatten (sliceRuns (lowSlices g m b n zeroPlanes 0 (slicesIn p)))
     low-runs =
         chunks-ext (λ k. toBytes (lowBitsIn p n (workAt p n w k) k)) (λ k. toBytes (lowAt g m b n k .bits)) (slicesIn p) (λ k o. ap toBytes (slice-at k o))
         ∙ sym (joined-span (lowAt g m b n) (slicesIn p))
-        ∙ ap (λ (ps : List SlicePlan). joined (sliceRuns ps)) (sym spans)
+        ∙ ap (λ (ps : List SlicePlan). flatten (sliceRuns ps)) (sym spans)
 
     cuts-span : (j : ℕ) → j ≤ slicesIn p → cutsIn p n w j ≡ lastIndices (span (lowAt g m b n) 0 j)
     unfolding cutsIn lowPlan
@@ -295,11 +288,6 @@ module _ (p : Picture) (m : List ℕ) (b : Three (List Band)) (h : Linked p m b)
     low-cuts = cuts-span (slicesIn p) (omega arith) ∙ ap lastIndices (sym spans)
 
 -- ---- a low-delay call
-target-few : (r : RateControl) → RateFits LowDelay r → targetOf r ≤ 1073741824
-target-few Lossless h = absurd h
-target-few (FixedQuantIndex q) h = absurd h
-target-few (PictureBytes n) h = h
-
 numerator-most : (version target slices : ℕ) (t : ℕ → Parameters) (n : ℕ) → target ≤ n → slices ≤ n → numerator version target slices t ≤ n
 unfolding numerator
 numerator-most version target slices t n a b = omega arith
@@ -323,7 +311,7 @@ module _ {s : Settings} {m : List ℕ} (called : Called s m) (low : s .kind ≡ 
   unfolding numeratorOf
   numerator-few =
       let f : RateFits LowDelay (s .rate) = subst (λ (k : PictureKind). RateFits k (s .rate)) low (called .rate) in
-      numerator-most (majorVersion s) (targetOf (s .rate)) (sliceCount (gridOf s)) (lowParameters s m) 1073741824 (target-few (s .rate) f) (omega (arith, count-few called))
+      numerator-most (majorVersion s) (targetOf (s .rate)) (sliceCount (gridOf s)) (lowParameters s m) 1073741824 (target-few LowDelay (s .rate) f) (omega (arith, count-few called))
 
   pub low-in : (w : List ℤ) → Small (frontOf s) (frontOf s + frontOf s) w → LowIn (pictureOf s m) (numeratorOf s m) w
   low-in w h = record {
@@ -385,11 +373,11 @@ module _ {s : Settings} {m : List ℕ} (called : Called s m) (low : s .kind ≡ 
       start : Follows (pictureOf s m) bands zeroPlanes w
       start = follows-start (pictureOf s m) (matrixValues s m) bands linked w front-room (holds-y s m an) (holds-c1 s m an) (holds-c2 s m an) front-zeros
 
-      runs-are : lowRuns (pictureOf s m) (numeratorOf s m) w (slicesIn (pictureOf s m)) ≡ joined (sliceRuns (planOf s m pl .slices))
+      runs-are : lowRuns (pictureOf s m) (numeratorOf s m) w (slicesIn (pictureOf s m)) ≡ flatten (sliceRuns (planOf s m pl .slices))
       runs-are =
           low-runs (pictureOf s m) (matrixValues s m) bands linked (numeratorOf s m) w start
-          ∙ ap (λ (g : Grid). joined (sliceRuns (lowSlices g (matrixValues s m) bands (numeratorOf s m) zeroPlanes 0 (sliceCount g)))) (grid-is s m)
-          ∙ ap (λ (a : Plan). joined (sliceRuns (a .slices))) (sym plan-is)
+          ∙ ap (λ (g : Grid). flatten (sliceRuns (lowSlices g (matrixValues s m) bands (numeratorOf s m) zeroPlanes 0 (sliceCount g)))) (grid-is s m)
+          ∙ ap (λ (a : Plan). flatten (sliceRuns (a .slices))) (sym plan-is)
 
       cuts-are : cutsIn (pictureOf s m) (numeratorOf s m) w (slicesIn (pictureOf s m)) ≡ cutCount (s .kind) (planOf s m pl)
       unfolding cutCount

@@ -1,7 +1,7 @@
 -- Laws of a low-delay slice's numbers of level 0 and of the others: what the two cost together, that at a larger index
 -- the others cost no more, and that they do not depend on the rebuilt planes.
 use mathlib.Core.Path.{_≡_, refl, sym, ap, ap₂, _∙_}
-use mathlib.Core.Bool.{Bool, true, false, cond, _&&_, _||_}
+use mathlib.Core.Bool.{Bool, true, false, cond, _&&_, _||_, and-false}
 use mathlib.Core.List.{List, [], _∷_, _++_}
 use Prim.Native.Nat.{ℕ, zero, suc, _+_, _*_, _-_, _^_, _≤_, _<_}
 use native.Mathlib.Omega.{arith}
@@ -28,7 +28,7 @@ use Rattle.picture.specs.RunLaws.{rows-small}
 use Rattle.picture.specs.Tally.{trimmedOf, trimmedBy}
 use Rattle.picture.specs.TallyLaws.{TallyOf, tally-of, tally-keeps, tally-kept}
 use Rattle.picture.specs.Layout.{bandCount, bandSize, startOf, windowOf, stripOf, restNumbers, RunIn}
-use Rattle.picture.specs.LayoutLaws.{no-and, rest-small, firstStrip, bandStrip, bandNumbers, run-length, run-rest, start-next, band-fits, strip-within}
+use Rattle.picture.specs.LayoutLaws.{rest-small, firstStrip, bandStrip, bandNumbers, run-length, run-rest, start-next, band-fits, strip-within}
 use Rattle.picture.specs.PackedLaws.{between, strip-alike}
 use Rattle.picture.specs.Picture.{Arranged, SliceIn}
 use Rattle.picture.specs.PictureLaws.{run-y, run-pair}
@@ -120,7 +120,7 @@ module _ (a n : ℕ) (w v : List ℤ) (same : (i : ℕ) → a ≤ i → i < n �
   unfolding stripOf
   band-behind m o =
       strip-alike a n w v same (bandStrip l c second pair k q (suc m))
-      (between (strip-within h pair (suc m) o) (ap (λ (b : Bool). l .predicted && b) (eqb·suc-zero m) ∙ no-and (l .predicted)))
+      (between (strip-within h pair (suc m) o) (ap (λ (b : Bool). l .predicted && b) (eqb·suc-zero m) ∙ and-false (l .predicted)))
 
   rest-behind : (m : ℕ) → m < bandCount l → restNumbers v l c second pair k q m ≡ restNumbers w l c second pair k q m
   unfolding restNumbers

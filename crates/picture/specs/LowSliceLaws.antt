@@ -18,8 +18,8 @@ use Rattle.codewords.specs.BitLaws.{length-lit}
 use Rattle.codewords.specs.Bytes.{toBytes}
 use Rattle.codewords.specs.ByteLaws.{length-toBytes}
 use Rattle.codewords.specs.Code.{codes}
-use Rattle.codewords.specs.Writer.{Sound, Room, Wrote, Flushes}
-use Rattle.codewords.specs.WriterLaws.{wrote-then, room-after, flush-lays}
+use Rattle.codewords.specs.Writer.{Room, Wrote, Flushes}
+use Rattle.codewords.specs.WriterLaws.{startAt, start-sound, wrote-then, room-after, flush-lays}
 use Rattle.codewords.specs.declared.writer.BitWriter.{BitWriter}
 use Rattle.unit.specs.Trim.{trimmed, bitsOf, trimmedCost, fitPrefix}
 use Rattle.unit.specs.TrimLaws.{fit-bits}
@@ -116,19 +116,12 @@ module _ (room : ℕ) (ys cs : List ℤ) where
   not-whole y c e d h = omega (arith, ap (λ (t : Trimmed). t .bits) e, ap (λ (t : Trimmed). t .bits) d)
 
 -- ---- the parts of a slice
--- a writer at the start of a byte
-abbrev pub writerAt : ℕ → BitWriter
-writerAt i = record { at = i; pending = 0; «pending_bits» = 0 }
-
-writer-sound : (i : ℕ) → Sound (writerAt i)
-writer-sound i = record { part = omega arith; small = omega arith }
-
 -- four parts of n bytes in all, written one after the other
 module _ {o : List ℕ} (i n : ℕ) (a b c d : Bits) (long : length (a ++ (b ++ (c ++ d))) ≡ 8 * n) (fits : i + n ≤ length o) where
-  room-all : Room o (writerAt i) (length (a ++ (b ++ (c ++ d))))
-  room-all = record { sound = writer-sound i; room = omega arith }
+  room-all : Room o (startAt i) (length (a ++ (b ++ (c ++ d))))
+  room-all = record { sound = start-sound i; room = omega arith }
 
-  module _ {o₁ : List ℕ} {w₁ : BitWriter} (p : Wrote o (writerAt i) a o₁ w₁) where
+  module _ {o₁ : List ℕ} {w₁ : BitWriter} (p : Wrote o (startAt i) a o₁ w₁) where
     rest₁ : Room o₁ w₁ (length (b ++ (c ++ d)))
     rest₁ = room-rest a (b ++ (c ++ d)) room-all p
 
@@ -147,7 +140,7 @@ module _ {o : List ℕ} (i n : ℕ) (a b c d : Bits) (long : length (a ++ (b ++ 
         fourth-room = room-rest c d rest₂ r
 
         pub parts-laid : {o₄ o₅ : List ℕ} {w₄ w₅ : BitWriter} → Wrote o₃ w₃ d o₄ w₄ → Flushes o₄ w₄ o₅ w₅ → Lays o i (toBytes (a ++ (b ++ (c ++ d)))) o₅ (w₅ .at)
-        parts-laid s f = flush-lays (writer-sound i) (wrote-then (writer-sound i) p (wrote-then (p .sound) q (wrote-then (q .sound) r s))) f refl
+        parts-laid s f = flush-lays (start-sound i) (wrote-then (start-sound i) p (wrote-then (p .sound) q (wrote-then (q .sound) r s))) f refl
 
 parts-of : (n q m room : ℕ) (ys cs : List ℤ) (a b : ℕ) → m ≡ lengthBits n → room ≡ roomOf n → a ≡ bitsOf ys → b ≡ bitsOf cs
     → lit 7 q ++ (lit m a ++ ((codes ys ++ codes cs) ++ oneBits (room - a - b))) ≡ lowBits n q ys cs
@@ -189,7 +182,7 @@ module _
   long : length (lit 7 q ++ (lit m (r .«luma_bits») ++ (runBits v p k q r ++ oneBits left))) ≡ 8 * n
   long = ap length (slice-parts v p n k q room m r er em h) ∙ slice-long v p n k q some
 
-  module _ {o₁ : List ℕ} {w₁ : BitWriter} (a : Wrote o (writerAt i) (lit 7 q) o₁ w₁) where
+  module _ {o₁ : List ℕ} {w₁ : BitWriter} (a : Wrote o (startAt i) (lit 7 q) o₁ w₁) where
     pub length-room : Room o₁ w₁ m
     length-room =
         rw (length-lit m (r .«luma_bits»)) at

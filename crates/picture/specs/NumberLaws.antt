@@ -4,7 +4,7 @@ use mathlib.Core.Path.{_≡_, refl, sym, ap, ap₂, _∙_}
 use mathlib.Core.Bool.{Bool, true, false, _&&_}
 use mathlib.Core.List.{List, [], _∷_, _++_, append-assoc, append-nil}
 use Prim.Native.Nat.{ℕ, zero, suc, _+_, _*_, _-_, _/_, _%_, _^_, _≤_, _<_}
-use native.Mathlib.Nat.{mul-comm, mul-le-mul, div-le-self, add-assoc}
+use native.Mathlib.Nat.{mul-comm, add-assoc}
 use native.Mathlib.Omega.{arith}
 use native.Mathlib.Decide.{decLe}
 use borrow.Author.Tests.{le-leb, lt-leb, ne-eqb}
@@ -25,7 +25,7 @@ use Rattle.unit.specs.Predict.{predict}
 use Rattle.unit.specs.Quantised.{sizeOf, numbersFrom, numbersHQ, numberAt, rebuilt, numbersLD, leftLD}
 use Rattle.unit.specs.LowDelay.{alternated}
 use Rattle.unit.specs.SliceLaws.{bound-rises, bound-most}
-use Rattle.picture.specs.LayoutLaws.{run-chunks}
+use Rattle.picture.specs.LayoutLaws.{level-low, first-fits, run-chunks}
 use Rattle.picture.specs.declared.strip.Strip.{Strip}
 use Rattle.picture.specs.declared.layout.Component.{Component}
 use Rattle.picture.specs.declared.layout.Layout.{Layout}
@@ -35,10 +35,6 @@ use Rattle.picture.specs.RunLaws.{prediction-no}
 use Rattle.picture.specs.StripLaws.{firsts, seconds, region-cong, strip-part, strip-pair, alternated-append, Apart, rebuilt-outside, Predicted, rebuilt-is, strip-predicted}
 
 -- ---- where the bands stand
-level-low : (k n : ℕ) → n ≤ k → levelOf k n ≡ n
-unfolding levelOf
-level-low k n h = rw (le-leb n k h)
-
 level-high : (k m r : ℕ) → r < 3 → levelOf k (1 + k + 3 * m + r) ≡ k + 1 + m
 unfolding levelOf
 level-high k m r h = let n : ℕ = 1 + k + 3 * m + r in rw (lt-leb n k (omega arith)) (omega arith)
@@ -295,11 +291,6 @@ unfolding leftLD
 left-front g m [] r q k h = absurd (omega arith)
 left-front g m (b ∷ bs) r q k h = refl
 
--- level 0 has at most as many numbers as its component
-area-most : (l : Layout) (c : Component) → bandSize l c 0 .height * bandSize l c 0 .width ≤ c .width * c .height
-area-most l c =
-    rw (size-low l c 0 (omega arith), mul-comm (c .width) (c .height)) (mul-le-mul (div-le-self (c .height) _) (div-le-self (c .width) _))
-
 pub apart-run : (l : Layout) (c second : Component) (a e k q : ℕ) (w : List ℤ) → RunIn l c second a e k q w → Apart w (stripOf l c second false 0 0 k q)
 unfolding stripOf
 apart-run l c second a e k q w r =
@@ -310,8 +301,8 @@ apart-run l c second a e k q w r =
       columns = bound-rises (g .across) (z .width) (omega arith);
       wide = right-most g z k (r .slice);
       high = bottom-most g z k (r .slice);
-      room = omega (arith, area-most l c, r .rebuilt, r .small .order, r .small .long);
-      ahead = omega (arith, area-most l c, r .rebuilt, r .coefs .0);
+      room = omega (arith, first-fits l c, r .rebuilt, r .small .order, r .small .long);
+      ahead = omega (arith, first-fits l c, r .rebuilt, r .coefs .0);
     }
 
 -- the coefficients are still there

@@ -37,9 +37,6 @@ module _ {w v : List ℤ} {i : ℕ} {r : Packing} {xs : List ℤ} (h : Packs w (
   run-after = omega (arith, h .at)
 
 module _ (p : Picture) (k q from : ℕ) {w : List ℤ} (s : SliceIn p w k q) (plain : p .layout .predicted ≡ false) (room : from + sliceNumberCount p k ≤ p .front) where
-  abbrev count : Component → ℕ
-  count c = countOf (p .layout) c k
-
   slice-of : {v : List ℤ} → Small (p .front) (p .end) v → SliceIn p v k q
   slice-of t = record { arranged = s .arranged; small = t; slice = s .slice; index = s .index }
 

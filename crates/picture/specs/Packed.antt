@@ -6,8 +6,9 @@ use mathlib.Core.List.{List, [], _∷_, _++_}
 use Prim.Native.Nat.{ℕ, zero, suc, _+_, _*_, _-_, _^_, _≤_}
 use lib.Dec.{leb}
 use lib.IntN.{ℤ, pos, negsuc}
-use lib.ListN.{length, take, drop, replicate}
+use lib.ListN.{length, replicate}
 use Rattle.laws.specs.Laid.{laid}
+use Rattle.laws.specs.Window.{piece}
 use Rattle.codewords.specs.Code.{codeS}
 use Rattle.picture.specs.declared.strip.Strip.{Strip}
 use Rattle.picture.specs.declared.packed.Packing.{Packing}
@@ -48,7 +49,7 @@ unpacked (z ∷ zs) = wordNumbers z ++ unpacked zs
 
 -- n words of w from place i on
 abbrev pub wordsAt : List ℤ → ℕ → ℕ → List ℤ
-wordsAt w i n = take n (drop i w)
+wordsAt w i n = piece i n w
 
 -- ---- conditions and outcomes
 -- a strip of one component that is not predicted

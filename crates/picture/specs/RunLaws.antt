@@ -3,7 +3,7 @@
 use mathlib.Core.Path.{_≡_, refl, sym, ap, ap₂, _∙_}
 use mathlib.Core.Bool.{Bool, true, false, cond}
 use mathlib.Core.List.{List, [], _∷_, _++_}
-use Prim.Native.Nat.{ℕ, zero, suc, _+_, _*_, _-_, _/_, _^_, _≤_, _<_}
+use Prim.Native.Nat.{ℕ, zero, suc, _+_, _*_, _-_, _^_, _≤_, _<_}
 use native.Mathlib.Nat.{suc-mul, zero-mul, mul-le-mul-right}
 use native.Mathlib.Omega.{arith}
 use native.Mathlib.Decide.{ℕ-discrete}
@@ -17,10 +17,8 @@ use mir.Facts.{toZ-ofZ}
 use Rattle.laws.specs.Rows.{at}
 use Rattle.laws.specs.Chunks.{chunks}
 use Rattle.laws.specs.Machine.{fit}
-use Rattle.quantiser.specs.Quant.{cap, quantFactor, quantOffset, forwardBy, forwardQuant, inverseBy, inverseQuant}
-use Rattle.quantiser.specs.CapLaws.{cap-lt}
-use Rattle.quantiser.specs.SignLaws.{abs-signed}
-use Rattle.quantiser.specs.QuantLaws.{quantFactor-least, quantFactor-lt}
+use Rattle.quantiser.specs.Quant.{quantFactor, quantOffset, forwardBy, forwardQuant, inverseBy, inverseQuant}
+use Rattle.quantiser.specs.QuantLaws.{quantFactor-least, quantFactor-lt, number-most}
 use Rattle.unit.specs.Predict.{mean, predict}
 use Rattle.unit.specs.ScanLaws.{neighbours, predict-most}
 use Rattle.unit.specs.RebuiltLaws.{step-most}
@@ -149,13 +147,8 @@ small-set {a} {n} {l} i v m h b = record {
     by k q (yes e) = rw (e, getD-set-same l i v (pos 0) (omega (arith, m .long, m .order))) b
     by k q (no e) = rw (getD-set-other l i k v (pos 0) e) (m .bound k q)
 
--- a quantised number is at most 2^63 in size
-pub number-by : (f : ℕ) (c : ℤ) → natAbs (forwardBy f c) ≤ 2 ^ 63
-unfolding forwardBy
-number-by f c = omega (arith, abs-signed c (cap (4 * natAbs c / f)), cap-lt (4 * natAbs c / f))
-
 pub number-size : (l : List ℤ) (s : Strip) (coefs base y x : ℕ) → natAbs (numberIn l s coefs base y x) ≤ 2 ^ 63
-number-size l s coefs base y x = number-by (s .factor) (planeFrom l coefs (s .width) y x -ℤ predictionIn l s base y x)
+number-size l s coefs base y x = number-most (s .factor) (planeFrom l coefs (s .width) y x -ℤ predictionIn l s base y x)
 
 -- ---- numbers, place by place
 module _ (l : List ℤ) (s : Strip) where

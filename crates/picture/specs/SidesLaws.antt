@@ -1,8 +1,8 @@
 -- Laws of intlog2 as a loop finds it, of padded sides and areas, and of a matrix's values in 25 places.
 use mathlib.Core.Path.{_≡_, refl, sym, _∙_}
 use mathlib.Core.Bool.{Bool, true, false, not}
-use mathlib.Core.List.{List}
-use mathlib.Core.Option.{Option, none, some}
+use mathlib.Core.List.{List, []}
+use mathlib.Core.Option.{Option, none, some, Option·getD}
 use Prim.Native.Nat.{ℕ, zero, suc, _+_, _-_, _*_, _^_, _≤_, _<_}
 use native.Mathlib.Nat.{le-antisymm, le-trans, zero-add, mul-le-mul}
 use native.Mathlib.Numerals.{add-one}
@@ -18,7 +18,7 @@ use Rattle.wavelet.specs.Pad.{paddedSide}
 use Rattle.unit.specs.declared.Settings.{Settings}
 use Rattle.unit.specs.Sizes.{Size, lumaSize, colourSize, intlog2}
 use Rattle.unit.specs.Subbands.{paddedSize}
-use Rattle.unit.specs.Matrix.{defaultOf, orNone, matrixValues}
+use Rattle.unit.specs.Matrix.{defaultOf, matrixValues}
 use Rattle.unit.specs.Refusal.{isNone, paddedArea}
 use Rattle.unit.specs.Valid.{MatrixFits}
 use Rattle.unit.specs.TestLaws.{no-truth}
@@ -44,13 +44,7 @@ pub log-is : (n m : ℕ) → n ≤ 2 ^ m → m ≤ intlog2 n → m ≡ intlog2 n
 log-is n m h l = le-antisymm l (intlog2-least n .least m h)
 
 -- ---- products and padded sides in the code's widths
-pub product-fits : (a b : ℕ) → a < 2 ^ 32 → b < 2 ^ 32 → a * b < 2 ^ 64
-product-fits a b p q =
-    let h : a * b ≤ 4294967295 * 4294967295 = mul-le-mul {n₁ = a} {m₁ = b} {n₂ = 4294967295} {m₂ = 4294967295} (omega arith) (omega arith) in
-    omega arith
-
 pub padded-few : (n side : ℕ) → n ≤ 10 → side ≤ 65535 → paddedSide n side < 2 ^ 32
-unfolding paddedSide
 padded-few n side h l =
     let p = pow-mono {i = n} {j = 10} h in
     omega (arith, rounded (2 ^ n) side (pow-pos n) .close)
@@ -119,7 +113,7 @@ module _ (s : Settings) (m : List ℕ) where
   unfolding matrixValues
   custom-values e = rw e refl
 
-  pub by-default : s .«custom_matrix» ≡ false → matrixValues s m ≡ orNone (defaultOf s)
+  pub by-default : s .«custom_matrix» ≡ false → matrixValues s m ≡ Option·getD (defaultOf s) []
   unfolding matrixValues
   by-default e = rw e refl
 
@@ -133,10 +127,10 @@ module _ (w h d k : ℕ) where
       by none = refl
       by (some vs) = refl
 
-  pub default-values : default.defaultOf w h d k .values ≡ places (orNone (defaultMatrix w h d k))
+  pub default-values : default.defaultOf w h d k .values ≡ places (Option·getD (defaultMatrix w h d k) [])
   unfolding default.defaultOf
   default-values = by (defaultMatrix w h d k)
     where
-      by : (o : Option (List ℕ)) → handed o .values ≡ places (orNone o)
+      by : (o : Option (List ℕ)) → handed o .values ≡ places (Option·getD o [])
       by none = refl
       by (some vs) = refl

@@ -12,7 +12,7 @@ use Rattle.codewords.specs.Code.{codeS, codes}
 use Rattle.codewords.specs.CodeLaws.{length-codeS-zero}
 use Rattle.quantiser.specs.Quant.{forwardBy}
 use Rattle.unit.specs.Trim.{trimCons, trimmed, bitsOf, trimmedCost}
-use Rattle.unit.specs.TrimLaws.{Small, bits-most}
+use Rattle.unit.specs.TrimLaws.{length-trimmed, Small, bits-most}
 use Rattle.picture.specs.declared.strip.Strip.{Strip}
 use Rattle.picture.specs.declared.cost.Cost.{Cost}
 use Rattle.picture.specs.declared.tally.Tally.{Tally}
@@ -20,7 +20,7 @@ use Rattle.picture.specs.Run.{planeFrom, numberIn, secondNumber, placeNu
 use Rattle.picture.specs.RunLaws.{prediction-no, second-one, place-is}
 use Rattle.picture.specs.Cost.{Counted, fitted, kept, add1, added, addAll, noCost}
 use Rattle.picture.specs.AddedLaws.{added-one}
-use Rattle.picture.specs.CostLaws.{one-bit, cost-of, trimmed-most}
+use Rattle.picture.specs.CostLaws.{one-bit, cost-of}
 use Rattle.picture.specs.Tally.{tally1, tallyLen, tallyAll, noTally, tallyOf, trimmedOf, trimmedBy, Addable}
 
 -- ---- one number
@@ -89,7 +89,7 @@ bits-none = refl
 pub trailing-bits : (xs : List ℤ) → bitsOf xs ≡ trimmedCost xs + (length xs - length (trimmed xs))
 unfolding trimmed trimmedCost
 trailing-bits [] = omega (arith, bits-none)
-trailing-bits (x ∷ xs) = by x (trimmed xs) (trimmed-most xs) (trailing-bits xs)
+trailing-bits (x ∷ xs) = by x (trimmed xs) (length-trimmed xs) (trailing-bits xs)
   where
     by : (x : ℤ) (ts : List ℤ) → length ts ≤ length xs → bitsOf xs ≡ bitsOf ts + (length xs - length ts)
         → bitsOf (x ∷ xs) ≡ bitsOf (trimCons x ts) + (length (x ∷ xs) - length (trimCons x ts))
@@ -100,7 +100,7 @@ trailing-bits (x ∷ xs) = by x (trimmed xs) (trimmed-most xs) (trailing-bits xs
 
 module _ {xs : List ℤ} {t : Tally} (h : TallyOf xs t) where
   pub tally-keeps : (t .keep ≤ t .count) × (t .count - t .keep ≤ t .bits)
-  tally-keeps = (omega (arith, h .keep, h .count, trimmed-most xs), omega (arith, h .bits, h .count, h .keep, trailing-bits xs))
+  tally-keeps = (omega (arith, h .keep, h .count, length-trimmed xs), omega (arith, h .bits, h .count, h .keep, trailing-bits xs))
 
   pub tally-kept : t .bits - (t .count - t .keep) ≡ trimmedCost xs
   tally-kept = omega (arith, h .bits, h .count, h .keep, trailing-bits xs)

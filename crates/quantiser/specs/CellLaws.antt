@@ -11,8 +11,7 @@ use native.Mathlib.Decide.{decLt, ℕ-discrete}
 use lib.ListN.{length, getD, getElem?, take, drop, set, replicate, length-append, length-drop, getD-replicate, take-append-drop, List·getD-map}
 use lib.Seq.{paste, paste-suc, take-all}
 use borrow.Author.Tests.{lt-ltb, le-ltb, eq-eqb, ne-eqb}
-use Rattle.laws.specs.Rows.{span, total}
-use Rattle.quantiser.specs.TableLaws.{table}
+use Rattle.laws.specs.Rows.{span, total, table}
 use Rattle.quantiser.specs.AnnexD.{Table, tables, tableD8, andThen, tableOf, defaultMatrix}
 use Rattle.quantiser.specs.Default.{places, handed, defaultOf}
 use Rattle.quantiser.specs.Cells.{allTables, shape, startOf, cellOf, tableAt, matrixAt}

@@ -5,7 +5,6 @@ pub mod Step
 pub mod AnnexD
 pub mod Default
 pub mod Cells
-pub mod TableLaws
 pub mod CellLaws
 pub mod CapLaws
 pub mod SignLaws

@@ -2,13 +2,14 @@
 -- cap changes a coefficient below 2^53, and the bounds of factors and numbers.
 use mathlib.Core.Path.{_≡_, refl, sym, ap, _∙_}
 use Prim.Native.Nat.{ℕ, zero, suc, _+_, _*_, _/_, _%_, _^_, _≤_, _<_}
-use native.Mathlib.Nat.{mod-lt, div-add-mod', div-eq-of-lt, div-le-of-le-mul, mul-le-mul-right, suc-mul, zero-mul, mul-le-mul-left}
+use native.Mathlib.Nat.{mod-lt, div-add-mod', div-eq-of-lt, suc-mul, zero-mul, mul-le-mul-left}
 use native.Mathlib.Omega.{arith}
 use lib.IntN.{ℤ, pos, natAbs, _-ℤ_}
 use Rattle.quantiser.specs.Standard.{factor, offset, signed, inverseAbs, inverse}
 use Rattle.quantiser.specs.Quant.{cap, quantFactor, quantOffset, forwardBy, forwardQuant, cappedInverseAbs, inverseBy, inverseQuant}
-use Rattle.quantiser.specs.CapLaws.{cap-same, cap-le, quantFactor-zero, quantFactor-one, quantFactor-six, factor-same, offset-same}
+use Rattle.quantiser.specs.CapLaws.{cap-same, cap-le, cap-lt, quantFactor-zero, quantFactor-one, quantFactor-six, factor-same, offset-same}
 pub use Rattle.quantiser.specs.CapLaws.{factor-least, quantFactor-least, quantFactor-lt, quantOffset-lt}
+use Rattle.quantiser.specs.StepLaws.{over-more}
 use Rattle.quantiser.specs.SignLaws.{signed-zero, abs-signed, signed-abs, signed-signed, Near, near-signed}
 
 -- ---- numbers, of every coefficient
@@ -16,13 +17,14 @@ number-abs : (c : ℤ) (i : ℕ) → natAbs (forwardQuant c i) ≡ cap (4 * natA
 unfolding forwardQuant forwardBy
 number-abs c i = abs-signed c (cap (4 * natAbs c / quantFactor i))
 
--- four times m over a factor is at most m
-quotient-most : (m i : ℕ) → 4 * m / quantFactor i ≤ m
-quotient-most m i = div-le-of-le-mul (quantFactor i) (mul-le-mul-right m (quantFactor-least i))
+-- a quantised number is at most 2^63 in size
+pub number-most : (f : ℕ) (c : ℤ) → natAbs (forwardBy f c) ≤ 2 ^ 63
+unfolding forwardBy
+number-most f c = omega (arith, abs-signed c (cap (4 * natAbs c / f)), cap-lt (4 * natAbs c / f))
 
 pub number-size : (c : ℤ) (i : ℕ) → natAbs (forwardQuant c i) ≤ natAbs c
 number-size c i =
-    omega (arith, number-abs c i, cap-le (4 * natAbs c / quantFactor i), quotient-most (natAbs c) i)
+    omega (arith, number-abs c i, cap-le (4 * natAbs c / quantFactor i), over-more (natAbs c) (quantFactor i) (quantFactor-least i))
 
 pub forward-zero : (c : ℤ) (i : ℕ) → 4 * natAbs c < quantFactor i → forwardQuant c i ≡ pos 0
 unfolding forwardQuant forwardBy
@@ -91,7 +93,7 @@ module _ (c : ℤ) (i : ℕ) (h : natAbs c < 2 ^ 53) where
   -- the number, not capped
   pub number-is : forwardQuant c i ≡ signed c (4 * natAbs c / quantFactor i)
   unfolding forwardQuant forwardBy
-  number-is = ap (signed c) (cap-same (omega (arith, quotient-most (natAbs c) i)))
+  number-is = ap (signed c) (cap-same (omega (arith, over-more (natAbs c) (quantFactor i) (quantFactor-least i))))
 
   inverse-by : (g : ℕ → ℕ) → g 0 ≡ 0 → signed (forwardQuant c i) (g (natAbs (forwardQuant c i))) ≡ signed c (g (4 * natAbs c / quantFactor i))
   inverse-by g e = rw (number-is, abs-signed) (signed-through c g (4 * natAbs c / quantFactor i) e)

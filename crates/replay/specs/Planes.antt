@@ -43,7 +43,6 @@ pub record SidesFit (c : Component) (t : Transform) (n : ℕ) (l : List ℤ) : T
   pub room : 16384 ≤ length l
 
 side-le : (n side : ℕ) → n ≤ 10 → side ≤ 256 → paddedSide n side ≤ 65536
-unfolding paddedSide
 side-le n side hn hs =
     let p = pow-mono {i = n} {j = 10} hn in
     omega (arith, div-mul-le-self (side + (2 ^ n - 1)) (2 ^ n))

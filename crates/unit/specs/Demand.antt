@@ -1,7 +1,7 @@
 -- Demand 3: what the reader gives back of an accepted picture's unit. One statement about a call and the whole reading.
 use mathlib.Core.Path.{_≡_}
 use mathlib.Core.List.{List, [], _∷_, map}
-use Prim.Native.Nat.{ℕ, suc, _+_, _*_, _-_, _/_, _≤_, _<_}
+use Prim.Native.Nat.{ℕ, suc, _+_, _*_, _/_, _≤_, _<_}
 use lib.IntN.{pos, natAbs, _-ℤ_}
 use lib.ListN.{length, getD}
 use Rattle.codewords.specs.Read.{got}

@@ -2,7 +2,7 @@
 use mathlib.Core.Path.{_≡_, refl, sym, ap, ap₂, _∙_}
 use mathlib.Core.Bool.{Bool, true, false}
 use mathlib.Core.List.{List, [], _∷_, map}
-use mathlib.Core.Option.{Option, none, some}
+use mathlib.Core.Option.{Option, none, some, Option·getD}
 use Prim.Native.Nat.{ℕ, suc, _+_, _*_, _-_, _^_, _≤_, _<_, min}
 use native.Mathlib.Omega.{arith}
 use lib.IntN.{ℤ, pos, _+ℤ_}
@@ -25,7 +25,7 @@ use Rattle.unit.specs.declared.PictureKind.the-variants.{LowDelay, HighQ
 use Rattle.unit.specs.Three.{Three}
 use Rattle.unit.specs.Sizes.{Size, sizesOf, depthsOf, offsetOf}
 use Rattle.unit.specs.Subbands.{paddedSize}
-use Rattle.unit.specs.Matrix.{defaultOf, orNone, matrixValues, carriedMatrix}
+use Rattle.unit.specs.Matrix.{defaultOf, matrixValues, carriedMatrix}
 use Rattle.unit.specs.Refusal.{refusalOf}
 use Rattle.unit.specs.Parameters.{SliceParameters, Parameters, parameterBytes}
 use Rattle.unit.specs.Coefficients.{bandsOf, coefficientsOf}
@@ -69,7 +69,7 @@ values-of : (s : Settings) (m : List ℕ) (t : SliceParameters) → valuesIn (pa
 unfolding carriedMatrix matrixValues
 values-of s m t = by (s .«custom_matrix») (defaultOf s)
   where
-    by : (c : Bool) (d : Option (List ℕ)) → valuesBy (elim c [ true ↦ some m | false ↦ none ]) d ≡ elim c [ true ↦ m | false ↦ orNone d ]
+    by : (c : Bool) (d : Option (List ℕ)) → valuesBy (elim c [ true ↦ some m | false ↦ none ]) d ≡ elim c [ true ↦ m | false ↦ Option·getD d [] ]
     by true d = refl
     by false none = refl
     by false (some vs) = refl

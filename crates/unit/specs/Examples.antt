@@ -1,7 +1,7 @@
 -- Document 01's table of marked examples, proved together.
 use mathlib.Core.Path.{_≡_, refl, ap, _∙_}
-use mathlib.Core.Bool.{Bool, true, false, not, _&&_}
-use mathlib.Core.List.{List, [], _∷_, map, append-nil}
+use mathlib.Core.Bool.{Bool, false, not, and-false}
+use mathlib.Core.List.{List, [], _∷_, map, append-nil, flatten}
 use Prim.Native.Nat.{ℕ, _-_, _/_, _^_, _≤_, _<_}
 use native.Mathlib.Omega.{arith}
 use lib.Dec.{eqb, lit<}
@@ -23,7 +23,7 @@ use Rattle.unit.specs.declared.PictureKind.the-variants.{LowDelay}
 use Rattle.unit.specs.declared.RateControl.the-variants.{PictureBytes}
 use Rattle.unit.specs.Matrix.{matrixValues, carriedMatrix}
 use Rattle.unit.specs.Parameters.{extendedBits, parameterBits, parameterBytes}
-use Rattle.unit.specs.Unit.{majorVersion, gridOf, numeratorOf, planOf, joined, lengthOf}
+use Rattle.unit.specs.Unit.{majorVersion, gridOf, numeratorOf, planOf, lengthOf}
 use Rattle.unit.specs.Coefficients.{coefficientsOf}
 use Rattle.unit.specs.LowDelayLaws.{runs-fit, length-low}
 use Rattle.unit.specs.Three.{Three}
@@ -37,10 +37,6 @@ abbrev pub minus : ℕ → ℤ
 minus n = negℤ (pos n)
 
 -- ---- a row of one number, by any stages
-and-false : (a : Bool) → (a && false) ≡ false
-and-false true = refl
-and-false false = refl
-
 one-stage : (wr : ℤ → ℤ) (st : Stage) (plus : Bool) (z : ℤ) → lifted wr st plus (length (z ∷ []) / 2) (z ∷ []) ≡ z ∷ []
 unfolding lifted
 one-stage wr st plus z = rw (and-false (eqb 0 (st .to)))
@@ -85,7 +81,7 @@ low-bytes g m b n q z some =
 
 -- the unit's length, for a picture of any size and any planes
 one-slice : (r : Settings) (m : List ℕ) (p : Three (List ℕ)) → lengthOf (oneSlice r) (planOf (oneSlice r) m p) ≡ 52
-unfolding oneSlice lengthOf planOf joined lowSlices lowPlan numeratorOf numerator majorVersion carriedMatrix parameterBytes parameterBits extendedBits log2In log2 lit interleaved codeU sliceBytes
+unfolding oneSlice lengthOf planOf flatten lowSlices lowPlan numeratorOf numerator majorVersion carriedMatrix parameterBytes parameterBits extendedBits log2In log2 lit interleaved codeU sliceBytes
 one-slice r m p =
     let g = gridOf (oneSlice r) in
     let v = matrixValues (oneSlice r) m in

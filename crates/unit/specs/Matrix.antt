@@ -2,7 +2,7 @@
 -- D.
 use mathlib.Core.Bool.{true, false}
 use mathlib.Core.List.{List, []}
-use mathlib.Core.Option.{Option, none, some}
+use mathlib.Core.Option.{Option, none, some, Option·getD}
 use Prim.Native.Nat.{ℕ}
 use Rattle.quantiser.specs.AnnexD.{defaultMatrix}
 use Rattle.unit.specs.declared.Settings.{Settings}
@@ -11,13 +11,9 @@ use Rattle.unit.specs.declared.Settings.{Settings}
 abbrev pub defaultOf : Settings → Option (List ℕ)
 defaultOf s = defaultMatrix (s .«wavelet_index») (s .«wavelet_index_ho») (s .«dwt_depth») (s .«dwt_depth_ho»)
 
-abbrev pub orNone : Option (List ℕ) → List ℕ
-orNone none = []
-orNone (some vs) = vs
-
 -- the values in subband order; m is the lent matrix, which is looked at only where a custom one is asked for
 unfoldable pub matrixValues : Settings → List ℕ → List ℕ
-matrixValues s m = elim (s .«custom_matrix») [ true ↦ m | false ↦ orNone (defaultOf s) ]
+matrixValues s m = elim (s .«custom_matrix») [ true ↦ m | false ↦ Option·getD (defaultOf s) [] ]
 
 -- the custom matrix that the unit carries, if any
 unfoldable pub carriedMatrix : Settings → List ℕ → Option (List ℕ)

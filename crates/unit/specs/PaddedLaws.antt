@@ -1,11 +1,12 @@
 -- Laws of padded sides: each is a multiple of its power of 2, not below the side and less than that power above it.
 use mathlib.Core.Path.{_≡_}
-use Prim.Native.Nat.{ℕ, _+_, _-_, _/_, _%_, _^_, _≤_, _<_}
+use Prim.Native.Nat.{ℕ, zero, suc, _+_, _-_, _/_, _%_, _^_, _≤_, _<_}
 use native.Mathlib.Nat.{div-add-mod', mod-lt, mul-mod-left, mul-le-mul, mul-le-mul-right}
 use native.Mathlib.Omega.{arith}
 use lib.Pow.{pow-pos}
 use Rattle.laws.specs.Ceiling.{roundedUp}
 use Rattle.wavelet.specs.Planes.{Padded}
+use Rattle.wavelet.specs.PadLaws.{padded-sides}
 use Rattle.unit.specs.Sizes.{Size, area}
 use Rattle.unit.specs.Subbands.{paddedSize}
 use Rattle.unit.specs.SliceLaws.{div-rises}
@@ -25,6 +26,16 @@ rounded m n p =
 pub rounded-mono : (m : ℕ) {a b : ℕ} → a ≤ b → roundedUp m a ≤ roundedUp m b
 rounded-mono m {a} {b} h = let l : a + (m - 1) ≤ b + (m - 1) = omega arith in mul-le-mul-right m (div-rises m l)
 
+-- a side of at most 65535 is padded to at most 65536
+pub rounded-few : (j n : ℕ) → j ≤ 5 → n ≤ 65535 → roundedUp (2 ^ j) n ≤ 65536
+rounded-few zero n h l = omega arith
+rounded-few (suc zero) n h l = omega arith
+rounded-few (suc (suc zero)) n h l = omega arith
+rounded-few (suc (suc (suc zero))) n h l = omega arith
+rounded-few (suc (suc (suc (suc zero)))) n h l = omega arith
+rounded-few (suc (suc (suc (suc (suc zero))))) n h l = omega arith
+rounded-few (suc (suc (suc (suc (suc (suc j)))))) n h l = absurd (omega arith)
+
 -- ---- a component of size z, by horizontal-only depth k and depth d
 pub padded-wide : (k d : ℕ) (z : Size) → Rounded (2 ^ (k + d)) (z .width) (paddedSize k d z .width)
 unfolding paddedSize
@@ -35,7 +46,8 @@ unfolding paddedSize
 padded-high k d z = rounded (2 ^ d) (z .height) (pow-pos d)
 
 pub padded-is : (k d : ℕ) (z : Size) → Padded k d (paddedSize k d z .height) (paddedSize k d z .width)
-padded-is k d z = record { high = padded-high k d z .whole; wide = padded-wide k d z .whole }
+unfolding paddedSize
+padded-is k d z = padded-sides k d (z .width) (z .height)
 
 -- a smaller component has no larger padded area
 pub padded-mono : (k d : ℕ) (c z : Size) → c .width ≤ z .width → c .height ≤ z .height → area (paddedSize k d c) ≤ area (paddedSize k d z)

@@ -2,10 +2,12 @@
 use mathlib.Core.Bool.{Bool, true, false, not, cond}
 use mathlib.Core.List.{List, [], _∷_, _++_}
 use mathlib.Core.Option.{Option, none, some}
-use Prim.Native.Nat.{ℕ, _+_, _/_, _%_, _-_}
+use Prim.Native.Nat.{ℕ}
 use lib.Dec.{eqb, leb}
 use lib.ListN.{length}
+use Rattle.laws.specs.Ceiling.{ceiling}
 use Rattle.codewords.specs.Bit.{Bits, zeroBits}
+use Rattle.codewords.specs.Bytes.{padding}
 use Rattle.codewords.specs.Code.{codeU}
 
 -- 12.4.5.2: what slices are sized by
@@ -56,8 +58,8 @@ parameterBits version t =
 
 -- zeros that fill the last byte of n bits
 abbrev pub fill : ℕ → Bits
-fill n = zeroBits ((8 - n % 8) % 8)
+fill n = zeroBits (padding n)
 
 -- how many bytes the transform parameters take
 unfoldable pub parameterBytes : ℕ → Parameters → ℕ
-parameterBytes version t = (length (parameterBits version t) + 7) / 8
+parameterBytes version t = ceiling (length (parameterBits version t)) 8

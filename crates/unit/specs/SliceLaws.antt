@@ -5,13 +5,12 @@ use mathlib.Core.List.{List, [], _∷_, _++_, map}
 use Prim.Native.Nat.{ℕ, zero, suc, _+_, _*_, _-_, _/_, _%_, _^_, _≤_}
 use native.Mathlib.Omega.{arith}
 use native.Mathlib.Nat.{zero-lt-suc, div-zero, div-le-of-le-mul, le-div-iff-mul-le, div-mul-le-self, le-trans, mul-le-mul, mul-le-mul-left, mul-comm, mul-suc, add-mul-div-right}
-use lib.IntN.{ℤ, pos, negsuc, natAbs}
+use lib.IntN.{ℤ, natAbs}
 use lib.ListN.{length, length-append}
 use Rattle.laws.specs.Rows.{span, length-span}
 use Rattle.laws.specs.Plane.{Plane}
-use Rattle.laws.specs.Integer.{abs-neg}
-use Rattle.quantiser.specs.Quant.{cap, quantFactor, forwardBy, forwardQuant}
-use Rattle.quantiser.specs.CapLaws.{cap-lt}
+use Rattle.quantiser.specs.Quant.{quantFactor, forwardQuant}
+use Rattle.quantiser.specs.QuantLaws.{number-most}
 use Rattle.wavelet.specs.Planes.{Band}
 use Rattle.unit.specs.Sizes.{Size, area}
 use Rattle.unit.specs.Slices.{bound, region, Grid, part, partSize}
@@ -56,9 +55,8 @@ count-most g (z ∷ zs) k = omega (arith, partSize-most g z k, count-most g zs k
 
 -- ---- numbers: how many, and how large
 quant-small : (c : ℤ) (i : ℕ) → natAbs (forwardQuant c i) ≤ 2 ^ 63
-unfolding forwardQuant forwardBy
-quant-small (pos n) i = omega (arith, cap-lt (4 * n / quantFactor i))
-quant-small (negsuc n) i = let c : ℕ = 4 * suc n / quantFactor i in omega (arith, abs-neg (pos (cap c)), cap-lt c)
+unfolding forwardQuant
+quant-small c i = number-most (quantFactor i) c
 
 -- n numbers of magnitudes at most 2^63
 pub record Counted (n : ℕ) (xs : List ℤ) : Type 0 where

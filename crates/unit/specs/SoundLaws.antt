@@ -1,6 +1,6 @@
 -- The plan of an accepted call is sound: its parameters are legal, and its slices can be read.
 use mathlib.Core.Path.{_≡_, refl, sym, ap, ap₂, _∙_, subst}
-use mathlib.Core.List.{List, [], _∷_, map}
+use mathlib.Core.List.{List, [], _∷_, map, flatten}
 use Prim.Native.Nat.{ℕ, zero, suc, _+_, _*_, _-_, _^_, _≤_, _<_}
 use native.Mathlib.Omega.{arith}
 use native.Mathlib.Nat.{le-trans, zero-div, zero-mod}
@@ -27,7 +27,7 @@ use Rattle.unit.specs.Quantised.{sizeOf}
 use Rattle.unit.specs.Plan.{SlicePlan, Plan}
 use Rattle.unit.specs.LowDelay.{sliceBytes, lowNumbers, lowIndex, lowPlanOf, lowPlan, lowSlices, lowLeft, zeroPlanes}
 use Rattle.unit.specs.HighQuality.{highBits, sliceSize, shareOf, highNumbers, highPlan, largestNeed}
-use Rattle.unit.specs.Unit.{majorVersion, gridOf, parametersBy, targetOf, lowParameters, highParameters, numeratorOf, highBytes, highSlicesOf, scalerOf, planBy, planOf, sliceRuns, joined, lengthOf}
+use Rattle.unit.specs.Unit.{majorVersion, gridOf, parametersBy, targetOf, lowParameters, highParameters, numeratorOf, highBytes, highSlicesOf, scalerOf, planBy, planOf, sliceRuns, lengthOf}
 use Rattle.unit.specs.Reader.{SliceRead, numberCount, readLow, readHigh, gridIn, countsIn}
 use Rattle.unit.specs.Demand.{bytesOf, SameSlices, Bytes}
 use Rattle.unit.specs.Valid.{RateFits, Valid}
@@ -59,7 +59,7 @@ countsOf g b k = record {
   c2 = numberCount g (map sizeOf (b .c2)) k;
 }
 
-three : {A : Type 0} {t u : Three A} → t .y ≡ u .y → t .c1 ≡ u .c1 → t .c2 ≡ u .c2 → t ≡ u
+pub three : {A : Type 0} {t u : Three A} → t .y ≡ u .y → t .c1 ≡ u .c1 → t .c2 ≡ u .c2 → t ≡ u
 three p q r = λ i. record { y = p i; c1 = q i; c2 = r i }
 
 -- the reader counts the numbers that the encoder has
@@ -144,10 +144,10 @@ module _ (s : Settings) (m : List ℕ) (b : Three (List Band)) where
       (16 * paddedArea s (lumaSize s)) (s .«slice_size_scaler») (omega arith)
 
 -- ---- bytes
-length-runs : (ss : List SlicePlan) → length (joined (sliceRuns ss)) ≡ total (map bytesOf ss)
-unfolding joined
+length-runs : (ss : List SlicePlan) → length (flatten (sliceRuns ss)) ≡ total (map bytesOf ss)
+unfolding flatten
 length-runs [] = refl
-length-runs (a ∷ ss) = length-append (toBytes (a .bits)) (joined (sliceRuns ss)) ∙ ap₂ _+_ (length-toBytes (a .bits)) (length-runs ss)
+length-runs (a ∷ ss) = length-append (toBytes (a .bits)) (flatten (sliceRuns ss)) ∙ ap₂ _+_ (length-toBytes (a .bits)) (length-runs ss)
 
 -- a unit is its overhead and its slices' bytes
 pub length-is : (s : Settings) (a : Plan) → lengthOf s a ≡ 17 + parameterBytes (majorVersion s) (a .parameters) + total (map bytesOf (a .slices))

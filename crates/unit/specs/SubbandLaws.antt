@@ -2,19 +2,20 @@
 use mathlib.Core.Path.{_≡_, refl, sym, ap, ap₂, _∙_}
 use mathlib.Core.Bool.{cond}
 use mathlib.Core.List.{List, [], _∷_, _++_, map, map-append, append-assoc, append-nil}
-use Prim.Native.Nat.{ℕ, zero, suc, _+_, _*_, _-_, _/_, _^_, _≤_, _<_}
+use Prim.Native.Nat.{ℕ, zero, suc, _+_, _*_, _-_, _/_, _≤_, _<_}
 use native.Mathlib.Omega.{arith}
-use native.Mathlib.Nat.{div-div-eq-div-mul, pow-succ', div-one, mul-le-mul, mul-le-mul-right, mul-right-comm, mul-mul-mul-comm}
+use native.Mathlib.Nat.{div-one, mul-le-mul, mul-le-mul-right, mul-right-comm, mul-mul-mul-comm}
 use borrow.Author.Tests.{ne-eqb, le-leb, lt-leb}
 use lib.Dec.{eqb, leb}
 use lib.IntN.{ℤ}
-use Rattle.laws.specs.Rows.{span, span-ext, span-suc}
+use Rattle.laws.specs.Rows.{total, span, span-ext, span-suc}
 use Rattle.laws.specs.Plane.{Plane}
+use Rattle.codewords.specs.BitLaws.{half-power}
 use Rattle.wavelet.specs.Lifting.{exact}
 use Rattle.wavelet.specs.Planes.{dwtH, dwt, hPass, vhPass, partH, part}
 use Rattle.unit.specs.declared.Settings.{Settings}
 use Rattle.unit.specs.Sizes.{Size, area}
-use Rattle.unit.specs.Subbands.{paddedSize, subbandSize, triples, subbandSizes}
+use Rattle.unit.specs.Subbands.{paddedSize, levelSize, subbandSize, triples, subbandSizes}
 use Rattle.unit.specs.Coefficients.{bandsOf}
 use Rattle.unit.specs.Quantised.{sizeOf}
 
@@ -34,16 +35,10 @@ triples-suc {A} f n (suc m) =
 -- ---- sizes by level
 -- the size of a level's subbands, by the padded sides h and w
 unfoldable sizeBy : ℕ → ℕ → ℕ → ℕ → ℕ → Size
-sizeBy k d h w level = record {
-  width = cond (eqb level 0) (w / 2 ^ (k + d)) (w / 2 ^ (k + d - level + 1));
-  height = cond (leb level k) (h / 2 ^ d) (h / 2 ^ (k + d - level + 1));
-}
+sizeBy k d h w level = levelSize k d (record { width = w; height = h }) level
 
 abbrev sizesBy : ℕ → ℕ → ℕ → ℕ → List Size
 sizesBy k d h w = sizeBy k d h w 0 ∷ (span (sizeBy k d h w) 1 k ++ triples (sizeBy k d h w) (suc k) d)
-
-halved : (n e : ℕ) → n / 2 ^ suc e ≡ n / 2 / 2 ^ e
-halved n e = ap (λ (m : ℕ). n / m) (pow-succ' 2 e) ∙ sym (div-div-eq-div-mul n 2 (2 ^ e))
 
 size-path : {a b : Size} → a .width ≡ b .width → a .height ≡ b .height → a ≡ b
 size-path p q = λ i. record { width = p i; height = q i }
@@ -54,8 +49,8 @@ unfolding sizeBy
 deeper k d h w level l =
     let a : k + suc d ≡ suc (k + d) = omega arith in
     let b : k + suc d - level + 1 ≡ suc (k + d - level + 1) = omega arith in
-    size-path (rw (b, a) (ap₂ (cond (eqb level 0)) (halved w (k + d)) (halved w (k + d - level + 1))))
-    (rw b (ap₂ (cond (leb level k)) (halved h d) (halved h (k + d - level + 1))))
+    size-path (rw (b, a) (ap₂ (cond (eqb level 0)) (half-power w (k + d)) (half-power w (k + d - level + 1))))
+    (rw b (ap₂ (cond (leb level k)) (half-power h d) (half-power h (k + d - level + 1))))
 
 deeper-last : (k d h w : ℕ) → sizeBy k (suc d) h w (suc k + d) ≡ record { width = w / 2; height = h / 2 }
 unfolding sizeBy
@@ -69,7 +64,7 @@ unfolding sizeBy
 wider k h w level l =
     let a : suc k + 0 ≡ suc (k + 0) = omega arith in
     let b : suc k + 0 - level + 1 ≡ suc (k + 0 - level + 1) = omega arith in
-    size-path (rw (b, a) (ap₂ (cond (eqb level 0)) (halved w (k + 0)) (halved w (k + 0 - level + 1))))
+    size-path (rw (b, a) (ap₂ (cond (eqb level 0)) (half-power w (k + 0)) (half-power w (k + 0 - level + 1))))
     (rw (le-leb level k l, le-leb level (suc k) (omega arith)))
 
 wider-last : (k h w : ℕ) → sizeBy (suc k) 0 h w (1 + k) ≡ record { width = w / 2; height = h }
@@ -135,8 +130,7 @@ sizes-of s z d samples = sizes-same (s .«dwt_depth_ho») (s .«dwt_depth») z (
 -- ---- how many numbers
 -- the numbers of subbands of these sizes
 abbrev pub areas : List Size → ℕ
-areas [] = 0
-areas (z ∷ zs) = area z + areas zs
+areas zs = total (map area zs)
 
 areas-append : (xs ys : List Size) → areas (xs ++ ys) ≡ areas xs + areas ys
 areas-append [] ys = omega arith

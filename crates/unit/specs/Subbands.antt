@@ -3,22 +3,24 @@ use mathlib.Core.Bool.{cond}
 use mathlib.Core.List.{List, [], _∷_, _++_}
 use Prim.Native.Nat.{ℕ, zero, suc, _+_, _*_, _-_, _/_, _^_}
 use lib.Dec.{eqb, leb}
-use Rattle.laws.specs.Ceiling.{roundedUp}
 use Rattle.laws.specs.Rows.{span}
+use Rattle.wavelet.specs.Pad.{paddedSide}
 use Rattle.unit.specs.Sizes.{Size}
 
 -- a component's padded size
 unfoldable pub paddedSize : ℕ → ℕ → Size → Size
-paddedSize k d z = record { width = roundedUp (2 ^ (k + d)) (z .width); height = roundedUp (2 ^ d) (z .height) }
+paddedSize k d z = record { width = paddedSide (k + d) (z .width); height = paddedSide d (z .height) }
 
--- the size of the subbands of a level, of a component of size z: subband_width and subband_height
+-- the size of the subbands of a level, of a component padded to size p: subband_width and subband_height
+abbrev pub levelSize : ℕ → ℕ → Size → ℕ → Size
+levelSize k d p level = record {
+  width = cond (eqb level 0) (p .width / 2 ^ (k + d)) (p .width / 2 ^ (k + d - level + 1));
+  height = cond (leb level k) (p .height / 2 ^ d) (p .height / 2 ^ (k + d - level + 1));
+}
+
+-- the same of a component of size z
 unfoldable pub subbandSize : ℕ → ℕ → Size → ℕ → Size
-subbandSize k d z level =
-    let p = paddedSize k d z in
-    record {
-      width = cond (eqb level 0) (p .width / 2 ^ (k + d)) (p .width / 2 ^ (k + d - level + 1));
-      height = cond (leb level k) (p .height / 2 ^ d) (p .height / 2 ^ (k + d - level + 1));
-    }
+subbandSize k d z level = levelSize k d (paddedSize k d z) level
 
 -- f n, three times, then f (n + 1) ..: m of them
 abbrev pub triples : {A : Type 0} → (ℕ → A) → ℕ → ℕ → List A

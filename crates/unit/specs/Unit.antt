@@ -1,6 +1,6 @@
 -- The unit that a call writes: document 01, "Slices and unit".
 use mathlib.Core.Bool.{Bool, true, false, not, _||_}
-use mathlib.Core.List.{List, [], _∷_, _++_, map}
+use mathlib.Core.List.{List, _++_, map, flatten}
 use Prim.Native.Nat.{ℕ, _+_, _*_, _-_}
 use lib.Dec.{eqb}
 use lib.ListN.{length}
@@ -101,10 +101,6 @@ parseCode HighQuality = 0xE8
 abbrev pub sliceRuns : List SlicePlan → List (List ℕ)
 sliceRuns ss = map (λ p. toBytes (p .bits)) ss
 
-unfoldable pub joined : List (List ℕ) → List ℕ
-joined [] = []
-joined (r ∷ rs) = r ++ joined rs
-
 -- parse information (the next length is the unit's), picture number and transform parameters
 unfoldable pub headBits : Settings → ℕ → Parameters → Bits
 headBits s n t =
@@ -114,8 +110,8 @@ headBits s n t =
 
 -- the length of the unit
 unfoldable pub lengthOf : Settings → Plan → ℕ
-lengthOf s a = 17 + parameterBytes (majorVersion s) (a .parameters) + length (joined (sliceRuns (a .slices)))
+lengthOf s a = 17 + parameterBytes (majorVersion s) (a .parameters) + length (flatten (sliceRuns (a .slices)))
 
 -- the unit: its head, and the slices' bytes
 unfoldable pub unitOf : Settings → Plan → List ℕ
-unitOf s a = let rs = joined (sliceRuns (a .slices)) in toBytes (headBits s (lengthOf s a) (a .parameters)) ++ rs
+unitOf s a = let rs = flatten (sliceRuns (a .slices)) in toBytes (headBits s (lengthOf s a) (a .parameters)) ++ rs

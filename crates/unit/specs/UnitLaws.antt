@@ -1,7 +1,7 @@
 -- The reading of a unit made of a sound plan: nothing stops it, and it ends at the last byte.
 use mathlib.Core.Path.{_≡_, refl, sym, ap, ap₂, _∙_}
 use mathlib.Core.Bool.{Bool, true, false, _||_}
-use mathlib.Core.List.{List, [], _∷_, _++_, append-assoc}
+use mathlib.Core.List.{List, [], _∷_, _++_, append-assoc, flatten}
 use Prim.Native.Nat.{ℕ, suc, _+_, _*_, _-_, _/_, _%_, _^_, _<_}
 use native.Mathlib.Omega.{arith}
 use lib.Dec.{T, eqb, eqb-refl}
@@ -21,7 +21,7 @@ use Rattle.unit.specs.Slices.{sliceCount}
 use Rattle.unit.specs.Parameters.{Parameters, parameterBits, parameterBytes, fill}
 use Rattle.unit.specs.ParameterLaws.{reads-parameters}
 use Rattle.unit.specs.Plan.{SlicePlan, Plan}
-use Rattle.unit.specs.Unit.{majorVersion, parseCode, sliceRuns, joined, headBits, lengthOf, unitOf}
+use Rattle.unit.specs.Unit.{majorVersion, parseCode, sliceRuns, headBits, lengthOf, unitOf}
 use Rattle.unit.specs.Reader.{SliceRead, Reading, readParameters, SliceNumbers, bitsLeft, readSlice, readEach, gridIn, countsIn, kindOf, readEnd, readPicture, readUnit}
 use Rattle.unit.specs.Demand.{bytesOf, SameSlices, Follow}
 use Rattle.unit.specs.Sound.{SoundSlice, SoundSlices, Legal, Sound}
@@ -41,10 +41,10 @@ abbrev AllFull : List SlicePlan → Type 0
 AllFull [] = Unit {0}
 AllFull (a ∷ more) = Full (a .bits) × AllFull more
 
-from-joined : (ss : List SlicePlan) → AllFull ss → fromBytes (joined (sliceRuns ss)) ≡ allBits ss
-unfolding joined fromBytes allBits
+from-joined : (ss : List SlicePlan) → AllFull ss → fromBytes (flatten (sliceRuns ss)) ≡ allBits ss
+unfolding flatten fromBytes allBits
 from-joined [] f = refl
-from-joined (a ∷ more) f = from-append (toBytes (a .bits)) (joined (sliceRuns more)) ∙ ap₂ _++_ (from-to (a .bits) (f .0)) (from-joined more (f .1))
+from-joined (a ∷ more) f = from-append (toBytes (a .bits)) (flatten (sliceRuns more)) ∙ ap₂ _++_ (from-to (a .bits) (f .0)) (from-joined more (f .1))
 
 full-all : (ss : List SlicePlan) → AllFull ss → Full (allBits ss)
 unfolding allBits
@@ -184,17 +184,17 @@ readingOf s a = record {
   slices = readsFrom (17 + parameterBytes (majorVersion s) (a .parameters)) (a .slices);
 }
 
-length-runs : (ss : List SlicePlan) → AllFull ss → 8 * length (joined (sliceRuns ss)) ≡ length (allBits ss)
-unfolding joined allBits
+length-runs : (ss : List SlicePlan) → AllFull ss → 8 * length (flatten (sliceRuns ss)) ≡ length (allBits ss)
+unfolding flatten allBits
 length-runs [] f = refl
 length-runs (a ∷ more) f =
-    omega (arith, length-append (toBytes (a .bits)) (joined (sliceRuns more)), length-append (a .bits) (allBits more), length-toBytes (a .bits), f .0 .full, length-runs more (f .1))
+    omega (arith, length-append (toBytes (a .bits)) (flatten (sliceRuns more)), length-append (a .bits) (allBits more), length-toBytes (a .bits), f .0 .full, length-runs more (f .1))
 
 pub length-unit : (s : Settings) (a : Plan) → length (unitOf s a) ≡ lengthOf s a
 unfolding unitOf lengthOf
 length-unit s a =
-    let h = headBits s (17 + parameterBytes (majorVersion s) (a .parameters) + length (joined (sliceRuns (a .slices)))) (a .parameters) in
-    omega (arith, length-append (toBytes h) (joined (sliceRuns (a .slices))), length-toBytes h, length-head s (17 + parameterBytes (majorVersion s) (a .parameters) + length (joined (sliceRuns (a .slices)))) (a .parameters))
+    let h = headBits s (17 + parameterBytes (majorVersion s) (a .parameters) + length (flatten (sliceRuns (a .slices)))) (a .parameters) in
+    omega (arith, length-append (toBytes h) (flatten (sliceRuns (a .slices))), length-toBytes h, length-head s (17 + parameterBytes (majorVersion s) (a .parameters) + length (flatten (sliceRuns (a .slices)))) (a .parameters))
 
 module _ (s : Settings) (a : Plan) (o : Sound s a) where
   pub fulls : AllFull (a .slices)
@@ -207,7 +207,7 @@ module _ (s : Settings) (a : Plan) (o : Sound s a) where
       ++ (bits ++ (fill (length bits) ++ allBits (a .slices)))))))
   unfolding unitOf headBits
   unit-bits =
-      from-append (toBytes (headBits s (lengthOf s a) (a .parameters))) (joined (sliceRuns (a .slices)))
+      from-append (toBytes (headBits s (lengthOf s a) (a .parameters))) (flatten (sliceRuns (a .slices)))
       ∙ ap₂ _++_ (from-to (headBits s (lengthOf s a) (a .parameters)) (full-head s (lengthOf s a) (a .parameters))) (from-joined (a .slices) fulls)
       ∙ simp append-assoc
 
@@ -232,10 +232,10 @@ same-slices n [] = tt
 same-slices n (a ∷ more) = (record { index = refl; numbers = refl; bytes = refl }, same-slices (n + bytesOf a) more)
 
 -- each begins where the last one ended
-pub follow-on : (n : ℕ) (ss : List SlicePlan) → AllFull ss → Follow n (readsFrom n ss) (n + length (joined (sliceRuns ss)))
-unfolding readsFrom joined
+pub follow-on : (n : ℕ) (ss : List SlicePlan) → AllFull ss → Follow n (readsFrom n ss) (n + length (flatten (sliceRuns ss)))
+unfolding readsFrom flatten
 follow-on n [] f = omega arith
 follow-on n (a ∷ more) f =
-    let e : n + bytesOf a + length (joined (sliceRuns more)) ≡ n + length (toBytes (a .bits) ++ joined (sliceRuns more)) =
-    omega (arith, length-append (toBytes (a .bits)) (joined (sliceRuns more)), length-toBytes (a .bits)) in
+    let e : n + bytesOf a + length (flatten (sliceRuns more)) ≡ n + length (toBytes (a .bits) ++ flatten (sliceRuns more)) =
+    omega (arith, length-append (toBytes (a .bits)) (flatten (sliceRuns more)), length-toBytes (a .bits)) in
     (refl, rw e at (follow-on (n + bytesOf a) more (f .1)))

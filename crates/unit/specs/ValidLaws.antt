@@ -5,7 +5,7 @@ use mathlib.Core.Logic.{_↔_}
 use mathlib.Core.Bool.{Bool, true, false, not, _&&_, _||_}
 use mathlib.Core.List.{List, [], _∷_}
 use mathlib.Core.Option.{Option, none, some}
-use Prim.Native.Nat.{ℕ, zero, suc, _+_, _*_, _≤_, _<_}
+use Prim.Native.Nat.{ℕ, zero, suc, _+_, _*_, _^_, _≤_, _<_}
 use native.Mathlib.Nat.{mul-zero, mul-pos, mul-comm, le-trans}
 use native.Mathlib.Omega.{arith}
 use lib.Dec.{eqb, ltb}
@@ -21,14 +21,13 @@ use Rattle.unit.specs.Three.{Three}
 use Rattle.unit.specs.Sizes.{Size, area, halvedIf, fields, lumaSize, colourSize, depthsOf}
 use Rattle.unit.specs.Subbands.{paddedSize, subbandCount}
 use Rattle.unit.specs.Slices.{sliceCount}
-use Rattle.unit.specs.Matrix.{defaultOf, orNone, matrixValues, carriedMatrix}
+use Rattle.unit.specs.Matrix.{defaultOf, carriedMatrix}
 use Rattle.unit.specs.Refusal.{noTarget, badIndex, badTarget, anyAbove, isNone, paddedArea, workNeeded, broken, firstFrom, refusalOf}
 use Rattle.unit.specs.Valid.{Between, RateFits, MatrixFits, Valid}
 use Rattle.unit.specs.Parameters.{SliceParameters}
-use Rattle.unit.specs.Unit.{versionBy, majorVersion, gridOf, parametersBy}
+use Rattle.unit.specs.Unit.{versionBy, majorVersion, gridOf, parametersBy, targetOf}
 use Rattle.unit.specs.Sound.{SliceFits, CarriedFits, Legal}
 use Rattle.unit.specs.Intlog2Laws.{depth-range}
-use Rattle.unit.specs.MatrixLaws.{Matrix, MatrixIf, default-matrix}
 use Rattle.unit.specs.PaddedLaws.{padded-wide, padded-high, padded-mono}
 use Rattle.unit.specs.TestLaws.{no-truth, or-none, both, at-most, same, some-of, between, all-most}
 
@@ -45,6 +44,15 @@ rate-fits LowDelay (PictureBytes n) = (λ h. at-most 1073741824 n .0 (h .bytes),
 rate-fits HighQuality Lossless = (λ h. tt, λ h. record { target = refl; index = refl; bytes = refl })
 rate-fits HighQuality (FixedQuantIndex q) = (λ h. at-most 255 q .0 (h .index), λ h. record { target = refl; index = at-most 255 q .1 h; bytes = refl })
 rate-fits HighQuality (PictureBytes n) = (λ h. at-most 1073741824 n .0 (h .bytes), λ h. record { target = refl; index = refl; bytes = at-most 1073741824 n .1 h })
+
+-- a target is at most 2^30 bytes
+pub target-few : (k : PictureKind) (r : RateControl) → RateFits k r → targetOf r ≤ 2 ^ 30
+target-few LowDelay Lossless h = absurd h
+target-few LowDelay (FixedQuantIndex q) h = absurd h
+target-few LowDelay (PictureBytes n) h = omega arith
+target-few HighQuality Lossless h = omega arith
+target-few HighQuality (FixedQuantIndex q) h = omega arith
+target-few HighQuality (PictureBytes n) h = omega arith
 
 -- rules 9 and 10 are not broken
 record MatrixKept (n : ℕ) (m : List ℕ) (custom : Bool) (d : Option (List ℕ)) : Type 0 where
@@ -237,20 +245,6 @@ module _ {s : Settings} {m : List ℕ} {p : Three (List ℕ)} {work : List ℤ} 
   }
 
   -- ---- the matrix
-  pub matrix-values : Matrix (subbandCount (s .«dwt_depth_ho») (s .«dwt_depth»)) (matrixValues s m)
-  unfolding matrixValues
-  matrix-values =
-      by (s .«custom_matrix») (defaultOf s) (v .matrix)
-      (default-matrix (s .«dwt_depth») (s .«dwt_depth_ho») (s .«wavelet_index») (s .«wavelet_index_ho»))
-    where
-      n : ℕ
-      n = subbandCount (s .«dwt_depth_ho») (s .«dwt_depth»)
-
-      by : (c : Bool) (d : Option (List ℕ)) → MatrixFits s m c d → MatrixIf n d → Matrix n (elim c [ true ↦ m | false ↦ orNone d ])
-      by true d h g = record { many = h .0; small = h .1 }
-      by false none h g = absurd h
-      by false (some vs) h g = g
-
   carried-fits : CarriedFits (subbandCount (s .«dwt_depth_ho») (s .«dwt_depth»)) (carriedMatrix s m) (defaultOf s)
   unfolding carriedMatrix
   carried-fits = by (s .«custom_matrix») (defaultOf s) (v .matrix)

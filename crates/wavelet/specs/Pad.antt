@@ -18,7 +18,7 @@ abbrev pub padded : List ℕ → ℕ → ℕ → ℕ → Plane
 padded s o w h y x = centred o (getD s (min y (h - 1) * w + min x (w - 1)) 0)
 
 -- a side, padded up to a multiple of 2 ^ n
-unfoldable pub paddedSide : ℕ → ℕ → ℕ
+abbrev pub paddedSide : ℕ → ℕ → ℕ
 paddedSide n side = roundedUp (2 ^ n) side
 
 -- the coefficients of a component, in the stream's order: rows by filter i, columns by filter j, k horizontal-only

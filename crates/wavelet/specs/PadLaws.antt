@@ -101,7 +101,6 @@ centred-is o s ho hs = toZ-ofZ (centred-fits o s ho hs) ∙ ap₂ _-ℤ_ (cast-i
 
 -- ---- padded sides
 pub padded-sides : (k d w h : ℕ) → Padded k d (paddedSide d h) (paddedSide (k + d) w)
-unfolding paddedSide
 padded-sides k d w h = record { high = mul-mod-left ((h + (2 ^ d - 1)) / 2 ^ d) (2 ^ d); wide = mul-mod-left ((w + (2 ^ (k + d) - 1)) / 2 ^ (k + d)) (2 ^ (k + d)) }
 
 pub scale-le : (n : ℕ) → n ≤ 16 → (1 ≤ 2 ^ n) × (2 ^ n ≤ 65536)

@@ -1,6 +1,6 @@
 -- The wrapped product of two 64-bit numbers, by halves of 32 bits; a tap times the wrapped sum of two numbers.
 use mathlib.Core.Path.{_≡_, sym, ap, _∙_}
-use Prim.Native.Nat.{ℕ, suc, _+_, _*_, _-_, _/_, _%_, _^_, _≤_, _<_}
+use Prim.Native.Nat.{ℕ, suc, _+_, _*_, _-_, _/_, _%_, _^_}
 use native.Mathlib.Omega.{arith}
 use native.Mathlib.Nat.{add-mul, mul-add, mul-assoc, mul-comm, mul-right-comm, mul-left-comm, mul-le-mul, mul-sub, div-add-mod'}
 use lib.IntN.{ℤ, pos, negsuc, negℤ, _+ℤ_, _*ℤ_, +ℤ-comm}
@@ -8,12 +8,6 @@ use mir.Syntax.{w64}
 use mir.Val.{SFits, toZ, ofZ}
 use Rattle.laws.specs.Integer.{up, dn, neg-law, times-law, Lin, var, _⊞_, by-parts}
 use Rattle.laws.specs.Wrap.{wrap, wraps, unique, wrap-add, wrap-bits, neg-mul}
-
-pub half-product : (x y : ℕ) → x < 2 ^ 32 → y < 2 ^ 32 → x * y < 2 ^ 64
-half-product x y hx hy =
-    let a : x ≤ 2 ^ 32 - 1 = omega arith in
-    let b : y ≤ 2 ^ 32 - 1 = omega arith in
-    omega (arith, mul-le-mul a b)
 
 pub by-halves : (x y : ℕ)
     → ((x % 2 ^ 32 * (y / 2 ^ 32) + y % 2 ^ 32 * (x / 2 ^ 32)) % 2 ^ 64 * 2 ^ 32 % 2 ^ 64 + x % 2 ^ 32 * (y % 2 ^ 32)) % 2 ^ 64 ≡ x * y % 2 ^ 64

@@ -1,6 +1,5 @@
 -- `replay::replay` is safe and ends: the turns that are left fall.
 use mathlib.Core.Path.{_≡_}
-use Prim.Native.Nat.{_-_}
 use lib.ListN.{length}
 use borrow.Author.Needs.{needs}
 use native.Mathlib.Omega.{arith}

@@ -2,7 +2,8 @@
 use contract.Running.{givenOf, tables, tablesOf}
 use denote.Triple.Spec.{tripleOf}
 use denote.Triple.Table.{entered, cited}
-use Rattle.codewords.specs.Writer.{Room, Aligns, padding}
+use Rattle.codewords.specs.Bytes.{padding}
+use Rattle.codewords.specs.Writer.{Room, Aligns}
 use Rattle.codewords.proofs.Gives.None.{Put, meets}
 use Rattle.codewords.proofs.lent.byte_align.Symbol as callee
 use Rattle.codewords.proofs.lent.byte_align.Met as callee-thm
@@ -16,5 +17,5 @@ unfolding code.routine tablesOf
 byte-align-spec 𝓤 H 𝓜 𝓖 𝓡 =
     entered 𝓤 H (tripleOf 𝓤 H (𝓖 .A) self.signature (self.spec 𝓤 H (𝓖 .A) (𝓜 .mem) (𝓡 .run)))
     (tables 𝓤 H 𝓜 𝓡 code.env .C) (tables 𝓤 H 𝓜 𝓡 code.env .Λ) name code.function (code.unfolded 𝓤 H 𝓜 𝓡)
-    (meets (λ o w. Room o w (padding w)) (λ o w o′ w′. Aligns o w o′ w′) 𝓤 H (𝓖 .A) (givenOf 𝓤 H 𝓜 𝓖) callee.name (tablesOf 𝓤 H 𝓜 (tables 𝓤 H 𝓜 𝓡 code.env))
-    (cited 𝓤 H (Put (λ o w. Room o w (padding w)) (λ o w o′ w′. Aligns o w o′ w′) 𝓤 H (𝓖 .A)) 𝓜 𝓡 code.env callee.name callee.routine code.calls-codewords·lent·byte-align (callee-thm.met 𝓤 H 𝓜 𝓖 𝓡)))
+    (meets (λ o w. Room o w (padding (w .«pending_bits»))) (λ o w o′ w′. Aligns o w o′ w′) 𝓤 H (𝓖 .A) (givenOf 𝓤 H 𝓜 𝓖) callee.name (tablesOf 𝓤 H 𝓜 (tables 𝓤 H 𝓜 𝓡 code.env))
+    (cited 𝓤 H (Put (λ o w. Room o w (padding (w .«pending_bits»))) (λ o w o′ w′. Aligns o w o′ w′) 𝓤 H (𝓖 .A)) 𝓜 𝓡 code.env callee.name callee.routine code.calls-codewords·lent·byte-align (callee-thm.met 𝓤 H 𝓜 𝓖 𝓡)))

@@ -4,7 +4,7 @@ use native.Mathlib.Omega.{arith}
 use borrow.Author.Needs.{needs}
 use Rattle.codewords.specs.Bit.{zeroBits}
 use Rattle.codewords.specs.BitLaws.{length-lit, lit-zeros}
-use Rattle.codewords.specs.Writer.{padding}
+use Rattle.codewords.specs.Bytes.{padding}
 use Rattle.codewords.specs.WriterLaws.{wrote-then, room-after}
 use Rattle.codewords.proofs.writer.byte_align.Statement.{statement}
 use Rattle.codewords.proofs.writer.byte_align.Tie as tie
@@ -22,7 +22,7 @@ put-short-requires c κs = search needs
 flush-requires : tie.Need-flush-requires
 flush-requires c κs =
     let st = c .before .before .before .before .before .before .before in
-    room-after 0 (st .pre) (c .before .before .before .put-short .ensures) (omega (arith, length-lit (padding (st .args .w)) 0))
+    room-after 0 (st .pre) (c .before .before .before .put-short .ensures) (omega (arith, length-lit (padding (st .args .w .«pending_bits»)) 0))
 
 same-length : tie.Need-same-length
 same-length c = search needs
@@ -30,7 +30,7 @@ same-length c = search needs
 returns : tie.Need-returns
 returns c =
     let st = c .before .before .before .before .before .before .before .before .before .before in
-    let k = padding (st .args .w) in
+    let k = padding (st .args .w .«pending_bits») in
     let p = c .before .before .before .before .before .before .put-short .ensures in
     let f = c .before .before .flush .ensures in
     record {

@@ -10,7 +10,8 @@ use Rattle.codewords.specs.BitLaws.{length-lit}
 use Rattle.unit.specs.Parameters.{Parameters, parameterBits}
 use Rattle.unit.specs.Unit.{majorVersion, parametersBy}
 use Rattle.picture.specs.Head.{sliceIn}
-use Rattle.picture.specs.HeadLaws.{infoOf, info-length, head-length, head-parts, parameters-bytes, start-sound, start-room, align-room, head-end, head-bytes}
+use Rattle.codewords.specs.WriterLaws.{start-sound}
+use Rattle.picture.specs.HeadLaws.{infoOf, info-length, head-length, head-parts, parameters-bytes, start-room, align-room, head-end, head-bytes}
 use borrow.Author.Needs.{needs}
 use Rattle.picture.proofs.header.put_header.Statement.{statement}
 use Rattle.picture.proofs.header.put_header.Tie as tie
@@ -57,13 +58,13 @@ write-transform-parameters-requires : tie.Need-write-transform-parameters-requir
 write-transform-parameters-requires c κs =
     let st = c .before .before .before .before .before .before .before .before .before .before .before in
     room-after (length (bits st)) (start-room (st .args .out .now) (136 + length (bits st)) (omega (arith, fits st)))
-    (wrote-then start-sound (c .before .before .before .before .before .before .before .write-parse-info .ensures) (c .before .before .before .put-word .ensures)) (omega (arith, length-front st))
+    (wrote-then (start-sound 0) (c .before .before .before .before .before .before .before .write-parse-info .ensures) (c .before .before .before .put-word .ensures)) (omega (arith, length-front st))
 
 byte-align-requires : tie.Need-byte-align-requires
 byte-align-requires c κs =
     let st = c .before .before .before .before .before .before .before .before .before .before .before .before .before .before .before in
     align-room (info st ++ number st) (bits st) (length-front st) (fits st)
-    (wrote-then start-sound (wrote-then start-sound (c .before .before .before .before .before .before .before .before .before .before .before .write-parse-info .ensures) (c .before .before .before .before .before .before .before .put-word .ensures)) (c .before .before .before .write-transform-parameters .ensures))
+    (wrote-then (start-sound 0) (wrote-then (start-sound 0) (c .before .before .before .before .before .before .before .before .before .before .before .write-parse-info .ensures) (c .before .before .before .before .before .before .before .put-word .ensures)) (c .before .before .before .write-transform-parameters .ensures))
 
 same-length : tie.Need-same-length
 same-length c = search needs
@@ -72,7 +73,7 @@ returns : tie.Need-returns
 returns c =
     let st = c .before .before .before .before .before .before .before .before .before .before .before .before .before .before .before .before .before .before in
     let h = info st ++ number st in
-    let p = wrote-then start-sound (wrote-then start-sound (c .before .before .before .before .before .before .before .before .before .before .before .before .before .before .write-parse-info .ensures) (c .before .before .before .before .before .before .before .before .before .before .put-word .ensures)) (c .before .before .before .before .before .before .write-transform-parameters .ensures) in
+    let p = wrote-then (start-sound 0) (wrote-then (start-sound 0) (c .before .before .before .before .before .before .before .before .before .before .before .before .before .before .write-parse-info .ensures) (c .before .before .before .before .before .before .before .before .before .before .put-word .ensures)) (c .before .before .before .before .before .before .write-transform-parameters .ensures) in
     let q = c .before .before .byte-align .ensures in (
       head-end h (bits st) (length-front st) (fits st) p q ∙ ap (λ (k : ℕ). 17 + k) (sym (parameters-bytes (majorVersion (st .args .s)) (parameters st))),
       rw (head-parts (st .args .s) (st .args .n) (parameters st)) (head-bytes h (bits st) (length-front st) (fits st) p q),

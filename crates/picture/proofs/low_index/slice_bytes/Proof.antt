@@ -1,7 +1,8 @@
 -- `low_index::slice_bytes` meets its contract.
 use Prim.Native.Nat.{_+_}
 use native.Mathlib.Omega.{arith}
-use Rattle.picture.specs.LowIndexLaws.{product-few, bytes-rise, bytes-are}
+use Rattle.laws.specs.Machine.{product-fits}
+use Rattle.picture.specs.LowIndexLaws.{bytes-rise, bytes-are}
 use borrow.Author.Needs.{needs}
 use Rattle.picture.proofs.low_index.slice_bytes.Statement.{statement}
 use Rattle.picture.proofs.low_index.slice_bytes.Tie as tie
@@ -10,13 +11,13 @@ add-result : tie.Need-add-result
 add-result c = search needs
 
 mul-result : tie.Need-mul-result
-mul-result c = omega (arith, product-few (c .args .k + 1) (c .args .n) (omega arith) (omega arith))
+mul-result c = omega (arith, product-fits (c .args .k + 1) (c .args .n) (omega arith) (omega arith))
 
 div-result : tie.Need-div-result
 div-result c = search needs
 
 mul-result-2 : tie.Need-mul-result-2
-mul-result-2 c = omega (arith, product-few (c .args .k) (c .args .n) (omega arith) (omega arith))
+mul-result-2 c = omega (arith, product-fits (c .args .k) (c .args .n) (omega arith) (omega arith))
 
 div-result-2 : tie.Need-div-result-2
 div-result-2 c = search needs

@@ -1,5 +1,5 @@
 -- `refusal::product` meets its contract.
-use Rattle.picture.specs.SidesLaws.{product-fits}
+use Rattle.laws.specs.Machine.{product-fits}
 use native.Mathlib.Omega.{arith}
 use borrow.Author.Needs.{needs}
 use Rattle.picture.proofs.refusal.product.Statement.{statement}

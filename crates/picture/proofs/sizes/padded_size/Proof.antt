@@ -2,7 +2,6 @@
 use native.Mathlib.Omega.{arith}
 use Prim.Native.Nat.{_+_}
 use mathlib.Core.Path.{refl}
-use Rattle.wavelet.specs.Pad.{paddedSide}
 use Rattle.unit.specs.Subbands.{paddedSize}
 use Rattle.picture.specs.SidesLaws.{padded-few}
 use borrow.Author.Needs.{needs}
@@ -38,7 +37,7 @@ cast-t9 c =
     record { fits = rw (c .padded-side2 .ensures) (padded-few (s .args .s .«dwt_depth») (s .args .z .height) (omega (arith, s .pre)) (omega (arith, s .pre))) }
 
 returns : tie.Need-returns
-unfolding paddedSize paddedSide
+unfolding paddedSize
 returns c = rw (c .padded-side2 .ensures, c .before .before .padded-side .ensures) refl
 
 pub padded-size-spec : {M : Type 1} → statement M

@@ -1,6 +1,7 @@
 -- `tally::add_place` meets its contract.
 use Rattle.picture.specs.Run.{planeFrom}
-use Rattle.picture.specs.RunLaws.{numbered, number-by}
+use Rattle.quantiser.specs.QuantLaws.{number-most}
+use Rattle.picture.specs.RunLaws.{numbered}
 use Rattle.picture.specs.AddedLaws.{place-added}
 use Rattle.picture.specs.Tally.{tally1}
 use Rattle.picture.specs.TallyLaws.{plain-number, addable-one, countable-less}
@@ -17,7 +18,7 @@ add-second-requires : tie.Need-add-second-requires
 add-second-requires c κs =
     let st = c .before in
     let a = st .args in
-    (st .pre .0, (st .pre .1 .0, addable-one (a .t) (c .add-coefficient .result) _ (st .pre .1 .1) (number-by (a .s .factor) (planeFrom (a .work .now) (a .s .coefs) (a .s .width) (a .y) (a .x))) (c .add-coefficient .ensures)))
+    (st .pre .0, (st .pre .1 .0, addable-one (a .t) (c .add-coefficient .result) _ (st .pre .1 .1) (number-most (a .s .factor) (planeFrom (a .work .now) (a .s .coefs) (a .s .width) (a .y) (a .x))) (c .add-coefficient .ensures)))
 
 returns : tie.Need-returns
 returns c =

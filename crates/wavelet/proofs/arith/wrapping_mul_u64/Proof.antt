@@ -4,21 +4,22 @@ use mathlib.Core.Path.{_∙_, ap}
 use Prim.Native.Nat.{ℕ, _+_, _*_, _/_, _%_, _^_}
 use native.Mathlib.Omega.{arith}
 use borrow.Author.Needs.{needs}
-use Rattle.wavelet.specs.Product.{half-product, by-halves}
+use Rattle.laws.specs.Machine.{product-fits}
+use Rattle.wavelet.specs.Product.{by-halves}
 use Rattle.wavelet.proofs.arith.wrapping_mul_u64.Statement.{statement}
 use Rattle.wavelet.proofs.arith.wrapping_mul_u64.Tie as tie
 
 mul-wrapping-add-u64 : tie.Need-mul-wrapping-add-u64
-mul-wrapping-add-u64 c = record { fits = half-product (c .args .x % 2 ^ 32) (c .args .y / 2 ^ 32) (omega arith) (omega arith) }
+mul-wrapping-add-u64 c = record { fits = product-fits (c .args .x % 2 ^ 32) (c .args .y / 2 ^ 32) (omega arith) (omega arith) }
 
 mul-wrapping-add-u64-2 : tie.Need-mul-wrapping-add-u64-2
-mul-wrapping-add-u64-2 c = record { fits = half-product (c .args .y % 2 ^ 32) (c .args .x / 2 ^ 32) (omega arith) (omega arith) }
+mul-wrapping-add-u64-2 c = record { fits = product-fits (c .args .y % 2 ^ 32) (c .args .x / 2 ^ 32) (omega arith) (omega arith) }
 
 wrapping-add-u64-requires : tie.Need-wrapping-add-u64-requires
 wrapping-add-u64-requires c κs = search needs
 
 mul-wrapping-add-u64-3 : tie.Need-mul-wrapping-add-u64-3
-mul-wrapping-add-u64-3 c = record { fits = half-product (c .before .args .x % 2 ^ 32) (c .before .args .y % 2 ^ 32) (omega arith) (omega arith) }
+mul-wrapping-add-u64-3 c = record { fits = product-fits (c .before .args .x % 2 ^ 32) (c .before .args .y % 2 ^ 32) (omega arith) (omega arith) }
 
 wrapping-add-u64-requires-2 : tie.Need-wrapping-add-u64-requires-2
 wrapping-add-u64-requires-2 c κs = search needs

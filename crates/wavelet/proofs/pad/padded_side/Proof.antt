@@ -2,7 +2,6 @@
 use mathlib.Core.Path.{_≡_}
 use Prim.Native.Nat.{ℕ, _+_, _*_, _-_, _%_, _^_, _≤_}
 use native.Mathlib.Nat.{div-mul-le-self}
-use Rattle.wavelet.specs.Pad.{paddedSide}
 use Rattle.wavelet.specs.PadLaws.{scale-le}
 use native.Mathlib.Omega.{arith}
 use borrow.Author.Needs.{needs}
@@ -36,7 +35,6 @@ mul-result : tie.Need-mul-result
 mul-result c = rw (scale c .is) (omega (arith, scale c, div-mul-le-self (c .args .side + (2 ^ c .args .depth - 1)) (2 ^ c .args .depth)))
 
 returns : tie.Need-returns
-unfolding paddedSide
 returns c = rw (scale c .is)
 
 pub padded-side-spec : {M : Type 1} → statement M
