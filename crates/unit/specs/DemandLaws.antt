@@ -11,11 +11,11 @@ use lib.ListN.{length, getD, take, drop}
 use lib.Seq.{take-at}
 use borrow.Author.Tests.{eqb-true, ltb-false}
 use Rattle.laws.specs.Integer.{sub-add}
-use Rattle.wavelet.specs.Lifting.{exact}
+use Rattle.wavelet.specs.Lifting.{exact, Keeps}
 use Rattle.wavelet.specs.Planes.{Band, dwt, idwt}
 use Rattle.wavelet.specs.Pad.{padded}
 use Rattle.wavelet.specs.PlaneBound.{AllSmall}
-use Rattle.wavelet.specs.Theorems.{AllBelow, component-exact}
+use Rattle.wavelet.specs.Theorems.{AllBelow, Exact, component-exact}
 use Rattle.unit.specs.declared.Settings.{Settings}
 use Rattle.unit.specs.declared.Coded.{Coded}
 use Rattle.unit.specs.declared.Answer.{Answer}
@@ -126,15 +126,19 @@ module _ (s : Settings) (m : List ℕ) (p : Three (List ℕ)) (work : List ℤ) 
   depth-of C1 = sample-depths v .c1
   depth-of C2 = sample-depths v .c2
 
+  exact-of : (c : Component) → let z = pick c (sizesOf s) in let y = paddedSize (s .«dwt_depth_ho») (s .«dwt_depth») z in
+      Exact (s .«wavelet_index_ho») (s .«wavelet_index») (s .«dwt_depth_ho») (s .«dwt_depth») (pick c p) (offsetOf (pick c (depthsOf s))) (z .width) (z .height) (y .width) (y .height)
+  exact-of c =
+      let z = pick c (sizesOf s) in
+      let y = paddedSize (s .«dwt_depth_ho») (s .«dwt_depth») z in
+      let o = offset-range (pick c (depthsOf s)) (depth-of c) in
+      component-exact (s .«wavelet_index_ho») (s .«wavelet_index») (s .«dwt_depth_ho») (s .«dwt_depth») (pick c p) (offsetOf (pick c (depthsOf s))) (z .width) (z .height)
+      (y .width) (y .height) (v .wavelet-ho) (v .wavelet) (omega (arith, v .depths)) (padded-is (s .«dwt_depth_ho») (s .«dwt_depth») z) (t .samples c) (omega arith)
+
   small : (c : Component) → AllSmall most (pick c (coefficientsOf s p))
   unfolding bandsOf
   small c =
-      let z = pick c (sizesOf s) in
-      let o = offset-range (pick c (depthsOf s)) (depth-of c) in
-      rw (bands-pick s p c)
-      (small-of most (bandsOf s z (pick c (depthsOf s)) (pick c p)) (component-exact (s .«wavelet_index_ho») (s .«wavelet_index») (s .«dwt_depth_ho») (s .«dwt_depth») (pick c p) (offsetOf (pick c (depthsOf s))) (z .width) (z .height)
-      (paddedSize (s .«dwt_depth_ho») (s .«dwt_depth») z .width) (paddedSize (s .«dwt_depth_ho») (s .«dwt_depth») z .height)
-      (v .wavelet-ho) (v .wavelet) (omega (arith, v .depths)) (padded-is (s .«dwt_depth_ho») (s .«dwt_depth») z) (t .samples c) (omega arith) .below))
+      rw (bands-pick s p c) (small-of most (bandsOf s (pick c (sizesOf s)) (pick c (depthsOf s)) (pick c p)) (exact-of c .below))
 
   -- the samples of a component, where the bands read equal its coefficients
   samples-back : (c : Component) (bs : List Band) → EqualBands (pick c (coefficientsOf s p)) bs
@@ -207,6 +211,16 @@ module _ (s : Settings) (m : List ℕ) (p : Three (List ℕ)) (work : List ℤ) 
 pub demand : (s : Settings) (m : List ℕ) (p : Three (List ℕ)) (work : List ℤ) → Typed s p → refusalOf s m p work ≡ 0 → lengthOf s (planOf s m p) < 2 ^ 32
     → Demand3 s m p (unitOf s (planOf s m p))
 demand s m p work t e long = holds s m p work (valid s m p work e) t long
+
+-- document 01, "On the picture path nothing wraps": for every call that none of refusals 1 to 13 turns away, whatever wr
+-- gives for numbers that do not fit in 64 bits, the bands are its coefficients
+pub wraps-nowhere : (s : Settings) (m : List ℕ) (p : Three (List ℕ)) (work : List ℤ) → Typed s p → refusalOf s m p work ≡ 0 → (wr : ℤ → ℤ) → Keeps wr → (c : Component)
+    → let z = pick c (sizesOf s) in let y = paddedSize (s .«dwt_depth_ho») (s .«dwt_depth») z in
+    dwt wr (s .«wavelet_index_ho») (s .«wavelet_index») (s .«dwt_depth_ho») (s .«dwt_depth») (y .height) (y .width)
+    (padded (pick c p) (offsetOf (pick c (depthsOf s))) (z .width) (z .height))
+    ≡ pick c (coefficientsOf s p)
+unfolding bandsOf
+wraps-nowhere s m p work t e wr keeps c = exact-of s m p work (valid s m p work e) t c .nowhere wr keeps ∙ sym (bands-pick s p c)
 
 -- ---- the outcome of a call
 abbrev pub isAccepted : Answer → Bool

@@ -44,11 +44,15 @@ module _ (t x : ℕ → ℤ) (r : ℕ) (b : (k : ℕ) → natAbs (x k) ≤ r) wh
       rw (dot-same wr keeps m (omega arith), w)
       (keeps (dot exact t x m +ℤ t m *ℤ x m) (fit (dot exact t x m +ℤ t m *ℤ x m) (omega (arith, dot-abs m, abs-add (dot exact t x m) (t m *ℤ x m)))))
 
--- two equal taps t as lift::run_two sums them, t times the sum of two numbers: where the sum of the taps' sizes has
--- room for the numbers, as in a stage (`Enough`), this wraps nowhere either
-pub pair-wraps-nowhere : (wr : ℤ → ℤ) → Keeps wr → (t x y : ℤ) (r : ℕ) → 1 ≤ natAbs t → natAbs x ≤ r → natAbs y ≤ r → (natAbs t + natAbs t) * r < 2 ^ 63
+-- what one stage asks: u and r bound the places that it updates and reads, and v the updated ones
+pub record Enough (st : Stage) (u r v : ℕ) : Type 0 where
+  pub room : 2 ^ st .shift * u + (gain (at (st .taps)) (length (st .taps)) * r + 2 ^ st .shift / 2 + 2 ^ st .shift) ≤ 2 ^ st .shift * v
+  pub sums : gain (at (st .taps)) (length (st .taps)) * r + 2 ^ st .shift / 2 < 2 ^ 63
+  pub fits : v < 2 ^ 63
+
+pair-same : (wr : ℤ → ℤ) → Keeps wr → (t x y : ℤ) (r : ℕ) → 1 ≤ natAbs t → natAbs x ≤ r → natAbs y ≤ r → (natAbs t + natAbs t) * r < 2 ^ 63
     → wr (t *ℤ wr (x +ℤ y)) ≡ t *ℤ x +ℤ t *ℤ y
-pair-wraps-nowhere wr keeps t x y r some hx hy h =
+pair-same wr keeps t x y r some hx hy h =
     let s : natAbs (x +ℤ y) ≤ 2 * r = omega (arith, abs-add x y) in
     let a = add-mul (natAbs t) (natAbs t) r in
     let m = mul-le-mul-left (natAbs t) s in
@@ -57,11 +61,15 @@ pair-wraps-nowhere wr keeps t x y r some hx hy h =
     rw (keeps (x +ℤ y) (fit (x +ℤ y) (omega arith)))
     (keeps (t *ℤ (x +ℤ y)) (fit (t *ℤ (x +ℤ y)) (omega (arith, abs-mul t (x +ℤ y)))) ∙ mul-sum t x y)
 
--- what one stage asks: u and r bound the places that it updates and reads, and v the updated ones
-pub record Enough (st : Stage) (u r v : ℕ) : Type 0 where
-  pub room : 2 ^ st .shift * u + (gain (at (st .taps)) (length (st .taps)) * r + 2 ^ st .shift / 2 + 2 ^ st .shift) ≤ 2 ^ st .shift * v
-  pub sums : gain (at (st .taps)) (length (st .taps)) * r + 2 ^ st .shift / 2 < 2 ^ 63
-  pub fits : v < 2 ^ 63
+-- two equal taps t as lift::run_two sums them, t times the sum of two numbers: with the room that a stage of these
+-- taps asks this wraps nowhere either
+pub pair-wraps-nowhere : (wr : ℤ → ℤ) → Keeps wr → (st : Stage) (t x y : ℤ) (u r v : ℕ) → Enough st u r v → st .taps ≡ t ∷ t ∷ []
+    → 1 ≤ natAbs t → natAbs x ≤ r → natAbs y ≤ r → wr (t *ℤ wr (x +ℤ y)) ≡ t *ℤ x +ℤ t *ℤ y
+unfolding gain
+pair-wraps-nowhere wr keeps st t x y u r v e taps some hx hy =
+    let g : gain (at (st .taps)) (length (st .taps)) ≡ natAbs t + natAbs t = ap (λ (l : List ℤ). gain (at l) (length l)) taps ∙ omega arith in
+    let s : (natAbs t + natAbs t) * r + 2 ^ st .shift / 2 < 2 ^ 63 = rw g at (e .sums) in
+    pair-same wr keeps t x y r some hx hy (omega arith)
 
 -- places of one parity are at most u, the others at most r
 pub record Under (to u r : ℕ) (xs : List ℤ) : Type 0 where
