@@ -256,21 +256,21 @@ module _ (s : Settings) (m : List ℕ) where
     holds-c2 = a .c2
 
 -- ---- the slices' bytes
-pub joined-snoc : (ss : List SlicePlan) (a : SlicePlan) → flatten (sliceRuns (ss ++ (a ∷ []))) ≡ flatten (sliceRuns ss) ++ toBytes (a .bits)
+pub flatten-snoc : (ss : List SlicePlan) (a : SlicePlan) → flatten (sliceRuns (ss ++ (a ∷ []))) ≡ flatten (sliceRuns ss) ++ toBytes (a .bits)
 unfolding flatten
-joined-snoc [] a = append-nil (toBytes (a .bits))
-joined-snoc (b ∷ ss) a =
-    ap (λ (r : List ℕ). toBytes (b .bits) ++ r) (joined-snoc ss a)
+flatten-snoc [] a = append-nil (toBytes (a .bits))
+flatten-snoc (b ∷ ss) a =
+    ap (λ (r : List ℕ). toBytes (b .bits) ++ r) (flatten-snoc ss a)
     ∙ sym (append-assoc (toBytes (b .bits)) (flatten (sliceRuns ss)) (toBytes (a .bits)))
 
-pub joined-span : (f : ℕ → SlicePlan) (n : ℕ) → flatten (sliceRuns (span f 0 n)) ≡ chunks (λ k. toBytes (f k .bits)) n
+pub flatten-span : (f : ℕ → SlicePlan) (n : ℕ) → flatten (sliceRuns (span f 0 n)) ≡ chunks (λ k. toBytes (f k .bits)) n
 unfolding flatten chunks
-joined-span f zero = refl
-joined-span f (suc n) =
+flatten-span f zero = refl
+flatten-span f (suc n) =
     let e : 0 + n ≡ n = omega arith in
     ap (λ (ss : List SlicePlan). flatten (sliceRuns ss)) (span-suc f 0 n)
-    ∙ joined-snoc (span f 0 n) (f (0 + n))
-    ∙ ap₂ _++_ (joined-span f n) (ap (λ (k : ℕ). toBytes (f k .bits)) e)
+    ∙ flatten-snoc (span f 0 n) (f (0 + n))
+    ∙ ap₂ _++_ (flatten-span f n) (ap (λ (k : ℕ). toBytes (f k .bits)) e)
 
 -- ---- a unit in the output
 -- the unit fits

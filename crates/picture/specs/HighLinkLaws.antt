@@ -44,7 +44,7 @@ use Rattle.picture.specs.High.{indexBy, planBy, indexIn, planIn, highRun
 use Rattle.picture.specs.NotedLaws.{high-work, notes-plan, notes-own, runs-alike}
 use Rattle.picture.specs.Analysed.{isLow, layoutOf, pictureOf, Called, Analysed}
 use Rattle.picture.specs.Encoded.{Codes, Coding, CodesAny}
-use Rattle.picture.specs.AnalysedLaws.{called-arranged, grid-is, slices-are, values-in, bands-y, bands-c1, bands-c2, small-by, holds-y, holds-c1, holds-c2, joined-span, length-parts, not-long, slices-room, codes-refused, codes-written}
+use Rattle.picture.specs.AnalysedLaws.{called-arranged, grid-is, slices-are, values-in, bands-y, bands-c1, bands-c2, small-by, holds-y, holds-c1, holds-c2, flatten-span, length-parts, not-long, slices-room, codes-refused, codes-written}
 
 -- ---- a slice's index and plan
 index-by : (g : Grid) (v : List ℕ) (b : Three (List Band)) (x : ℕ) (r : RateControl) (c n k : ℕ)
@@ -134,7 +134,7 @@ plan-is s m p w d a e r z =
 module _ (w : List ℤ) (p : Picture) (s : Settings) (m : List ℕ) where
   -- the slices' bytes
   pub runs-are : (c : ℕ) → highRuns w p (termsOf s m c) (slicesIn p) ≡ flatten (sliceRuns (slicesBy w p s m c))
-  runs-are c = sym (joined-span (planIn w p (termsOf s m c)) (slicesIn p))
+  runs-are c = sym (flatten-span (planIn w p (termsOf s m c)) (slicesIn p))
 
   pub length-is : (r : Settled) → Settles w p s m r → r .end ≡ lengthOf s (codePlan w p s m (r .scaler))
   length-is r z =

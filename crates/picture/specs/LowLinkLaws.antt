@@ -51,7 +51,7 @@ use Rattle.picture.specs.Picture.{slicesIn, runOf, Placed, Arranged}
 use Rattle.picture.specs.Low.{strip0, rebuiltIn, lumaIn, colourIn, lowFitsIn, lowBitsBy, isLast, bytesAt, lowIndexIn, lowWorkIn, lowBitsIn, workAt, lowRuns, cutsIn, LowIn}
 use Rattle.picture.specs.Analysed.{isLow, frontOf, layoutOf, pictureOf, Called, Analysed}
 use Rattle.picture.specs.Encoded.{Coding, CodesAny}
-use Rattle.picture.specs.AnalysedLaws.{called-arranged, count-few, grid-is, slices-are, values-in, bands-y, bands-c1, bands-c2, small-by, holds-y, holds-c1, holds-c2, joined-span, codes-refused, codes-written}
+use Rattle.picture.specs.AnalysedLaws.{called-arranged, count-few, grid-is, slices-are, values-in, bands-y, bands-c1, bands-c2, small-by, holds-y, holds-c1, holds-c2, flatten-span, codes-refused, codes-written}
 use Rattle.picture.specs.AgainLaws.{length-strip}
 
 -- how many slices carry index 127, with one slice more
@@ -272,7 +272,7 @@ module _ (p : Picture) (m : List ℕ) (b : Three (List Band)) (h : Linked p m b)
     pub low-runs : lowRuns p n w (slicesIn p) ≡ flatten (sliceRuns (lowSlices g m b n zeroPlanes 0 (slicesIn p)))
     low-runs =
         chunks-ext (λ k. toBytes (lowBitsIn p n (workAt p n w k) k)) (λ k. toBytes (lowAt g m b n k .bits)) (slicesIn p) (λ k o. ap toBytes (slice-at k o))
-        ∙ sym (joined-span (lowAt g m b n) (slicesIn p))
+        ∙ sym (flatten-span (lowAt g m b n) (slicesIn p))
         ∙ ap (λ (ps : List SlicePlan). flatten (sliceRuns ps)) (sym spans)
 
     cuts-span : (j : ℕ) → j ≤ slicesIn p → cutsIn p n w j ≡ lastIndices (span (lowAt g m b n) 0 j)

@@ -1,5 +1,5 @@
-// The picture call, the port of encoder.rs: `encoder::encode_picture`. `words` is for the layers
-// above, the other modules are its parts.
+// The picture call, the port of encoder.rs: `encoder::encode_picture`. `words` is for the layers above, the other
+// modules are its parts.
 mod analysis;
 mod cost;
 pub mod encoder;

@@ -18,7 +18,7 @@ levelSize k d p level = record {
   height = cond (leb level k) (p .height / 2 ^ d) (p .height / 2 ^ (k + d - level + 1));
 }
 
--- the same of a component of size z
+-- the size of the subbands of a level, of a component of size z
 unfoldable pub subbandSize : ℕ → ℕ → Size → ℕ → Size
 subbandSize k d z level = levelSize k d (paddedSize k d z) level
 

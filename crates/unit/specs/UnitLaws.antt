@@ -41,10 +41,10 @@ abbrev AllFull : List SlicePlan → Type 0
 AllFull [] = Unit {0}
 AllFull (a ∷ more) = Full (a .bits) × AllFull more
 
-from-joined : (ss : List SlicePlan) → AllFull ss → fromBytes (flatten (sliceRuns ss)) ≡ allBits ss
+from-flatten : (ss : List SlicePlan) → AllFull ss → fromBytes (flatten (sliceRuns ss)) ≡ allBits ss
 unfolding flatten fromBytes allBits
-from-joined [] f = refl
-from-joined (a ∷ more) f = from-append (toBytes (a .bits)) (flatten (sliceRuns more)) ∙ ap₂ _++_ (from-to (a .bits) (f .0)) (from-joined more (f .1))
+from-flatten [] f = refl
+from-flatten (a ∷ more) f = from-append (toBytes (a .bits)) (flatten (sliceRuns more)) ∙ ap₂ _++_ (from-to (a .bits) (f .0)) (from-flatten more (f .1))
 
 full-all : (ss : List SlicePlan) → AllFull ss → Full (allBits ss)
 unfolding allBits
@@ -208,7 +208,7 @@ module _ (s : Settings) (a : Plan) (o : Sound s a) where
   unfolding unitOf headBits
   unit-bits =
       from-append (toBytes (headBits s (lengthOf s a) (a .parameters))) (flatten (sliceRuns (a .slices)))
-      ∙ ap₂ _++_ (from-to (headBits s (lengthOf s a) (a .parameters)) (full-head s (lengthOf s a) (a .parameters))) (from-joined (a .slices) fulls)
+      ∙ ap₂ _++_ (from-to (headBits s (lengthOf s a) (a .parameters)) (full-head s (lengthOf s a) (a .parameters))) (from-flatten (a .slices) fulls)
       ∙ simp append-assoc
 
   unit-long : 8 * lengthOf s a ≡ 8 * (17 + parameterBytes (majorVersion s) (a .parameters)) + length (allBits (a .slices))
