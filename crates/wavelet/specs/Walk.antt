@@ -1,5 +1,5 @@
 -- Level after level: what the walk leaves are the definition's bands.
-use mathlib.Core.Path.{_≡_, refl, sym, ap, ap₂, _∙_}
+use mathlib.Core.Path.{_≡_, refl, sym, ap, ap₂, _∙_, subst₂}
 use Prim.Native.Nat.{ℕ, zero, suc, _+_, _*_, _-_, _/_, _%_, _≤_, _<_}
 use native.Mathlib.Omega.{arith}
 use native.Mathlib.Nat.{mul-le-mul}
@@ -99,14 +99,19 @@ across-list ih iv (suc k) zero h w f y z =
     ∙ sym (coefficients-append (dwtH wrap ih k h b (partH 0 g)) (record { high = h; wide = b; plane = partH 1 g } ∷ [])))
 
 -- ---- on what lies behind the scratch
-module _ (n off m q : ℕ) (l l1 l2 L B : List ℤ) (p : Place n off m l) (small : q ≤ m) (long : length L ≡ m)
-    (e1 : drop n l1 ≡ put off m L (drop n l)) (D : List ℤ → List ℤ) (e2 : drop n l2 ≡ put off q (D (piece off q (drop n l1))) (drop n l1)) (all : D (take q L) ++ drop q L ≡ B) where
-  step : drop n l2 ≡ put off m B (drop n l)
+-- what lies behind the scratch, with D of the q numbers at off in their place
+abbrev pub after : ℕ → ℕ → ℕ → (List ℤ → List ℤ) → List ℤ → List ℤ
+after n off q D l = put off q (D (piece off q (drop n l))) (drop n l)
+
+-- a level leaves the m numbers L, and the levels below take the first q of them
+module _ (n off m q : ℕ) (l l1 L B : List ℤ) (p : Place n off m l) (small : q ≤ m) (long : length L ≡ m)
+    (e1 : drop n l1 ≡ put off m L (drop n l)) (D : List ℤ → List ℤ) (all : D (take q L) ++ drop q L ≡ B) where
+  step : after n off q D l1 ≡ put off m B (drop n l)
   step =
       let u = drop n l in
       let fit : off + m ≤ length u = rw (length-drop n l) (omega (arith, p .fits)) in
       let first : piece off q (drop n l1) ≡ take q L = ap (piece off q) e1 ∙ piece-inner off m L u fit long q small in
-      e2 ∙ ap₂ (λ (x y : List ℤ). put off q (D x) y) first e1 ∙ put-inner off m L u fit long q (D (take q L)) small ∙ ap (λ (x : List ℤ). put off m x u) all
+      ap₂ (λ (x y : List ℤ). put off q (D x) y) first e1 ∙ put-inner off m L u fit long q (D (take q L)) small ∙ ap (λ (x : List ℤ). put off m x u) all
 
 length-quarters : (h w : ℕ) (g : Plane) → h % 2 ≡ 0 → w % 2 ≡ 0 → length (quarters h w g) ≡ h * w
 length-quarters h w g eh ew = simp (length-append, length-asList) (quarters-size h w eh ew)
@@ -115,24 +120,22 @@ length-halves : (h w : ℕ) (g : Plane) → w % 2 ≡ 0 → length (halves h w g
 length-halves h w g ew = simp (length-append, length-asList) (halves-size h w ew)
 
 -- one level of the plane f both ways, and the walk on its first quarter
-pub walk-both : (ih iv k d h w n off : ℕ) (f : Plane) (l l1 l2 : List ℤ) → 0 < d → EvenSides h w → Place n off (h * w) l
+pub walk-both : (ih iv k d h w n off : ℕ) (f : Plane) (l l1 : List ℤ) → 0 < d → EvenSides h w → Place n off (h * w) l
     → drop n l1 ≡ put off (h * w) (quarters h w (vhPass wrap ih iv h w f)) (drop n l)
-    → drop n l2 ≡ put off (h / 2 * (w / 2)) (coefficientsOf ih iv k (d - 1) (h / 2) (w / 2) (piece off (h / 2 * (w / 2)) (drop n l1))) (drop n l1)
-    → drop n l2 ≡ put off (h * w) (coefficients (dwt wrap ih iv k d h w f)) (drop n l)
-walk-both ih iv k d h w n off f l l1 l2 z e p e1 e2 =
+    → after n off (h / 2 * (w / 2)) (coefficientsOf ih iv k (d - 1) (h / 2) (w / 2)) l1 ≡ put off (h * w) (coefficients (dwt wrap ih iv k d h w f)) (drop n l)
+walk-both ih iv k d h w n off f l l1 z e p e1 =
     let g = vhPass wrap ih iv h w f in
-    step n off (h * w) (h / 2 * (w / 2)) l l1 l2 (quarters h w g) (coefficients (dwt wrap ih iv k d h w f)) p (quarter-area h w) (length-quarters h w g (e .high) (e .wide)) e1
-    (coefficientsOf ih iv k (d - 1) (h / 2) (w / 2)) e2 (both-list ih iv k d h w f z)
+    step n off (h * w) (h / 2 * (w / 2)) l l1 (quarters h w g) (coefficients (dwt wrap ih iv k d h w f)) p (quarter-area h w) (length-quarters h w g (e .high) (e .wide)) e1
+    (coefficientsOf ih iv k (d - 1) (h / 2) (w / 2)) (both-list ih iv k d h w f z)
 
 -- one horizontal-only level, and the walk on its first half
-pub walk-across : (ih iv k d h w n off : ℕ) (f : Plane) (l l1 l2 : List ℤ) → d ≤ 0 → 0 < k → EvenWidth h w → Place n off (h * w) l
+pub walk-across : (ih iv k d h w n off : ℕ) (f : Plane) (l l1 : List ℤ) → d ≤ 0 → 0 < k → EvenWidth h w → Place n off (h * w) l
     → drop n l1 ≡ put off (h * w) (halves h w (hPass wrap ih h w f)) (drop n l)
-    → drop n l2 ≡ put off (h * (w / 2)) (coefficientsOf ih iv (k - 1) 0 h (w / 2) (piece off (h * (w / 2)) (drop n l1))) (drop n l1)
-    → drop n l2 ≡ put off (h * w) (coefficients (dwt wrap ih iv k d h w f)) (drop n l)
-walk-across ih iv k d h w n off f l l1 l2 y z e p e1 e2 =
+    → after n off (h * (w / 2)) (coefficientsOf ih iv (k - 1) 0 h (w / 2)) l1 ≡ put off (h * w) (coefficients (dwt wrap ih iv k d h w f)) (drop n l)
+walk-across ih iv k d h w n off f l l1 y z e p e1 =
     let g = hPass wrap ih h w f in
-    step n off (h * w) (h * (w / 2)) l l1 l2 (halves h w g) (coefficients (dwt wrap ih iv k d h w f)) p (half-area h w) (length-halves h w g (e .wide)) e1
-    (coefficientsOf ih iv (k - 1) 0 h (w / 2)) e2 (across-list ih iv k d h w f y z)
+    step n off (h * w) (h * (w / 2)) l l1 (halves h w g) (coefficients (dwt wrap ih iv k d h w f)) p (half-area h w) (length-halves h w g (e .wide)) e1
+    (coefficientsOf ih iv (k - 1) 0 h (w / 2)) (across-list ih iv k d h w f y z)
 
 -- no level is left
 pub no-level : (ih iv k d h w : ℕ) (f : Plane) → d ≤ 0 → k ≤ 0 → asList h w f ≡ coefficients (dwt wrap ih iv k d h w f)
@@ -141,10 +144,56 @@ no-level ih iv zero zero h w f y z = sym (append-nil (asList h w f))
 no-level ih iv (suc k) zero h w f y z = absurd (omega arith)
 no-level ih iv k (suc d) h w f y z = absurd (omega arith)
 
-pub walk-none : (ih iv k d h w n off : ℕ) (l : List ℤ) → d ≤ 0 → k ≤ 0 → Place n off (h * w) l
-    → drop n l ≡ put off (h * w) (coefficientsOf ih iv k d h w (piece off (h * w) (drop n l))) (drop n l)
-walk-none ih iv k d h w n off l y z p =
-    let u = drop n l in
+-- ---- the loops
+-- The plane of h rows of w in now, which has m numbers, has d levels both ways and k horizontal-only ones left, and
+-- what these leave behind the scratch is end.
+pub record Walks (n off ih iv m : ℕ) (end : List ℤ) (k d h w : ℕ) (now : List ℤ) : Type 0 where
+  pub deep : Deep k d h w ih iv
+  pub place : Place n off (h * w) now
+  pub long : length now ≡ m
+  pub same : after n off (h * w) (coefficientsOf ih iv k d h w) now ≡ end
+
+-- before the first turn
+pub walk-start : (n off ih iv k d h w : ℕ) (l : List ℤ) → Deep k d h w ih iv → Place n off (h * w) l → Walks n off ih iv (length l) (after n off (h * w) (coefficientsOf ih iv k d h w) l) k d h w l
+walk-start n off ih iv k d h w l deep place = record { deep = deep; place = place; long = refl; same = refl }
+
+-- a turn with a level both ways
+pub turn-both : (n off ih iv m : ℕ) (end : List ℤ) (k d h w : ℕ) (now new : List ℤ) → Walks n off ih iv m end k d h w now → length new ≡ length now → 0 < d
+    → drop n new ≡ put off (h * w) (quarters h w (vhPass wrap ih iv h w (asPlane w (piece off (h * w) (drop n now))))) (drop n now)
+    → Walks n off ih iv m end k (d - 1) (h / 2) (w / 2) new
+turn-both n off ih iv m end k d h w now new v long z e =
+    let t = deep-both k d h w ih iv z (v .deep) in
+    record {
+      deep = t .1;
+      place = place-down n off (h * w) (h / 2 * (w / 2)) now new (v .place) (quarter-area h w) long;
+      long = long ∙ v .long;
+      same = walk-both ih iv k d h w n off (asPlane w (piece off (h * w) (drop n now))) now new z (t .0) (v .place) e ∙ v .same;
+    }
+
+-- a turn with a horizontal-only level
+pub turn-across : (n off ih iv m : ℕ) (end : List ℤ) (k h w : ℕ) (now new : List ℤ) → Walks n off ih iv m end k 0 h w now → length new ≡ length now → 0 < k
+    → drop n new ≡ put off (h * w) (halves h w (hPass wrap ih h w (asPlane w (piece off (h * w) (drop n now))))) (drop n now)
+    → Walks n off ih iv m end (k - 1) 0 h (w / 2) new
+turn-across n off ih iv m end k h w now new v long z e =
+    let t = deep-across k 0 h w ih iv (omega arith) z (v .deep) in
+    record {
+      deep = t .1;
+      place = place-down n off (h * w) (h * (w / 2)) now new (v .place) (half-area h w) long;
+      long = long ∙ v .long;
+      same = walk-across ih iv k 0 h w n off (asPlane w (piece off (h * w) (drop n now))) now new (omega arith) z (t .0) (v .place) e ∙ v .same;
+    }
+
+-- between the loops, where level is k
+pub walk-flat : (n off ih iv m : ℕ) (end : List ℤ) (k level h w : ℕ) (now : List ℤ) → k ≤ level → level ≤ k → Walks n off ih iv m end k (level - k) h w now → Walks n off ih iv m end level 0 h w now
+walk-flat n off ih iv m end k level h w now x y v =
+    let e : k ≡ level = omega arith in
+    let z : level - k ≡ 0 = omega arith in
+    subst₂ (λ (a b : ℕ). Walks n off ih iv m end a b h w now) e z v
+
+-- after the last turn
+pub walk-end : (n off ih iv m : ℕ) (end : List ℤ) (k h w : ℕ) (now : List ℤ) → Walks n off ih iv m end k 0 h w now → k ≤ 0 → drop n now ≡ end
+walk-end n off ih iv m end k h w now v z =
+    let u = drop n now in
     let o = piece off (h * w) u in
-    let fit : off + h * w ≤ length u = rw (length-drop n l) (omega (arith, p .fits)) in
-    put-self off (h * w) u ∙ ap (λ (x : List ℤ). put off (h * w) x u) (sym (asList-back h w o (length-piece off (h * w) u fit)) ∙ no-level ih iv k d h w (asPlane w o) y z)
+    let fit : off + h * w ≤ length u = rw (length-drop n now) (omega (arith, v .place .fits)) in
+    put-self off (h * w) u ∙ ap (λ (x : List ℤ). put off (h * w) x u) (sym (asList-back h w o (length-piece off (h * w) u fit)) ∙ no-level ih iv k 0 h w (asPlane w o) (omega arith) z) ∙ v .same

@@ -74,7 +74,7 @@ fn vh_component(work: &mut [i64], n: usize, off: usize, samples: &[u16], c: Comp
 }
 
 // A component, padded and analysed: its coefficients stand off places behind the n of scratch, and nothing else there
-// changes. The first level takes the samples, and the level below its first band.
+// changes. The first level takes the samples; plane::dwt takes its first band through the levels that are left.
 pub fn analyse_component(
     work: &mut [i64],
     n: usize,

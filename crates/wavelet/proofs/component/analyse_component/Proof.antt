@@ -1,4 +1,5 @@
 -- `component::analyse_component` meets its contract.
+use mathlib.Core.Path.{_∙_}
 use Prim.Native.Nat.{_*_, _/_}
 use Rattle.wavelet.specs.Pad.{padded}
 use Rattle.wavelet.specs.Walk.{deep-both, deep-across, place-down, quarter-area, half-area, walk-both, walk-across}
@@ -72,8 +73,9 @@ returns c =
     let some = c .before .before .before .before .before .before .before .if1 .taken in
     let level = c .before .before .before .before .before .vh-component in
     let rest = c .before .dwt in
-    walk-both (a .t .ih) (a .t .iv) (a .t .k) (a .t .d) (a .c .ph) (a .c .pw) (a .n) (a .off) (padded (a .samples .now) (a .c .offset) (a .c .w) (a .c .h)) (a .work .now) (level .last .0) (rest .last .0) some
-    (deep-both (a .t .k) (a .t .d) (a .c .ph) (a .c .pw) (a .t .ih) (a .t .iv) some (st .pre .deep) .0) (st .pre .place) (level .ensures) (rest .ensures)
+    rest .ensures
+    ∙ walk-both (a .t .ih) (a .t .iv) (a .t .k) (a .t .d) (a .c .ph) (a .c .pw) (a .n) (a .off) (padded (a .samples .now) (a .c .offset) (a .c .w) (a .c .h)) (a .work .now) (level .last .0) some
+    (deep-both (a .t .k) (a .t .d) (a .c .ph) (a .c .pw) (a .t .ih) (a .t .iv) some (st .pre .deep) .0) (st .pre .place) (level .ensures)
 
 same-length-2 : tie.Need-same-length-2
 same-length-2 c = search needs
@@ -86,8 +88,9 @@ returns-2 c =
     let some = c .before .before .before .before .before .before .before .if2 .taken in
     let level = c .before .before .before .before .before .h-component in
     let rest = c .before .dwt2 in
-    walk-across (a .t .ih) (a .t .iv) (a .t .k) (a .t .d) (a .c .ph) (a .c .pw) (a .n) (a .off) (padded (a .samples .now) (a .c .offset) (a .c .w) (a .c .h)) (a .work .now) (level .last .0) (rest .last .0) flat some
-    (deep-across (a .t .k) (a .t .d) (a .c .ph) (a .c .pw) (a .t .ih) (a .t .iv) flat some (st .pre .deep) .0) (st .pre .place) (level .ensures) (rest .ensures)
+    rest .ensures
+    ∙ walk-across (a .t .ih) (a .t .iv) (a .t .k) (a .t .d) (a .c .ph) (a .c .pw) (a .n) (a .off) (padded (a .samples .now) (a .c .offset) (a .c .w) (a .c .h)) (a .work .now) (level .last .0) flat some
+    (deep-across (a .t .k) (a .t .d) (a .c .ph) (a .c .pw) (a .t .ih) (a .t .iv) flat some (st .pre .deep) .0) (st .pre .place) (level .ensures)
 
 same-length-3 : tie.Need-same-length-3
 same-length-3 c = search needs
