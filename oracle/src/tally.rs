@@ -57,7 +57,7 @@ impl Tally {
         self.count(if low_delay { "low delay" } else { "high quality" }, 1);
         self.count(format!("wavelet {}", s.wavelet), 1);
         self.count(format!("format {}", s.format), 1);
-        self.count(format!("depths {}", s.depth + s.depth_ho), 1);
+        self.count(format!("depth {}, {} horizontal-only", s.depth, s.depth_ho), 1);
         let [luma, colour] = s.sizes();
         let level_0 = s.padded(luma).width >> (s.depth + s.depth_ho);
         let bits = [s.luma_excursion, s.colour_excursion, s.colour_excursion];
