@@ -9,7 +9,8 @@
  *  - what a call may write (a pointer without const) overlaps nothing else lent to that call.
  *
  * Every function takes any value of its types: a call that can't be answered is refused with a
- * number. "01" is document 01, the scope paper. The functions keep no state between calls.
+ * number. "01" is document 01, the scope paper, "02" document 02, the requests after it. The functions
+ * keep no state between calls.
  */
 #ifndef RUMQESHI_H
 #define RUMQESHI_H
@@ -21,11 +22,11 @@
 extern "C" {
 #endif
 
-/* Answers: 01, "Answers that turn a call away, in checking order". */
+/* Answers: 01, "Answers that turn a call away, in checking order"; 2 with 02, (iii). */
 enum {
     VC2_ACCEPTED = 0,
     VC2_BAD_WAVELET = 1,         /* a wavelet index is above 6 */
-    VC2_BAD_DEPTH = 2,           /* the two depths sum to more than 5 */
+    VC2_BAD_DEPTH = 2,           /* the two depths sum to more than 8, or than 5 if a wavelet index is not 1, 3 or 4 */
     VC2_BAD_SLICES = 3,          /* slices across or down are 0 or above 65,535, or their product is above 1,048,576 */
     VC2_BAD_SCALER = 4,          /* the scaler is 0 or above 65,535, or prefix bytes are above 255 */
     VC2_NO_TARGET = 5,           /* low delay without a picture's bytes */

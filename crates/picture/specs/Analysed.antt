@@ -7,6 +7,7 @@ use lib.IntN.{ℤ, pos}
 use lib.ListN.{length}
 use Rattle.laws.specs.Rows.{at}
 use Rattle.quantiser.specs.Default.{places}
+use Rattle.wavelet.specs.Depth.{depthLimit, deepest}
 use Rattle.unit.specs.declared.Settings.{Settings}
 use Rattle.unit.specs.declared.PictureKind.{PictureKind}
 use Rattle.unit.specs.declared.PictureKind.the-variants.{LowDelay, HighQuality}
@@ -69,7 +70,7 @@ pictureOf s m = record {
 
 -- what an accepted call's settings and matrix are
 pub record Called (s : Settings) (m : List ℕ) : Type 0 where
-  pub depths : s .«dwt_depth» + s .«dwt_depth_ho» ≤ 5
+  pub depths : s .«dwt_depth» + s .«dwt_depth_ho» ≤ deepest
   pub across : Between 65535 (s .«slices_x»)
   pub down : Between 65535 (s .«slices_y»)
   pub slices : s .«slices_x» * s .«slices_y» ≤ 1048576
@@ -84,7 +85,7 @@ pub record Called (s : Settings) (m : List ℕ) : Type 0 where
 pub record Ready (s : Settings) (p : Three (List ℕ)) (w : List ℤ) : Type 0 where
   pub wavelet : s .«wavelet_index» ≤ 6
   pub wavelet-ho : s .«wavelet_index_ho» ≤ 6
-  pub depths : s .«dwt_depth» + s .«dwt_depth_ho» ≤ 5
+  pub depths : s .«dwt_depth» + s .«dwt_depth_ho» ≤ depthLimit (s .«wavelet_index_ho») (s .«wavelet_index»)
   pub luma : Sides s (lumaSize s)
   pub colour : Sides s (colourSize s)
   pub luma-excursion : Between 65535 (s .«luma_excursion»)

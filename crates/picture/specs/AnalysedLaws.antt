@@ -17,6 +17,7 @@ use Rattle.laws.specs.Laid.{Lays, laid-is}
 use Rattle.codewords.specs.Bytes.{toBytes}
 use Rattle.quantiser.specs.Default.{places}
 use Rattle.wavelet.specs.Lifting.{exact}
+use Rattle.wavelet.specs.DepthLaws.{few-levels}
 use Rattle.wavelet.specs.Pad.{padded}
 use Rattle.unit.specs.declared.Settings.{Settings}
 use Rattle.unit.specs.declared.Coded.{Coded}
@@ -24,10 +25,9 @@ use Rattle.unit.specs.declared.Answer.the-variants.{Accepted, Refused}
 use Rattle.unit.specs.Three.{Three}
 use Rattle.unit.specs.Sizes.{Size, lumaSize, colourSize, depthsOf, offsetOf}
 use Rattle.unit.specs.Slices.{sliceCount}
-use Rattle.unit.specs.Subbands.{paddedSize, subbandCount}
+use Rattle.unit.specs.Subbands.{subbandCount}
 use Rattle.unit.specs.Matrix.{defaultOf, matrixValues}
 use Rattle.unit.specs.MatrixLaws.{MatrixIf, default-matrix}
-use Rattle.unit.specs.PaddedLaws.{rounded-few}
 use Rattle.unit.specs.Parameters.{parameterBytes}
 use Rattle.unit.specs.Coefficients.{bandsOf, coefficientsOf}
 use Rattle.unit.specs.Plan.{SlicePlan, Plan}
@@ -49,7 +49,7 @@ use Rattle.picture.specs.Encoded.{answerBy, outputBy, Codes}
 module _ {s : Settings} {m : List ℕ} {p : Three (List ℕ)} {w : List ℤ} (v : Valid s m p w) where
   pub called : Called s m
   called = record {
-    depths = v .depths;
+    depths = few-levels (s .«wavelet_index_ho») (s .«wavelet_index») (v .depths);
     across = v .across;
     down = v .down;
     slices = v .slices;
@@ -75,16 +75,6 @@ module _ {s : Settings} {m : List ℕ} {p : Three (List ℕ)} {w : List ℤ} (v 
     long-c2 = v .long-c2;
     work-room = v .work-room;
   }
-
--- ---- padded sides
-module _ (k d : ℕ) (z : Size) (h : d + k ≤ 5) where
-  wide-few : z .width ≤ 65535 → paddedSize k d z .width ≤ 65536
-  unfolding paddedSize
-  wide-few l = rounded-few (k + d) (z .width) (omega arith) l
-
-  high-few : z .height ≤ 65535 → paddedSize k d z .height ≤ 65536
-  unfolding paddedSize
-  high-few l = rounded-few d (z .height) (omega arith) l
 
 -- ---- the matrix
 values-by : (s : Settings) (m : List ℕ) (n : ℕ) (c : Bool) (d : Option (List ℕ)) → n ≡ subbandCount (s .«dwt_depth_ho») (s .«dwt_depth») → MatrixFits s m c d → MatrixIf n d
@@ -128,8 +118,8 @@ module _ {s : Settings} {m : List ℕ} (c : Called s m) where
 
   component-in : (z : Size) → Sides s z → (coefs rebuilt : ℕ) → coefs < 2 ^ 30 → rebuilt < 2 ^ 30 → ComponentIn (componentAt s z coefs rebuilt)
   component-in z f coefs rebuilt a b = record {
-    width = wide-few (s .«dwt_depth_ho») (s .«dwt_depth») z (c .depths) (f .width .few);
-    height = high-few (s .«dwt_depth_ho») (s .«dwt_depth») z (c .depths) (f .height .few);
+    width = f .padded-width .few;
+    height = f .padded-height .few;
     coefs = a;
     rebuilt = b;
   }

@@ -15,6 +15,7 @@ use Rattle.laws.specs.Wrap.{wrap}
 use Rattle.wavelet.specs.Planes.{Band, coefficients}
 use Rattle.wavelet.specs.PlaneLaws.{length-coefficients}
 use Rattle.wavelet.specs.Pad.{padded, componentOf}
+use Rattle.wavelet.specs.Depth.{deepest}
 use Rattle.wavelet.specs.Theorems.{component-exact}
 use Rattle.wavelet.specs.Walk.{Deep}
 use Rattle.wavelet.specs.Component.{ComponentsIn}
@@ -29,7 +30,7 @@ use Rattle.unit.specs.Coefficients.{bandsOf, coefficientsOf}
 use Rattle.unit.specs.Valid.{Between}
 use Rattle.unit.specs.ValidLaws as valid
 use Rattle.unit.specs.Intlog2Laws.{depth-range, offset-is, offset-range}
-use Rattle.unit.specs.PaddedLaws.{rounded-few, padded-is}
+use Rattle.unit.specs.PaddedLaws.{padded-is}
 use Rattle.picture.specs.declared.layout.Component.{Component}
 use Rattle.picture.specs.declared.layout.Layout.{Layout}
 use Rattle.picture.specs.declared.layout.Picture.{Picture}
@@ -72,12 +73,12 @@ module _ (s : Settings) where
   paddedIn = paddedSize (s .«dwt_depth_ho») (s .«dwt_depth»)
 
   -- what padding asks of sides r, which are z
-  pub padded-asks : (r : code.Sides) (z : Size) → s .«dwt_depth» + s .«dwt_depth_ho» ≤ 5 → valid.Sides s z → sizeIn r ≡ z
-      → (s .«dwt_depth» ≤ 5) × ((s .«dwt_depth_ho» ≤ 5) × ((r .width ≤ 65535) × (r .height ≤ 65535)))
+  pub padded-asks : (r : code.Sides) (z : Size) → s .«dwt_depth» + s .«dwt_depth_ho» ≤ deepest → valid.Sides s z → sizeIn r ≡ z
+      → (s .«dwt_depth» + s .«dwt_depth_ho» ≤ deepest) × ((r .width ≤ 65535) × (r .height ≤ 65535))
   padded-asks r z d h e =
       let w : r .width ≡ z .width = ap (λ (z : Size). z .width) e in
       let v : r .height ≡ z .height = ap (λ (z : Size). z .height) e in
-      (omega (arith, d), (omega (arith, d), (omega (arith, w, h .width), omega (arith, v, h .height))))
+      (d, (omega (arith, w, h .width), omega (arith, v, h .height)))
 
   -- padded sides q of sides r, which are z
   padded-sides : (r q : code.Sides) (z : Size) → sizeIn r ≡ z → sizeIn q ≡ paddedIn (sizeIn r) → sizeIn q ≡ paddedIn z
@@ -193,8 +194,8 @@ deep-of : (s : Settings) (p : Three (List ℕ)) (w : List ℤ) → Ready s p w �
 unfolding paddedSize
 deep-of s p w k z h = record {
   sides = padded-is (s .«dwt_depth_ho») (s .«dwt_depth») z;
-  h-le = rounded-few (s .«dwt_depth») (z .height) (omega (arith, k .depths)) (h .height .few);
-  w-le = rounded-few (s .«dwt_depth_ho» + s .«dwt_depth») (z .width) (omega (arith, k .depths)) (h .width .few);
+  h-le = h .padded-height .few;
+  w-le = h .padded-width .few;
   ih-le = k .wavelet-ho;
   iv-le = k .wavelet;
 }

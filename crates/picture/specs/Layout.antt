@@ -7,6 +7,7 @@ use lib.Dec.{eqb, leb}
 use lib.IntN.{ℤ}
 use lib.ListN.{length, getD}
 use Rattle.quantiser.specs.Quant.{quantFactor, quantOffset, bandIndex}
+use Rattle.wavelet.specs.Depth.{deepest}
 use Rattle.unit.specs.Sizes.{Size, area}
 use Rattle.unit.specs.Subbands.{levelSize}
 use Rattle.unit.specs.Slices.{Grid, sliceCount, top, bottom, left, right}
@@ -85,9 +86,10 @@ restNumbers w l c second pair k q (suc n) =
 
 -- ---- conditions
 pub record LayoutIn (l : Layout) : Type 0 where
-  pub depths : l .depth + l .«depth_ho» ≤ 5
+  pub depths : l .depth + l .«depth_ho» ≤ deepest
   pub across : (1 ≤ l .across) × (l .across ≤ 65535)
   pub down : (1 ≤ l .down) × (l .down ≤ 65535)
+  -- as many as the largest matrix has, 1 + 3 * deepest
   pub values : length (l .values) ≡ 25
 
 pub record ComponentIn (c : Component) : Type 0 where

@@ -9,6 +9,8 @@ use lib.IntN.{ℤ}
 use lib.ListN.{length, getD, drop, drop-of-length-le}
 use lib.Seq.{drop-cons}
 use borrow.Author.Tests.{lt-ltb, le-ltb}
+use Rattle.wavelet.specs.Depth.{depthLimit}
+use Rattle.wavelet.specs.DepthLaws.{few-levels}
 use Rattle.unit.specs.declared.Settings.{Settings}
 use Rattle.unit.specs.Three.{Three}
 use Rattle.unit.specs.Refusal.{outside, anyAbove, broken, firstFrom}
@@ -46,7 +48,7 @@ measured s m p work d f =
     let w = or-none (outside 65535 (s .«frame_width»)) _ .0 (b .1) in
     let h = or-none (outside 65535 (s .«frame_height»)) _ .0 (w .1) in
     record {
-      depths = at-most 5 (s .«dwt_depth» + s .«dwt_depth_ho») .0 d;
+      depths = few-levels (s .«wavelet_index_ho») (s .«wavelet_index») (at-most (depthLimit (s .«wavelet_index_ho») (s .«wavelet_index»)) (s .«dwt_depth» + s .«dwt_depth_ho») .0 d);
       width = between 65535 (s .«frame_width») .0 (w .0) .few;
       height = between 65535 (s .«frame_height») .0 (h .0) .few;
     }

@@ -9,12 +9,12 @@ use native.Mathlib.Numerals.{add-one}
 use native.Mathlib.Decide.{decLe}
 use native.Mathlib.Omega.{arith}
 use lib.ListN.{length, getD, drop, set, replicate}
-use lib.Pow.{pow-pos, pow-mono}
+use lib.Pow.{pow-mono}
 use lib.Seq.{paste, paste-suc, take-all}
 use Rattle.quantiser.specs.AnnexD.{defaultMatrix}
 use Rattle.quantiser.specs.Default as default
 use Rattle.quantiser.specs.Default.{places, handed}
-use Rattle.wavelet.specs.Pad.{paddedSide}
+use Rattle.wavelet.specs.Depth.{deepest}
 use Rattle.unit.specs.declared.Settings.{Settings}
 use Rattle.unit.specs.Sizes.{Size, lumaSize, colourSize, intlog2}
 use Rattle.unit.specs.Subbands.{paddedSize}
@@ -23,7 +23,7 @@ use Rattle.unit.specs.Refusal.{isNone, paddedArea}
 use Rattle.unit.specs.Valid.{MatrixFits}
 use Rattle.unit.specs.TestLaws.{no-truth}
 use Rattle.unit.specs.Intlog2Laws.{intlog2-least}
-use Rattle.unit.specs.PaddedLaws.{rounded, padded-wide, padded-high}
+use Rattle.unit.specs.PaddedLaws.{wide-few, high-few}
 use Rattle.unit.specs.ValidLaws.{luma-fits, colour-fits}
 
 -- ---- intlog2
@@ -43,16 +43,10 @@ log-few n h = let l = intlog2-least n .least 62 (omega arith) in omega arith
 pub log-is : (n m : ℕ) → n ≤ 2 ^ m → m ≤ intlog2 n → m ≡ intlog2 n
 log-is n m h l = le-antisymm l (intlog2-least n .least m h)
 
--- ---- products and padded sides in the code's widths
-pub padded-few : (n side : ℕ) → n ≤ 10 → side ≤ 65535 → paddedSide n side < 2 ^ 32
-padded-few n side h l =
-    let p = pow-mono {i = n} {j = 10} h in
-    omega (arith, rounded (2 ^ n) side (pow-pos n) .close)
-
 -- ---- areas
 -- the depths and the frame are small enough for padded areas to be worked out
 pub record Measured (s : Settings) : Type 0 where
-  pub depths : s .«dwt_depth» + s .«dwt_depth_ho» ≤ 5
+  pub depths : s .«dwt_depth» + s .«dwt_depth_ho» ≤ deepest
   pub width : s .«frame_width» ≤ 65535
   pub height : s .«frame_height» ≤ 65535
 
@@ -74,11 +68,10 @@ pub padded-area-few : (s : Settings) (z : Size) → Measured s → Within s z �
 padded-area-few s z m w =
     let k = s .«dwt_depth_ho» in
     let d = s .«dwt_depth» in
-    let p = pow-mono {i = k + d} {j = 5} (omega (arith, m .depths)) in
-    let q = pow-mono {i = d} {j = 5} (omega (arith, m .depths)) in
-    let h : paddedArea s z ≤ 131072 * 131072 =
-    mul-le-mul {n₁ = paddedSize k d z .width} {m₁ = paddedSize k d z .height} {n₂ = 131072} {m₂ = 131072}
-    (omega (arith, padded-wide k d z .close, m .width, w .width)) (omega (arith, padded-high k d z .close, m .height, w .height)) in
+    let l : k + d ≤ deepest = omega (arith, m .depths) in
+    let h : paddedArea s z ≤ 65536 * 65536 =
+    mul-le-mul {n₁ = paddedSize k d z .width} {m₁ = paddedSize k d z .height} {n₂ = 65536} {m₂ = 65536}
+    (wide-few k d z l (omega (arith, m .width, w .width))) (high-few k d z l (omega (arith, m .height, w .height))) in
     omega arith
 
 -- ---- the places, the first i of them filled
@@ -102,7 +95,7 @@ filled-places vs xs i e p =
 
 -- ---- the lent matrix
 module _ (s : Settings) (m : List ℕ) where
-  pub custom-few : s .«custom_matrix» ≡ true → s .«dwt_depth» + s .«dwt_depth_ho» ≤ 5 → MatrixFits s m (s .«custom_matrix») (defaultOf s) → length m ≤ 25
+  pub custom-few : s .«custom_matrix» ≡ true → s .«dwt_depth» + s .«dwt_depth_ho» ≤ deepest → MatrixFits s m (s .«custom_matrix») (defaultOf s) → length m ≤ 25
   custom-few e d f = by (s .«custom_matrix») e f
     where
       by : (b : Bool) → b ≡ true → MatrixFits s m b (defaultOf s) → length m ≤ 25

@@ -44,3 +44,4 @@ pub mod PlannedLaws
 pub mod DropLaws
 pub mod DemandLaws
 pub mod Examples
+pub mod DepthExamples

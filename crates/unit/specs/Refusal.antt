@@ -1,4 +1,4 @@
--- Refusals 1 to 13 in checking order: document 01, "Answers that turn a call away".
+-- Refusals 1 to 13 in checking order: document 01, "Answers that turn a call away"; document 02, (iii).
 use mathlib.Core.Bool.{Bool, true, false, not, _&&_, _||_}
 use mathlib.Core.List.{List, [], _∷_}
 use mathlib.Core.Option.{Option, none, some}
@@ -6,6 +6,7 @@ use Prim.Native.Nat.{ℕ, suc, _+_, _*_}
 use lib.Dec.{eqb, ltb}
 use lib.IntN.{ℤ}
 use lib.ListN.{length}
+use Rattle.wavelet.specs.Depth.{tooDeep}
 use Rattle.unit.specs.declared.Settings.{Settings}
 use Rattle.unit.specs.declared.PictureKind.{PictureKind}
 use Rattle.unit.specs.declared.PictureKind.the-variants.{LowDelay, HighQuality}
@@ -62,7 +63,7 @@ broken s m p work =
     let z = lumaSize s in
     let c = colourSize s in
     (ltb 6 (s .«wavelet_index») || ltb 6 (s .«wavelet_index_ho»))
-    ∷ ltb 5 (s .«dwt_depth» + s .«dwt_depth_ho»)
+    ∷ tooDeep (s .«wavelet_index») (s .«wavelet_index_ho») (s .«dwt_depth») (s .«dwt_depth_ho»)
     ∷ (outside 65535 (s .«slices_x») || (outside 65535 (s .«slices_y») || ltb 1048576 (s .«slices_x» * s .«slices_y»)))
     ∷ (outside 65535 (s .«slice_size_scaler») || ltb 255 (s .«slice_prefix_bytes»))
     ∷ noTarget (s .kind) (s .rate)

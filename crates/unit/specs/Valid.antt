@@ -6,6 +6,7 @@ use mathlib.Core.Option.{Option, none, some}
 use Prim.Native.Nat.{ℕ, _+_, _*_, _≤_}
 use lib.IntN.{ℤ}
 use lib.ListN.{length}
+use Rattle.wavelet.specs.Depth.{depthLimit}
 use Rattle.unit.specs.declared.Settings.{Settings}
 use Rattle.unit.specs.declared.PictureKind.{PictureKind}
 use Rattle.unit.specs.declared.PictureKind.the-variants.{LowDelay, HighQuality}
@@ -42,7 +43,7 @@ MatrixFits s m false (some vs) = Unit {0}
 pub record Valid (s : Settings) (m : List ℕ) (p : Three (List ℕ)) (work : List ℤ) : Type 0 where
   pub wavelet : s .«wavelet_index» ≤ 6
   pub wavelet-ho : s .«wavelet_index_ho» ≤ 6
-  pub depths : s .«dwt_depth» + s .«dwt_depth_ho» ≤ 5
+  pub depths : s .«dwt_depth» + s .«dwt_depth_ho» ≤ depthLimit (s .«wavelet_index_ho») (s .«wavelet_index»)
   pub across : Between 65535 (s .«slices_x»)
   pub down : Between 65535 (s .«slices_y»)
   pub slices : s .«slices_x» * s .«slices_y» ≤ 1048576

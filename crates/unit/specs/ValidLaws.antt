@@ -11,7 +11,8 @@ use native.Mathlib.Omega.{arith}
 use lib.Dec.{eqb, ltb}
 use lib.IntN.{ℤ}
 use lib.ListN.{length, drop}
-use lib.Pow.{pow-mono}
+use Rattle.wavelet.specs.Depth.{depthLimit, deepest}
+use Rattle.wavelet.specs.DepthLaws.{few-levels}
 use Rattle.unit.specs.declared.Settings.{Settings}
 use Rattle.unit.specs.declared.PictureKind.{PictureKind}
 use Rattle.unit.specs.declared.PictureKind.the-variants.{LowDelay, HighQuality}
@@ -28,7 +29,7 @@ use Rattle.unit.specs.Parameters.{SliceParameters}
 use Rattle.unit.specs.Unit.{versionBy, majorVersion, gridOf, parametersBy, targetOf}
 use Rattle.unit.specs.Sound.{SliceFits, CarriedFits, Legal}
 use Rattle.unit.specs.Intlog2Laws.{depth-range}
-use Rattle.unit.specs.PaddedLaws.{padded-wide, padded-high, padded-mono}
+use Rattle.unit.specs.PaddedLaws.{padded-wide, padded-high, wide-few, high-few, padded-mono}
 use Rattle.unit.specs.TestLaws.{no-truth, or-none, both, at-most, same, some-of, between, all-most}
 
 -- rules 5 to 7 are not broken
@@ -84,7 +85,7 @@ module _ (s : Settings) (m : List ℕ) (p : Three (List ℕ)) (work : List ℤ) 
       let z = area (lumaSize s) in
       let c = area (colourSize s) in
       let r1 = both (at-most 6 (s .«wavelet_index»)) (at-most 6 (s .«wavelet_index_ho»)) in
-      let r2 = at-most 5 (s .«dwt_depth» + s .«dwt_depth_ho») in
+      let r2 = at-most (depthLimit (s .«wavelet_index_ho») (s .«wavelet_index»)) (s .«dwt_depth» + s .«dwt_depth_ho») in
       let r3 = both (between 65535 (s .«slices_x»)) (both (between 65535 (s .«slices_y»)) (at-most 1048576 (s .«slices_x» * s .«slices_y»))) in
       let r4 = both (between 65535 (s .«slice_size_scaler»)) (at-most 255 (s .«slice_prefix_bytes»)) in
       let r7 = rate-fits (s .kind) (s .rate) in
@@ -147,8 +148,8 @@ module _ (s : Settings) (m : List ℕ) (p : Three (List ℕ)) (work : List ℤ) 
 pub record Sides (s : Settings) (z : Size) : Type 0 where
   pub width : Between 65535 (z .width)
   pub height : Between 65535 (z .height)
-  pub padded-width : Between 131071 (paddedSize (s .«dwt_depth_ho») (s .«dwt_depth») z .width)
-  pub padded-height : Between 131071 (paddedSize (s .«dwt_depth_ho») (s .«dwt_depth») z .height)
+  pub padded-width : Between 65536 (paddedSize (s .«dwt_depth_ho») (s .«dwt_depth») z .width)
+  pub padded-height : Between 65536 (paddedSize (s .«dwt_depth_ho») (s .«dwt_depth») z .height)
   pub padded-area : Between 67108864 (paddedArea s z)
 
 halved-le : (b : Bool) (n : ℕ) → halvedIf b n ≤ n
@@ -164,7 +165,7 @@ some-sides zero b h = absurd (omega arith)
 some-sides (suc a) zero h = absurd (omega (arith, mul-zero (suc a)))
 some-sides (suc a) (suc b) h = omega arith
 
-sides : (s : Settings) (z : Size) → s .«dwt_depth» + s .«dwt_depth_ho» ≤ 5 → z .width ≤ 65535 → z .height ≤ 65535 → 1 ≤ area z
+sides : (s : Settings) (z : Size) → s .«dwt_depth» + s .«dwt_depth_ho» ≤ deepest → z .width ≤ 65535 → z .height ≤ 65535 → 1 ≤ area z
     → paddedArea s z ≤ 67108864 → Sides s z
 sides s z d w h a r =
     let k = s .«dwt_depth_ho» in
@@ -172,13 +173,11 @@ sides s z d w h a r =
     let e = some-sides (z .width) (z .height) a in
     let p = padded-wide k n z in
     let q = padded-high k n z in
-    let i = pow-mono {i = k + n} {j = 5} (omega arith) in
-    let j = pow-mono {i = n} {j = 5} (omega arith) in
     record {
       width = record { some = e .0; few = w };
       height = record { some = e .1; few = h };
-      padded-width = record { some = omega arith; few = omega arith };
-      padded-height = record { some = omega arith; few = omega arith };
+      padded-width = record { some = omega arith; few = wide-few k n z (omega arith) w };
+      padded-height = record { some = omega arith; few = high-few k n z (omega arith) h };
       padded-area = record { some = mul-pos {m = paddedSize k n z .width} {n = paddedSize k n z .height} (omega arith) (omega arith); few = r };
     }
 
@@ -220,13 +219,13 @@ pub record DepthsFit (d : Three ℕ) : Type 0 where
 
 module _ {s : Settings} {m : List ℕ} {p : Three (List ℕ)} {work : List ℤ} (v : Valid s m p work) where
   pub luma-sides : Sides s (lumaSize s)
-  luma-sides = let f = luma-fits s in sides s (lumaSize s) (v .depths) (omega (arith, v .width)) (omega (arith, v .height)) (v .luma-some) (v .padded)
+  luma-sides = let f = luma-fits s in sides s (lumaSize s) (few-levels (s .«wavelet_index_ho») (s .«wavelet_index») (v .depths)) (omega (arith, v .width)) (omega (arith, v .height)) (v .luma-some) (v .padded)
 
   pub colour-sides : Sides s (colourSize s)
   colour-sides =
       let f = luma-fits s in
       let c = colour-fits s in
-      sides s (colourSize s) (v .depths) (omega (arith, v .width)) (omega (arith, v .height)) (v .colour-some)
+      sides s (colourSize s) (few-levels (s .«wavelet_index_ho») (s .«wavelet_index») (v .depths)) (omega (arith, v .width)) (omega (arith, v .height)) (v .colour-some)
       (le-trans (colour-most s) (v .padded))
 
   -- ---- sample depths

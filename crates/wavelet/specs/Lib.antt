@@ -1,11 +1,13 @@
 pub mod Lifting
 pub mod Filters
 pub mod Planes
+pub mod Depth
 pub mod Pad
 pub mod RowCall
 pub mod LiftingLaws
 pub mod Bound
 pub mod PlaneLaws
+pub mod DepthLaws
 pub mod PlaneBound
 pub mod Bands
 pub mod PlaneLists

@@ -1,9 +1,10 @@
 -- How large the analysis of a plane makes its numbers, filter by filter, and that every sum and product of it is a
 -- number of 64 bits while they stay within 2 ^ 51: what `wr` does with any other number changes nothing.
 use mathlib.Core.Path.{_≡_, refl, ap, _∙_}
+use mathlib.Core.Bool.{Bool, true, false, _&&_, false≢true}
 use Prim.Native.Nat.{ℕ, zero, suc, _+_, _*_, _-_, _/_, _%_, _^_, _≤_, _<_}
 use native.Mathlib.Omega.{arith}
-use native.Mathlib.Nat.{le-trans, mul-le-mul-left}
+use native.Mathlib.Nat.{le-trans, mul-le-mul-left, mul-le-mul}
 use native.Mathlib.Decide.{decLt}
 use mathlib.Core.List.{List, [], _∷_, _++_}
 use lib.ListN.{length, List·getD-eq-default, List·getD-append}
@@ -16,6 +17,7 @@ use Rattle.laws.specs.Plane.{Plane, turned, asList, row-lt, column-lt}
 use Rattle.wavelet.specs.Lifting.{Keeps, exact}
 use Rattle.wavelet.specs.LiftingLaws.{each-filter}
 use Rattle.wavelet.specs.Filters.{filterOf, analysisBy}
+use Rattle.wavelet.specs.Depth.{deepFilter, limitBy}
 use Rattle.wavelet.specs.Bound.{growth, grown, InRange, Pass, pass}
 use Rattle.wavelet.specs.Planes.{Band, coefficients, ofRows, rowsBy, columnsBy, raise, hPass, vhPass, part, partH, dwtH, dwt, Padded}
 use Rattle.wavelet.specs.PlaneLaws.{rows-cong, rows-at, bits-le, padded-both, padded-across}
@@ -212,7 +214,7 @@ pub record Factor (i j g : ℕ) : Type 0 where
 times-up : (g n M : ℕ) → 1 ≤ g → M ≤ times g n M
 unfolding times
 times-up g zero M h = omega arith
-times-up g (suc n) M h = le-trans (omega (arith, native.Mathlib.Nat.mul-le-mul {n₁ = 1} {m₁ = M} {n₂ = g} {m₂ = M} h (omega arith))) (times-up g n (g * M) h)
+times-up g (suc n) M h = le-trans (omega (arith, mul-le-mul {n₁ = 1} {m₁ = M} {n₂ = g} {m₂ = M} h (omega arith))) (times-up g n (g * M) h)
 
 dwtH-times : (i j g k n M : ℕ) → Factor i j g → k ≤ n → dwtHGrown i k M ≤ times g n M
 unfolding dwtHGrown times
@@ -226,17 +228,68 @@ dwt-times i j g k zero n M f l = dwtH-times i j g k n M f (omega arith)
 dwt-times i j g k (suc d) zero M f l = absurd (omega arith)
 dwt-times i j g k (suc d) (suc n) M f l = le-trans (dwt-times i j g k d n (vhGrown i j M) f (omega arith)) (times-le g n (vhGrown i j M) (g * M) (f .vh-le M))
 
-grown-le : (i : ℕ) → i ≤ 6 → (M : ℕ) → grown i M ≤ 7408 * M / 1000
-unfolding grown growth
-grown-le = each-filter (λ i. (M : ℕ) → grown i M ≤ 7408 * M / 1000) (λ M. omega arith) (λ M. omega arith) (λ M. omega arith) (λ M. omega arith) (λ M. omega arith) (λ M. omega arith) (λ M. omega arith)
+-- how many times as large a pass makes numbers at most, in thousandths: by LeGall and Haar, and by every filter
+abbrev passMost : Bool → ℕ
+passMost true = 3000
+passMost false = 7408
 
--- with every pair of filters a level makes numbers at most 110 times as large
-pub any-factor : (i j : ℕ) → i ≤ 6 → j ≤ 6 → Factor i j 110
-any-factor i j hi hj = record {
-  one = omega arith;
-  h-le = λ M. omega (arith, grown-le i hi (2 ^ filterOf i .bits * M), raised-le (filterOf i .bits) M (bits-le i hi));
-  vh-le = λ M. omega (arith, grown-le j hj (hGrown i M), grown-le i hi (2 ^ filterOf i .bits * M), raised-le (filterOf i .bits) M (bits-le i hi));
+-- how many times as large a level makes them at most, with a shift by one bit and two passes: 2 times 3 times 3, and 2
+-- times 7.408 times 7.408, rounded up
+abbrev pub levelMost : Bool → ℕ
+levelMost true = 18
+levelMost false = 110
+
+deep-growth : (i : ℕ) → i ≤ 6 → deepFilter i ≡ true → growth i ≤ passMost true
+unfolding growth
+deep-growth =
+    each-filter (λ i. deepFilter i ≡ true → growth i ≤ passMost true) (λ e. omega arith) (λ e. omega arith) (λ e. omega arith) (λ e. omega arith) (λ e. omega arith)
+    (λ e. absurd (false≢true e)) (λ e. absurd (false≢true e))
+
+any-growth : (i : ℕ) → i ≤ 6 → growth i ≤ passMost false
+unfolding growth
+any-growth = each-filter (λ i. growth i ≤ passMost false) (omega arith) (omega arith) (omega arith) (omega arith) (omega arith) (omega arith) (omega arith)
+
+pass-le : (i a : ℕ) {M N : ℕ} → growth i ≤ a → M ≤ N → grown i M ≤ a * N / 1000
+unfolding grown
+pass-le i a {M} {N} g h = let l : growth i * M ≤ a * N = mul-le-mul g h in omega arith
+
+-- a level: a pass by rows of numbers that the shift has made twice as large at most, and a pass by columns
+factor-by : (b : Bool) (i j : ℕ) → i ≤ 6 → growth i ≤ passMost b → growth j ≤ passMost b → Factor i j (levelMost b)
+factor-by b i j hi gi gj = record {
+  one = one b;
+  h-le = λ M. le-trans (h M) (across b M);
+  vh-le = λ M. le-trans (pass-le j (passMost b) gj (h M)) (down b M);
 }
+  where
+    h : (M : ℕ) → hGrown i M ≤ passMost b * (2 * M) / 1000
+    h M = pass-le i (passMost b) gi (raised-le (filterOf i .bits) M (bits-le i hi) .1)
+
+    one : (b : Bool) → 1 ≤ levelMost b
+    one true = omega arith
+    one false = omega arith
+
+    across : (b : Bool) (M : ℕ) → passMost b * (2 * M) / 1000 ≤ levelMost b * M
+    across true M = omega arith
+    across false M = omega arith
+
+    down : (b : Bool) (M : ℕ) → passMost b * (passMost b * (2 * M) / 1000) / 1000 ≤ levelMost b * M
+    down true M = omega arith
+    down false M = omega arith
+
+-- with every pair of filters
+pub level-factor : (i j : ℕ) → i ≤ 6 → j ≤ 6 → Factor i j (levelMost (deepFilter i && deepFilter j))
+level-factor i j hi hj = by (deepFilter i) (deepFilter j) refl refl
+  where
+    by : (a b : Bool) → deepFilter i ≡ a → deepFilter j ≡ b → Factor i j (levelMost (a && b))
+    by true true ei ej = factor-by true i j hi (deep-growth i hi ei) (deep-growth j hj ej)
+    by true false ei ej = factor-by false i j hi (any-growth i hi) (any-growth j hj)
+    by false b ei ej = factor-by false i j hi (any-growth i hi) (any-growth j hj)
+
+-- as many levels as the filters allow stay below 2 ^ 51
+pub levels-below : (b : Bool) → times (levelMost b) (limitBy b) (2 ^ 16) < 2 ^ 51
+unfolding times
+levels-below true = omega arith
+levels-below false = omega arith
 
 -- ---- the coefficients as a list
 at-append : (N : ℕ) (xs ys : List ℤ) → ((k : ℕ) → natAbs (at xs k) ≤ N) → ((k : ℕ) → natAbs (at ys k) ≤ N) → (k : ℕ) → natAbs (at (xs ++ ys) k) ≤ N

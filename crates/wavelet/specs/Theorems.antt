@@ -1,6 +1,7 @@
 -- The layer's theorems, for the layer above: the standard's synthesis gives the plane back, and from samples to
 -- coefficients nothing wraps and every coefficient is below 2 ^ 51.
 use mathlib.Core.Path.{_≡_}
+use mathlib.Core.Bool.{_&&_}
 use Prim.Native.Nat.{ℕ, _+_, _*_, _-_, _^_, _≤_, _<_, min}
 use native.Mathlib.Omega.{arith}
 use native.Mathlib.Nat.{lt-of-le-of-lt, le-of-lt}
@@ -13,10 +14,11 @@ use Rattle.laws.specs.Rows.{at}
 use Rattle.laws.specs.Plane.{Plane, Agree}
 use Rattle.wavelet.specs.Lifting.{Keeps, exact}
 use Rattle.wavelet.specs.Planes.{Band, dwt, idwt, Padded}
+use Rattle.wavelet.specs.Depth.{deepFilter, limitBy, depthLimit}
 use Rattle.wavelet.specs.Pad.{padded, componentOf}
 use Rattle.wavelet.specs.PlaneLaws as laws
 use Rattle.wavelet.specs.PlaneBound as bound
-use Rattle.wavelet.specs.PlaneBound.{Small, AllSmall, Unwrapped, dwtGrown, Factor, times, dwt-times, any-factor, coefficients-small}
+use Rattle.wavelet.specs.PlaneBound.{Small, AllSmall, Unwrapped, dwtGrown, Factor, times, dwt-times, levelMost, level-factor, levels-below, coefficients-small}
 
 -- 15.4.1 undoes the analysis, for every pair of filters, all depths and all padded sides: rows by filter i, columns by
 -- filter j
@@ -78,8 +80,10 @@ component-within i j k d g n s o w h pw ph hi hj f few low p hs ho =
       back = rw (r .same) (laws.idwt-undoes-dwt i j hi hj k d ph pw P p);
     }
 
--- every pair of the seven filters, and depths that sum to at most 5
-pub component-exact : (i j k d : ℕ) (s : List ℕ) (o w h pw ph : ℕ) → i ≤ 6 → j ≤ 6 → k + d ≤ 5 → Padded k d ph pw → ((n : ℕ) → getD s n 0 < 2 ^ 16) → o ≤ 2 ^ 15
+-- every pair of the seven filters, and depths that sum to at most their limit
+pub component-exact : (i j k d : ℕ) (s : List ℕ) (o w h pw ph : ℕ) → i ≤ 6 → j ≤ 6 → k + d ≤ depthLimit i j → Padded k d ph pw → ((n : ℕ) → getD s n 0 < 2 ^ 16) → o ≤ 2 ^ 15
     → Exact i j k d s o w h pw ph
-unfolding times
-component-exact i j k d s o w h pw ph hi hj few p hs ho = component-within i j k d 110 5 s o w h pw ph hi hj (any-factor i j hi hj) few (omega arith) p hs ho
+unfolding depthLimit
+component-exact i j k d s o w h pw ph hi hj few p hs ho =
+    let b = deepFilter i && deepFilter j in
+    component-within i j k d (levelMost b) (limitBy b) s o w h pw ph hi hj (level-factor i j hi hj) few (levels-below b) p hs ho

@@ -3,6 +3,7 @@ ghost use Rattle.wavelet.specs.RowCall.{Analysed};
 
 mod arith;
 pub mod component;
+pub mod depth;
 mod lift;
 pub mod pad;
 mod plane;

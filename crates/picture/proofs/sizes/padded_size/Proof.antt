@@ -3,7 +3,7 @@ use native.Mathlib.Omega.{arith}
 use Prim.Native.Nat.{_+_}
 use mathlib.Core.Path.{refl}
 use Rattle.unit.specs.Subbands.{paddedSize}
-use Rattle.picture.specs.SidesLaws.{padded-few}
+use Rattle.unit.specs.PaddedLaws.{rounded-few}
 use borrow.Author.Needs.{needs}
 use Rattle.picture.proofs.sizes.padded_size.Statement.{statement}
 use Rattle.picture.proofs.sizes.padded_size.Tie as tie
@@ -23,7 +23,7 @@ padded-side-requires c κs = search needs
 cast-t6 : tie.Need-cast-t6
 cast-t6 c =
     let s = c .before .before .before in
-    record { fits = rw (c .padded-side .ensures) (padded-few (s .args .s .«dwt_depth_ho» + s .args .s .«dwt_depth») (s .args .z .width) (omega (arith, s .pre)) (omega (arith, s .pre))) }
+    record { fits = rw (c .padded-side .ensures) (omega (arith, rounded-few (s .args .s .«dwt_depth_ho» + s .args .s .«dwt_depth») (s .args .z .width) (omega (arith, s .pre)) (omega (arith, s .pre)))) }
 
 cast-padded-side-2 : tie.Need-cast-padded-side-2
 cast-padded-side-2 c = search needs
@@ -34,7 +34,7 @@ padded-side-requires-2 c κs = search needs
 cast-t9 : tie.Need-cast-t9
 cast-t9 c =
     let s = c .before .before .before .before .before in
-    record { fits = rw (c .padded-side2 .ensures) (padded-few (s .args .s .«dwt_depth») (s .args .z .height) (omega (arith, s .pre)) (omega (arith, s .pre))) }
+    record { fits = rw (c .padded-side2 .ensures) (omega (arith, rounded-few (s .args .s .«dwt_depth») (s .args .z .height) (omega (arith, s .pre)) (omega (arith, s .pre)))) }
 
 returns : tie.Need-returns
 unfolding paddedSize
