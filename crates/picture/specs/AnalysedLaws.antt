@@ -77,11 +77,12 @@ module _ {s : Settings} {m : List ℕ} {p : Three (List ℕ)} {w : List ℤ} (v 
   }
 
 -- ---- the matrix
-values-by : (s : Settings) (m : List ℕ) (n : ℕ) (c : Bool) (d : Option (List ℕ)) → n ≡ subbandCount (s .«dwt_depth_ho») (s .«dwt_depth») → MatrixFits s m c d → MatrixIf n d
+values-by : (s : Settings) (m : List ℕ) (n : ℕ) (c : Bool) (d : Option (List ℕ)) → n ≡ subbandCount (s .«dwt_depth_ho») (s .«dwt_depth») → MatrixFits s m c d
+    → MatrixIf (s .«dwt_depth_ho») (s .«dwt_depth») d
     → length {A = ℕ} (elim c [ true ↦ m | false ↦ Option·getD d [] ]) ≡ n
 values-by s m n true d e h g = h .0 ∙ sym e
 values-by s m n false none e h g = absurd h
-values-by s m n false (some vs) e h g = g .many
+values-by s m n false (some vs) e h g = g .many ∙ sym e
 
 module _ {s : Settings} {m : List ℕ} (c : Called s m) where
   -- as many values as there are subbands

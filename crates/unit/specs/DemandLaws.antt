@@ -135,10 +135,12 @@ module _ (s : Settings) (m : List ℕ) (p : Three (List ℕ)) (work : List ℤ) 
       component-exact (s .«wavelet_index_ho») (s .«wavelet_index») (s .«dwt_depth_ho») (s .«dwt_depth») (pick c p) (offsetOf (pick c (depthsOf s))) (z .width) (z .height)
       (y .width) (y .height) (v .wavelet-ho) (v .wavelet) (omega (arith, v .depths)) (padded-is (s .«dwt_depth_ho») (s .«dwt_depth») z) (t .samples c) (omega arith)
 
-  small : (c : Component) → AllSmall most (pick c (coefficientsOf s p))
+  below : (c : Component) → AllBelow (2 ^ 51) (pick c (coefficientsOf s p))
   unfolding bandsOf
-  small c =
-      rw (bands-pick s p c) (small-of most (bandsOf s (pick c (sizesOf s)) (pick c (depthsOf s)) (pick c p)) (exact-of c .below))
+  below c = rw (bands-pick s p c) (exact-of c .below)
+
+  small : (c : Component) → AllSmall most (pick c (coefficientsOf s p))
+  small c = small-of most (pick c (coefficientsOf s p)) (below c)
 
   -- the samples of a component, where the bands read equal its coefficients
   samples-back : (c : Component) (bs : List Band) → EqualBands (pick c (coefficientsOf s p)) bs
@@ -221,6 +223,11 @@ pub wraps-nowhere : (s : Settings) (m : List ℕ) (p : Three (List ℕ)) (work :
     ≡ pick c (coefficientsOf s p)
 unfolding bandsOf
 wraps-nowhere s m p work t e wr keeps c = exact-of s m p work (valid s m p work e) t c .nowhere wr keeps ∙ sym (bands-pick s p c)
+
+-- document 02, (iii), "Coefficients still stay below 2^51": of every such call, padding included
+pub coefficients-below : (s : Settings) (m : List ℕ) (p : Three (List ℕ)) (work : List ℤ) → Typed s p → refusalOf s m p work ≡ 0 → (c : Component)
+    → AllBelow (2 ^ 51) (pick c (coefficientsOf s p))
+coefficients-below s m p work t e = below s m p work (valid s m p work e) t
 
 -- ---- the outcome of a call
 abbrev pub isAccepted : Answer → Bool

@@ -44,4 +44,5 @@ pub mod PlannedLaws
 pub mod DropLaws
 pub mod DemandLaws
 pub mod Examples
+pub mod DepthLaws
 pub mod DepthExamples

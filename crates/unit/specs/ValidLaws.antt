@@ -69,11 +69,11 @@ matrix-fits s m false none = (λ h. no-truth (h .default), absurd)
 matrix-fits s m false (some vs) = (λ h. tt, λ h. record { own = refl; default = refl })
 
 -- ---- no rule is broken
-abbrev NoneOf : List Bool → Type 0
+abbrev pub NoneOf : List Bool → Type 0
 NoneOf [] = Unit {0}
 NoneOf (b ∷ bs) = (b ≡ false) × NoneOf bs
 
-none-of : (bs : List Bool) (n : ℕ) → (firstFrom (suc n) bs ≡ 0) ↔ NoneOf bs
+pub none-of : (bs : List Bool) (n : ℕ) → (firstFrom (suc n) bs ≡ 0) ↔ NoneOf bs
 none-of [] n = (λ e. tt, λ t. refl)
 none-of (true ∷ bs) n = (λ e. absurd (omega arith), λ t. no-truth (t .0))
 none-of (false ∷ bs) n = (λ e. (refl, none-of bs (suc n) .0 e), λ t. none-of bs (suc n) .1 (t .1))

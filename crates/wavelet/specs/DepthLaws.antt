@@ -14,6 +14,15 @@ few-levels i j {n} = by (deepFilter i && deepFilter j)
     by true h = h
     by false h = omega arith
 
+-- 5 levels are within every limit
+pub five-levels : (i j : ℕ) {n : ℕ} → n ≤ 5 → n ≤ depthLimit i j
+unfolding depthLimit
+five-levels i j {n} h = by (deepFilter i && deepFilter j)
+  where
+    by : (b : Bool) → n ≤ limitBy b
+    by true = omega arith
+    by false = h
+
 -- the limit, by what the code finds of the two filters
 pub limit-is : (i j : ℕ) {a b : Bool} → a ≡ deepFilter i → b ≡ deepFilter j → limitBy (a && b) ≡ depthLimit i j
 unfolding depthLimit
