@@ -10,6 +10,7 @@ mod wide;
 // Parts of the oracle, of which not all is used here.
 #[allow(dead_code)]
 mod cases;
+mod deep;
 #[allow(dead_code)]
 mod edges;
 #[allow(dead_code)]
@@ -54,8 +55,12 @@ const SHOWN: u64 = 20;
 const MANY_EVERY: u64 = 1_000;
 /// Calls with more slices than this are not made again with other lengths of the lent slices.
 const MANY_SLICES: u64 = 500;
-/// One job in so many also goes to the job program, and all malformed ones.
+/// One job in so many also goes to the job program, another one of `deep`, and all malformed ones.
 const JOB_EVERY: u64 = 20;
+/// Job n is one of `deep` where n divided by the first leaves the second, and no edge has its first
+/// turn.
+const DEEP_EVERY: u64 = 10;
+const DEEP_AT: u64 = 4;
 
 struct Run {
     folder: PathBuf,
@@ -188,11 +193,13 @@ impl Run {
             let rng = &mut sequence(seed, n as u64);
             let (what, mut call) = wide::large(rng, n);
             let [rust, port] = [self.rust, self.port];
-            call.output = 1 << 26;
+            call.output = 1 << 28;
             let Some(outcome) = self.expected(&what, &call) else { continue };
             call.output = outcome.unit.len() + 1_000;
             let before = self.differ;
             self.call(&what, &call, &outcome);
+            let (short, refused) = call.with_room(&outcome, call.work - 1, call.output);
+            self.call(&what, &short, &refused);
             println!(
                 "  {what}: answer {}, {} bytes, {} cut, scaler {}, {:.1} s, Rust {:.1} s{}",
                 outcome.answer,
@@ -241,7 +248,11 @@ impl Run {
         let name = format!("job {n}");
         // While each edge has its first turn, jobs may be slow; later another one stands in.
         let first_turn = (n as usize) < 4 * edges::count();
-        let (mut bytes, mut wanted) = generate::nth(rng, n as usize / 2);
+        let (mut bytes, mut wanted) = if !first_turn && n % DEEP_EVERY == DEEP_AT {
+            deep::nth(rng, (n / DEEP_EVERY) as usize)
+        } else {
+            generate::nth(rng, n as usize / 2)
+        };
         while !first_turn && jobs::is_slow(&bytes) {
             (bytes, wanted) = generate::nth(rng, 1);
         }
@@ -270,7 +281,8 @@ impl Run {
                 tally.add(&job.settings(), &job.planes, outcome);
             }
         }
-        if answer.is_none() || first_turn && wanted != Wanted::Any || n % JOB_EVERY == 0 {
+        let turn = n % JOB_EVERY == 0 || n % JOB_EVERY == DEEP_AT;
+        if answer.is_none() || first_turn && wanted != Wanted::Any || turn {
             self.job(&name, &bytes, &answered.text);
         }
     }

@@ -123,7 +123,7 @@ impl Job {
     }
 
     /// True if sizes and work slice are in range; meant for settings that are so otherwise.
-    fn fits(&self) -> bool {
+    pub fn fits(&self) -> bool {
         let s = self.settings();
         let [luma, colour] = s.sizes();
         luma.area() > 0 && colour.area() > 0 && s.work_needed() <= WORK as u64
@@ -185,6 +185,13 @@ fn general(rng: &mut Random) -> Job {
             break;
         }
     }
+    fill(rng, &mut job);
+    job
+}
+
+/// All settings of a job that has kind, wavelets, depths, sides, format and mode; its matrix and
+/// its planes.
+pub fn fill(rng: &mut Random, job: &mut Job) {
     let s = &mut job.settings;
     s[ACROSS] = rng.pick(&[1, 1, 1, 2, 2, 3, 4, 5, 7]);
     s[DOWN] = rng.pick(&[1, 1, 1, 2, 2, 3, 4, 6]);
@@ -222,7 +229,6 @@ fn general(rng: &mut Random) -> Job {
             }
         }
     }
-    job
 }
 
 /// A job like `general`, of one kind.

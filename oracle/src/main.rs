@@ -1,6 +1,7 @@
 //! Answers from the Rust encoder, for comparison with the port.
 
 mod cases;
+mod deep;
 mod edges;
 mod generate;
 mod jobs;
@@ -10,6 +11,7 @@ mod recorder;
 mod tally;
 mod unit;
 
+use edges::Wanted;
 use jobs::{Answered, is_slow};
 use random::Random;
 use recorder::{Recorder, packed};
@@ -21,11 +23,12 @@ use std::process::ExitCode;
 use tally::Tally;
 
 const USAGE: &str = "usage:
-  oracle record SEED words|quantiser|rows|dwts|jobs [COUNT]
-      prints recorded cases: edges, then random ones until there are COUNT
+  oracle record SEED words|quantiser|rows|dwts|jobs|deep [COUNT]
+      prints recorded cases: edges and random ones, COUNT in all
   oracle job
       reads a job and prints what the job program prints for it
   oracle jobs SEED COUNT DIR
+  oracle deep SEED COUNT DIR
       writes DIR/0001.job and DIR/0001.out and so on
   oracle case uint_code_len V | sint_code_len V | quant_factor INDEX | quant_offset INDEX
   oracle case forward_quant COEFFICIENT INDEX | inverse_quant NUMBER INDEX
@@ -34,6 +37,9 @@ const USAGE: &str = "usage:
       prints one answer of the Rust";
 
 type Done = Result<(), Box<dyn Error>>;
+
+/// Makes the `n`-th job of a run, and says what it must print.
+type Make = fn(&mut Random, usize) -> (Vec<u8>, Wanted);
 
 /// Recorded cases hold a job as bytes and what is printed for it.
 const JOB: u64 = 48;
@@ -46,24 +52,28 @@ fn record(seed: u64, what: &str, count: Option<u64>) -> Done {
         "quantiser" => cases::quantiser(&mut rec, rng, count.unwrap_or(6_600))?,
         "rows" => cases::rows(&mut rec, rng, count.unwrap_or(2_400))?,
         "dwts" => cases::dwts(&mut rec, rng, count.unwrap_or(400))?,
-        "jobs" => each_job(rng, count.unwrap_or(480), false, |_, bytes, answered| {
-            let text = answered.text.as_bytes();
-            let mut payload = vec![bytes.len() as u64];
-            payload.extend(packed(bytes));
-            payload.push(text.len() as u64);
-            payload.extend(packed(text));
-            rec.case(JOB, &payload)
-        })?,
+        "jobs" | "deep" => {
+            let (make, usual): (Make, _) =
+                if what == "jobs" { (generate::nth, 480) } else { (deep::nth, 60) };
+            each_job(rng, count.unwrap_or(usual), false, make, |_, bytes, answered| {
+                let text = answered.text.as_bytes();
+                let mut payload = vec![bytes.len() as u64];
+                payload.extend(packed(bytes));
+                payload.push(text.len() as u64);
+                payload.extend(packed(text));
+                rec.case(JOB, &payload)
+            })?
+        }
         _ => return Err(USAGE.into()),
     }
     eprintln!("{what}: {}", rec.finish()?);
     Ok(())
 }
 
-fn write_jobs(seed: u64, count: u64, dir: &str) -> Done {
+fn write_jobs(seed: u64, count: u64, dir: &str, make: Make) -> Done {
     fs::create_dir_all(dir)?;
     let rng = &mut Random::new(seed);
-    each_job(rng, count, true, |n, bytes, answered| {
+    each_job(rng, count, true, make, |n, bytes, answered| {
         let name = |extension| Path::new(dir).join(format!("{n:04}.{extension}"));
         fs::write(name("job"), bytes)?;
         fs::write(name("out"), &answered.text)
@@ -77,11 +87,12 @@ fn each_job(
     rng: &mut Random,
     count: u64,
     slow: bool,
+    make: Make,
     mut take: impl FnMut(u64, &[u8], &Answered) -> io::Result<()>,
 ) -> Done {
     let mut tally = Tally::default();
     let mut wrong = 0;
-    let jobs = (0..).map(|n| generate::nth(rng, n)).filter(|(bytes, _)| slow || !is_slow(bytes));
+    let jobs = (0..).map(|n| make(rng, n)).filter(|(bytes, _)| slow || !is_slow(bytes));
     for (n, (bytes, wanted)) in (1..=count).zip(jobs) {
         let answered = match jobs::answer(&bytes) {
             Ok(answered) => answered,
@@ -128,7 +139,8 @@ fn run(args: &[&str]) -> Done {
         ["record", seed, what] => record(number(seed)?, what, None),
         ["record", seed, what, count] => record(number(seed)?, what, Some(number(count)?)),
         ["job"] => answer_job(),
-        ["jobs", seed, count, dir] => write_jobs(number(seed)?, number(count)?, dir),
+        ["jobs", seed, count, dir] => write_jobs(number(seed)?, number(count)?, dir, generate::nth),
+        ["deep", seed, count, dir] => write_jobs(number(seed)?, number(count)?, dir, deep::nth),
         ["case", name, ref args @ ..] => single_case(name, args),
         _ => Err(USAGE.into()),
     }

@@ -1,7 +1,8 @@
-//! Picture calls at each boundary of document 01, from both sides, each with its name and the
-//! answer that it must have.
+//! Picture calls at each boundary of documents 01 and 02, from both sides, each with its name and
+//! the answer that it must have.
 
 use crate::call::{Call, NO_SETTINGS};
+use crate::deep;
 use crate::edges;
 use crate::jobs::{self, *};
 use crate::random::Random;
@@ -64,10 +65,10 @@ pub fn all(seed: u64) -> Vec<Named> {
     cases.scaler_and_prefix();
     cases.rates();
     cases.picture();
-    cases.matrices();
+    cases.in_room(1 << 20, Cases::matrices);
     cases.padded_area();
     cases.planes();
-    cases.work();
+    cases.in_room(1 << 20, Cases::work);
     cases.output();
     cases.numbers();
     cases.order();
@@ -81,7 +82,7 @@ fn kind_name(job: &Job) -> &'static str {
 /// A call on a work slice that is just long enough, where the settings let this be told.
 fn call_of(job: &Job, room: usize) -> Call {
     let s = job.settings();
-    let told = s.depth as u64 + s.depth_ho as u64 <= 5 && s.width.max(s.height) <= 65_535;
+    let told = s.depth_sum() <= 8 && s.width.max(s.height) <= 65_535;
     let work = if told && s.work_needed() <= MOST_WORK { s.work_needed() } else { WORK as u64 };
     Call::of(job, work as usize, room)
 }
@@ -105,6 +106,15 @@ impl Cases {
             }
         }
         jobs
+    }
+
+    /// These depths, with wavelets 1 and 4 where they sum to more than 5.
+    fn at_depths(depth: u32, depth_ho: u32) -> Vec<(usize, u32)> {
+        let mut change = vec![(DEPTH, depth), (DEPTH_HO, depth_ho)];
+        if depth + depth_ho > 5 {
+            change.extend([(WAVELET, 1), (WAVELET_HO, 4)]);
+        }
+        change
     }
 
     fn add(&mut self, name: String, call: Call, answer: u32) {
@@ -170,21 +180,54 @@ impl Cases {
         for depth in 0..=5 {
             self.settings(&[(DEPTH, depth), (DEPTH_HO, 5 - depth)], 0);
         }
-        for depth in 0..=6 {
-            self.settings(&[(DEPTH, depth), (DEPTH_HO, 6 - depth)], 2);
-        }
         self.settings(&[(DEPTH, 0), (DEPTH_HO, 0)], 0);
-        // Sums that come to 5 or less in 32 bits.
-        for (depth, depth_ho) in [
-            (LARGEST, 0),
-            (0, LARGEST),
-            (LARGEST, 1),
-            (1, LARGEST),
-            (LARGEST, 6),
-            (LARGEST, LARGEST),
-            (1 << 31, 1 << 31),
-        ] {
-            self.settings(&[(DEPTH, depth), (DEPTH_HO, depth_ho)], 2);
+        // Every pair of wavelets at each sum from 5 to 9: 8 is the limit of nine pairs, 5 of the others.
+        for wavelet in 0..=6 {
+            for wavelet_ho in 0..=6 {
+                let limit = if deep::allows_8(wavelet, wavelet_ho) { 8 } else { 5 };
+                for sum in 5..=9 {
+                    for depth in [0, sum / 2, sum] {
+                        let answer = if sum <= limit { 0 } else { 2 };
+                        let change: Change = &[
+                            (WAVELET, wavelet),
+                            (WAVELET_HO, wavelet_ho),
+                            (DEPTH, depth),
+                            (DEPTH_HO, sum - depth),
+                        ];
+                        self.in_room(1 << 20, |c| c.settings(change, answer));
+                        let lossless = [change, &[(KIND, 1), (RATE, 0), (RATE_NUMBER, 0)]].concat();
+                        self.in_room(1 << 20, |c| c.settings(&lossless, answer));
+                    }
+                }
+            }
+        }
+        for (depth, depth_ho) in [(6, 0), (4, 4), (7, 1), (8, 0), (0, 8)] {
+            let mut change = Cases::at_depths(depth, depth_ho);
+            change.extend([(WIDTH, 1), (HEIGHT, 1)]);
+            self.in_room(1 << 20, |c| c.settings(&change, 0));
+        }
+        // The largest depths, and sums that come to 8 or less in 32 bits.
+        for wavelet in [0, 1] {
+            for (depth, depth_ho) in [
+                (LARGEST, 0),
+                (0, LARGEST),
+                (LARGEST, 1),
+                (1, LARGEST),
+                (LARGEST, 6),
+                (9, LARGEST),
+                (LARGEST, LARGEST),
+                (1 << 31, 1 << 31),
+            ] {
+                self.settings(
+                    &[
+                        (WAVELET, wavelet),
+                        (WAVELET_HO, wavelet),
+                        (DEPTH, depth),
+                        (DEPTH_HO, depth_ho),
+                    ],
+                    2,
+                );
+            }
         }
     }
 
@@ -328,8 +371,22 @@ impl Cases {
     }
 
     fn matrices(&mut self) {
-        for (depth, depth_ho) in [(0, 0), (1, 0), (0, 1), (2, 1), (5, 0), (0, 5), (3, 2)] {
-            for job in self.jobs(&[(DEPTH, depth), (DEPTH_HO, depth_ho)]) {
+        for (depth, depth_ho) in [
+            (0, 0),
+            (1, 0),
+            (0, 1),
+            (2, 1),
+            (5, 0),
+            (0, 5),
+            (3, 2),
+            (6, 0),
+            (3, 3),
+            (8, 0),
+            (7, 1),
+            (4, 4),
+            (0, 8),
+        ] {
+            for job in self.jobs(&Cases::at_depths(depth, depth_ho)) {
                 let exact = job.matrix.len();
                 for (count, answer) in [
                     (0, 9),
@@ -406,6 +463,25 @@ impl Cases {
                 }
             }
         }
+        // Annex D has no matrix where the depths sum to more than 5.
+        for wavelet in deep::WAVELETS {
+            for wavelet_ho in deep::WAVELETS {
+                for sum in 6..=8 {
+                    for depth in 0..=sum {
+                        self.settings(
+                            &[
+                                (CUSTOM, 0),
+                                (WAVELET, wavelet),
+                                (WAVELET_HO, wavelet_ho),
+                                (DEPTH, depth),
+                                (DEPTH_HO, sum - depth),
+                            ],
+                            10,
+                        );
+                    }
+                }
+            }
+        }
         // Some wavelets and depths by hand.
         self.settings(&[(CUSTOM, 0), (WAVELET, 3), (WAVELET_HO, 1), (DEPTH, 2), (DEPTH_HO, 0)], 0);
         self.settings(&[(CUSTOM, 0), (WAVELET, 1), (WAVELET_HO, 3), (DEPTH, 2), (DEPTH_HO, 0)], 10);
@@ -445,14 +521,28 @@ impl Cases {
             ([(W, 8_192), (HEIGHT, 16_384), (D, 0), (H, 0), (MODE, 1)], 12),
             ([(W, 8_192), (HEIGHT, 16_385), (D, 0), (H, 0), (MODE, 1)], 12),
             ([(W, 8_192), (HEIGHT, 16_386), (D, 0), (H, 0), (MODE, 1)], 11),
+            ([(W, 7_937), (HEIGHT, 7_937), (D, 8), (H, 0), (MODE, 0)], 12),
+            ([(W, 8_193), (HEIGHT, 7_936), (D, 8), (H, 0), (MODE, 0)], 12),
+            ([(W, 8_193), (HEIGHT, 7_937), (D, 8), (H, 0), (MODE, 0)], 11),
+            ([(W, 7_937), (HEIGHT, 8_192), (D, 0), (H, 8), (MODE, 0)], 12),
+            ([(W, 7_937), (HEIGHT, 8_193), (D, 0), (H, 8), (MODE, 0)], 11),
+            ([(W, 7_937), (HEIGHT, 8_177), (D, 4), (H, 4), (MODE, 0)], 12),
+            ([(W, 7_937), (HEIGHT, 8_193), (D, 4), (H, 4), (MODE, 0)], 11),
+            ([(W, 65_535), (HEIGHT, 769), (D, 8), (H, 0), (MODE, 0)], 12),
+            ([(W, 65_535), (HEIGHT, 1_025), (D, 8), (H, 0), (MODE, 0)], 11),
+            ([(W, 769), (HEIGHT, 65_535), (D, 8), (H, 0), (MODE, 0)], 12),
+            ([(W, 1_025), (HEIGHT, 65_535), (D, 8), (H, 0), (MODE, 0)], 11),
+            ([(W, 65_535), (HEIGHT, 65_535), (D, 8), (H, 0), (MODE, 0)], 11),
             // 2^32 and just below, which is 0 and less than that in 32 bits.
             ([(W, 65_535), (HEIGHT, 65_535), (D, 0), (H, 0), (MODE, 0)], 11),
             ([(W, 65_535), (HEIGHT, 65_535), (D, 1), (H, 0), (MODE, 0)], 11),
             ([(W, 65_535), (HEIGHT, 65_535), (D, 5), (H, 0), (MODE, 0)], 11),
         ] {
             for format in 0..3 {
+                let [.., (_, depth), (_, depth_ho), _] = change;
                 let mut change = change.to_vec();
                 change.push((FORMAT, format));
+                change.extend(Cases::at_depths(depth, depth_ho));
                 self.settings(&change, answer);
             }
         }
@@ -489,16 +579,12 @@ impl Cases {
     }
 
     fn work(&mut self) {
-        for depth in 0..=5 {
-            for depth_ho in 0..=5 - depth {
+        for depth in 0..=8 {
+            for depth_ho in 0..=8 - depth {
                 for format in 0..3 {
-                    let change: Change = &[
-                        (KIND, (depth + format) % 2),
-                        (DEPTH, depth),
-                        (DEPTH_HO, depth_ho),
-                        (FORMAT, format),
-                    ];
-                    let job = self.jobs(change).remove(0);
+                    let mut change = Cases::at_depths(depth, depth_ho);
+                    change.extend([(KIND, (depth + format) % 2), (FORMAT, format)]);
+                    let job = self.jobs(&change).remove(0);
                     let exact = job.settings().work_needed() as usize;
                     for (work, answer) in
                         [(0, 13), (exact / 3, 13), (exact - 1, 13), (exact, 0), (exact + 1, 0)]
@@ -573,11 +659,12 @@ impl Cases {
 
     /// Each refusal with each later one: the first in order is the answer.
     fn order(&mut self) {
-        type Breaks = [(u32, fn(&mut Call)); 15];
+        type Breaks = [(u32, fn(&mut Call)); 16];
         let breaks: Breaks = [
             (NO_SETTINGS, |c| c.words[EXTENDED] = 2),
             (1, |c| c.words[WAVELET] = 7),
-            (2, |c| c.words[DEPTH_HO] = 6),
+            (2, |c| (c.words[WAVELET], c.words[DEPTH_HO]) = (0, 6)),
+            (2, |c| (c.words[WAVELET], c.words[WAVELET_HO], c.words[DEPTH]) = (1, 4, 9)),
             (3, |c| c.words[DOWN] = 0),
             (4, |c| c.words[SCALER] = 0),
             (5, |c| (c.words[KIND], c.words[RATE]) = (0, 1)),

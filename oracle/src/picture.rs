@@ -90,6 +90,16 @@ impl Settings {
         [luma, Size { width, height }]
     }
 
+    /// The most that the two depths may sum to: document 01, 2, and document 02, (iii).
+    pub fn depth_limit(&self) -> u64 {
+        let deep = |index| matches!(index, 1 | 3 | 4);
+        if deep(self.wavelet) && deep(self.wavelet_ho) { 8 } else { 5 }
+    }
+
+    pub fn depth_sum(&self) -> u64 {
+        self.depth as u64 + self.depth_ho as u64
+    }
+
     /// A component's size padded up for the transform; meant for depths in range.
     pub fn padded(&self, size: Size) -> Size {
         Size {
@@ -183,7 +193,7 @@ pub fn refusal(s: &Settings, matrix: &[u32], planes: &[&[u16]; 3], work_len: usi
     if s.wavelet > 6 || s.wavelet_ho > 6 {
         return 1;
     }
-    if s.depth as u64 + s.depth_ho as u64 > 5 {
+    if s.depth_sum() > s.depth_limit() {
         return 2;
     }
     if !in_16_bits(s.across) || !in_16_bits(s.down) || s.slices() > 1_048_576 {

@@ -58,6 +58,11 @@ impl Tally {
         self.count(format!("wavelet {}", s.wavelet), 1);
         self.count(format!("format {}", s.format), 1);
         self.count(format!("depth {}, {} horizontal-only", s.depth, s.depth_ho), 1);
+        if s.depth_sum() > 5 {
+            let kind = if low_delay { "low delay" } else { "high quality" };
+            self.count(format!("depths sum to {}, {kind}", s.depth_sum()), 1);
+            self.count(format!("sums above 5, wavelets {} and {}", s.wavelet, s.wavelet_ho), 1);
+        }
         let [luma, colour] = s.sizes();
         let level_0 = s.padded(luma).width >> (s.depth + s.depth_ho);
         let bits = [s.luma_excursion, s.colour_excursion, s.colour_excursion];
@@ -65,6 +70,7 @@ impl Tally {
             let depth = Settings::sample_depth(excursion);
             plane.iter().any(|&v| v.into() >> depth != 0)
         };
+        let holds = |sample| planes.iter().any(|plane| plane.iter().any(|&v| v.into() == sample));
         let sides = [luma.width, luma.height, colour.width, colour.height];
         for (what, holds) in [
             ("mixed wavelets", s.wavelet != s.wavelet_ho),
@@ -79,6 +85,11 @@ impl Tally {
             ("sides of 1 to 3", sides.into_iter().any(|side| side <= 3)),
             ("padded luma", s.padded(luma).area() != luma.area()),
             ("slices without level-0 places", s.across as u64 > level_0),
+            ("samples at 0 and 65,535", holds(0) && holds(65_535)),
+            (
+                "samples at 0 and 65,535, sums above 5",
+                s.depth_sum() > 5 && holds(0) && holds(65_535),
+            ),
             ("samples above the depth", planes.iter().zip(bits).any(above)),
             ("pictures with cut slices", outcome.cut != 0),
             ("raised scalers", outcome.scaler > s.scaler as u64),

@@ -2,6 +2,7 @@
 //! ones, all 32 bits of a word, many slices, lent slices of other lengths.
 
 use crate::call::Call;
+use crate::deep;
 use crate::generate::{excursion, matrix, samples};
 use crate::jobs::*;
 use crate::picture::{Kind, Settings};
@@ -14,7 +15,8 @@ const MANY_OUTPUT: usize = 6 << 20;
 
 /// A random call; none has more than a few thousand slices.
 pub fn nth(rng: &mut Random) -> Call {
-    match rng.below(26) {
+    match rng.below(32) {
+        26..=31 => deep(rng),
         0..=3 => broken(rng),
         4 => thousands(rng),
         5..=7 => near_its_length(rng),
@@ -26,17 +28,41 @@ pub fn nth(rng: &mut Random) -> Call {
 
 // Parts of a call.
 
+/// Wavelet, horizontal-only wavelet, depth, horizontal-only depth.
+type Transform = [u32; 4];
+
+/// Depths that sum to at most 5, and one time in ten to 6, 7 or 8.
+fn any_transform(rng: &mut Random) -> Transform {
+    if rng.one_in(10) {
+        return deep_transform(rng);
+    }
+    let wavelet = rng.below(7) as u32;
+    let wavelet_ho = if rng.one_in(2) { wavelet } else { rng.below(7) as u32 };
+    let total = rng.range(0, 5) as u32;
+    let depth_ho = if rng.one_in(2) { 0 } else { rng.range(0, total as u64) as u32 };
+    [wavelet, wavelet_ho, total - depth_ho, depth_ho]
+}
+
+/// Depths that sum to 6, 7 or 8: document 02, (iii).
+fn deep_transform(rng: &mut Random) -> Transform {
+    let [wavelet, wavelet_ho] = [rng.pick(&deep::WAVELETS), rng.pick(&deep::WAVELETS)];
+    let total = rng.range(6, 8) as u32;
+    let depth_ho = if rng.one_in(3) { 0 } else { rng.range(0, total as u64) as u32 };
+    [wavelet, wavelet_ho, total - depth_ho, depth_ho]
+}
+
 /// Wavelets, depths and slices that are all in range, for a picture of such sides.
-fn shape(rng: &mut Random, sides: impl Fn(&mut Random) -> [u64; 2], most_area: u64) -> Job {
+fn shape(
+    rng: &mut Random,
+    transform: fn(&mut Random) -> Transform,
+    sides: impl Fn(&mut Random) -> [u64; 2],
+    most_area: u64,
+) -> Job {
     let mut job = Job { settings: [0; SETTINGS], matrix: Vec::new(), planes: Default::default() };
     loop {
         let s = &mut job.settings;
         s[KIND] = rng.below(2) as u32;
-        s[WAVELET] = rng.below(7) as u32;
-        s[WAVELET_HO] = if rng.one_in(2) { s[WAVELET] } else { rng.below(7) as u32 };
-        let total = rng.range(0, 5);
-        s[DEPTH_HO] = if rng.one_in(2) { 0 } else { rng.range(0, total) as u32 };
-        s[DEPTH] = total as u32 - s[DEPTH_HO];
+        [s[WAVELET], s[WAVELET_HO], s[DEPTH], s[DEPTH_HO]] = transform(rng);
         [s[WIDTH], s[HEIGHT]] = sides(rng).map(|side| side as u32);
         s[FORMAT] = rng.below(3) as u32;
         s[MODE] = rng.one_in(4) as u32;
@@ -123,12 +149,12 @@ fn lent(rng: &mut Random, job: &Job) -> Call {
 fn general(rng: &mut Random) -> Call {
     let most = rng.pick(&[12, 12, 30, 30, 70]);
     let sides = |rng: &mut Random| [rng.range(1, most), rng.range(1, most)];
-    let mut job = shape(rng, sides, 6_000);
+    let mut job = shape(rng, any_transform, sides, 6_000);
     fill(rng, &mut job);
     lent(rng, &job)
 }
 
-/// Sides of 1 to 3, at all depths.
+/// One side of 1 to 3.
 fn small(rng: &mut Random) -> Call {
     let long = rng.pick(&[3, 3, 3, 20, 90]);
     let sides = |rng: &mut Random| {
@@ -138,7 +164,21 @@ fn small(rng: &mut Random) -> Call {
         }
         sides
     };
-    let mut job = shape(rng, sides, 6_000);
+    let mut job = shape(rng, any_transform, sides, 6_000);
+    fill(rng, &mut job);
+    lent(rng, &job)
+}
+
+/// Depths that sum to 6, 7 or 8; one call in 20 has another wavelet or one level more.
+fn deep(rng: &mut Random) -> Call {
+    let most = rng.pick(&[3, 12, 70, 200, 300]);
+    let sides = |rng: &mut Random| [rng.range(1, most), rng.range(1, most)];
+    let mut job = shape(rng, deep_transform, sides, 1 << 16);
+    match rng.below(40) {
+        0 => job.settings[rng.pick(&[WAVELET, WAVELET_HO])] = rng.below(7) as u32,
+        1 => job.settings[rng.pick(&[DEPTH, DEPTH_HO])] += 1,
+        _ => {}
+    }
     fill(rng, &mut job);
     lent(rng, &job)
 }
@@ -146,7 +186,7 @@ fn small(rng: &mut Random) -> Call {
 /// High quality with a target of just the bytes that a fixed index takes, or some more or less.
 fn near_its_length(rng: &mut Random) -> Call {
     let sides = |rng: &mut Random| [rng.range(1, 16), rng.range(1, 16)];
-    let mut job = shape(rng, sides, 2_000);
+    let mut job = shape(rng, any_transform, sides, 2_000);
     job.settings[KIND] = 1;
     job.settings[SCALER] = rng.range(1, 3) as u32;
     fill(rng, &mut job);
@@ -164,7 +204,7 @@ fn near_its_length(rng: &mut Random) -> Call {
 /// High quality in one or two large slices, so that a component needs more than 255 scalers.
 fn raised(rng: &mut Random) -> Call {
     let sides = |rng: &mut Random| [rng.range(20, 48), rng.range(20, 48)];
-    let mut job = shape(rng, sides, 6_000);
+    let mut job = shape(rng, any_transform, sides, 6_000);
     let s = &mut job.settings;
     (s[KIND], s[ACROSS], s[DOWN]) = (1, 1, rng.range(1, 2) as u32);
     s[SCALER] = rng.pick(&[1, 1, 2, 3]);
@@ -180,7 +220,7 @@ fn raised(rng: &mut Random) -> Call {
 /// Up to 3,000 slices.
 fn thousands(rng: &mut Random) -> Call {
     let sides = |rng: &mut Random| [rng.range(1, 40), rng.range(1, 40)];
-    let mut job = shape(rng, sides, 3_000);
+    let mut job = shape(rng, any_transform, sides, 3_000);
     let across = 1 + rng.sized(11);
     job.settings[ACROSS] = across as u32;
     job.settings[DOWN] = rng.range(1, 3_000 / across) as u32;
@@ -192,7 +232,7 @@ fn thousands(rng: &mut Random) -> Call {
 /// Up to 1,048,576 slices, or 100,000 where high quality elects; seconds each.
 pub fn many(rng: &mut Random) -> Call {
     let sides = |rng: &mut Random| [rng.range(1, 12), rng.range(1, 12)];
-    let mut job = shape(rng, sides, 300);
+    let mut job = shape(rng, any_transform, sides, 300);
     job.settings[DEPTH] = job.settings[DEPTH].min(1);
     job.settings[DEPTH_HO] = job.settings[DEPTH_HO].min(1);
     job.settings[PREFIX] = 0;
@@ -230,8 +270,8 @@ const OUT_OF_RANGE: &[(usize, &[u32])] = &[
     (KIND, &[2, u32::MAX]),
     (WAVELET, &[7, 8, u32::MAX]),
     (WAVELET_HO, &[7, 8, u32::MAX]),
-    (DEPTH, &[5, 6, 7, 31, 32, u32::MAX]),
-    (DEPTH_HO, &[5, 6, 7, 31, 32, u32::MAX]),
+    (DEPTH, &[5, 6, 7, 8, 9, 31, 32, u32::MAX]),
+    (DEPTH_HO, &[5, 6, 7, 8, 9, 31, 32, u32::MAX]),
     (ACROSS, &[0, 65_535, 65_536, u32::MAX]),
     (DOWN, &[0, 65_536, 1_048_577, u32::MAX]),
     (PREFIX, &[255, 256, u32::MAX]),
@@ -275,14 +315,22 @@ fn break_one(rng: &mut Random, call: &mut Call) {
 // Large pictures.
 
 /// How many large pictures there are.
-pub const LARGE: usize = 10;
+pub const LARGE: usize = 16;
 
 /// A large picture and what it is. The first ones are 1920 x 1080 with what is usual in a box,
-/// the later ones of any size below that.
+/// then come some of any size below that, then depths that sum to more than 5: among them rows of
+/// 65,535 samples, and the largest padded luma area, 67,108,864.
 pub fn large(rng: &mut Random, n: usize) -> (String, Call) {
     let full = |_: &mut Random| [1_920, 1_080];
     let any = |rng: &mut Random| [rng.range(500, 1_920), rng.range(300, 1_080)];
-    let mut job = if n < 6 { shape(rng, full, 1 << 24) } else { shape(rng, any, 1 << 24) };
+    let row = |_: &mut Random| [65_535, 1];
+    let most = |_: &mut Random| [65_535, 1_000];
+    let mut job = match n {
+        0..6 | 10 => shape(rng, any_transform, full, 1 << 24),
+        11..15 => shape(rng, deep_transform, row, 1 << 24),
+        15 => shape(rng, deep_transform, most, 1 << 26),
+        _ => shape(rng, any_transform, any, 1 << 24),
+    };
     // Kind, wavelets, depths, slices, rate, its number, format, mode.
     let fixed = match n {
         0 => [1, 1, 1, 3, 0, 60, 34, 0, 0, 1, 0],
@@ -291,6 +339,12 @@ pub fn large(rng: &mut Random, n: usize) -> (String, Call) {
         3 => [0, 1, 1, 3, 0, 60, 34, 2, 900_000, 1, 0],
         4 => [0, 0, 1, 2, 1, 40, 30, 2, 500_000, 2, 0],
         5 => [1, 6, 3, 4, 0, 30, 17, 2, 600_000, 0, 1],
+        10 => [1, 1, 4, 6, 0, 40, 30, 0, 0, 1, 0],
+        11 => [1, 1, 1, 8, 0, 64, 2, 0, 0, 1, 0],
+        12 => [1, 3, 1, 7, 1, 64, 2, 1, 3, 1, 0],
+        13 => [0, 4, 3, 4, 4, 256, 1, 2, 90_000, 1, 0],
+        14 => [1, 1, 3, 6, 0, 100, 1, 2, 150_000, 1, 0],
+        15 => [1, 1, 1, 8, 0, 256, 64, 0, 0, 2, 0],
         _ => {
             let s = job.settings();
             // Low delay at depth 0 or 1 takes the Rust minutes.
