@@ -5,6 +5,7 @@ mod entries;
 mod lent;
 mod named;
 mod port;
+mod reader;
 mod wide;
 
 // Parts of the oracle, of which not all is used here.
@@ -28,7 +29,7 @@ use call::Call;
 use edges::Wanted;
 use entries::Entries;
 use jobs::{OUTPUT, WORK};
-use picture::Outcome;
+use picture::{Outcome, Rate};
 use random::Random;
 use std::collections::BTreeMap;
 use std::error::Error;
@@ -55,7 +56,8 @@ const SHOWN: u64 = 20;
 const MANY_EVERY: u64 = 1_000;
 /// Calls with more slices than this are not made again with other lengths of the lent slices.
 const MANY_SLICES: u64 = 500;
-/// One job in so many also goes to the job program, another one of `deep`, and all malformed ones.
+/// Job n also goes to the job program where n divided by this leaves 0 or `DEEP_AT`, and so do all
+/// malformed ones.
 const JOB_EVERY: u64 = 20;
 /// Job n is one of `deep` where n divided by the first leaves the second, and no edge has its first
 /// turn.
@@ -68,6 +70,8 @@ struct Run {
     differ: u64,
     calls: u64,
     job_runs: u64,
+    /// Lossless pictures whose samples were read back, by the sum of the depths.
+    read_back: BTreeMap<u64, u64>,
     port: Duration,
     rust: Duration,
 }
@@ -92,12 +96,29 @@ impl Run {
         }
     }
 
-    /// Makes a call that must come to `outcome`.
-    fn call(&mut self, name: &str, call: &Call, outcome: &Outcome) {
+    /// Makes a call that must come to `outcome`, and says whether it does.
+    fn call(&mut self, name: &str, call: &Call, outcome: &Outcome) -> bool {
         self.calls += 1;
         let (found, time) = port::picture(call, outcome, self.calls << 4);
         self.port += time;
         if !found.is_empty() && self.differs(name, &found.join("; ")) {
+            self.keep_call(name, call);
+        }
+        found.is_empty()
+    }
+
+    /// Makes a call that must come to `outcome`. If it does, the unit is the port's too, and is read
+    /// back where this can be done.
+    fn picture(&mut self, name: &str, call: &Call, outcome: &Outcome) {
+        if !self.call(name, call, outcome) {
+            return;
+        }
+        let Some(found) = read_back(call, outcome) else { return };
+        let sum = call.settings().map_or(0, |s| s.depth_sum());
+        *self.read_back.entry(sum).or_default() += 1;
+        if let Err(message) = found
+            && self.differs(name, &message)
+        {
             self.keep_call(name, call);
         }
     }
@@ -164,7 +185,7 @@ impl Run {
                 let what = format!("the oracle says {}, not {}", outcome.answer, case.answer);
                 self.differs(&case.name, &what);
             }
-            self.call(&case.name, &case.call, &outcome);
+            self.picture(&case.name, &case.call, &outcome);
         }
         println!("named cases: {}, answers {}", cases.len(), tally::listed(&answers));
         println!("  not run: {}", named::NOT_RUN);
@@ -197,7 +218,7 @@ impl Run {
             let Some(outcome) = self.expected(&what, &call) else { continue };
             call.output = outcome.unit.len() + 1_000;
             let before = self.differ;
-            self.call(&what, &call, &outcome);
+            self.picture(&what, &call, &outcome);
             let (short, refused) = call.with_room(&outcome, call.work - 1, call.output);
             self.call(&what, &short, &refused);
             println!(
@@ -236,7 +257,7 @@ impl Run {
     fn random_call(&mut self, rng: &mut Random, n: u64, call: &Call, tally: &mut Tally) {
         let name = format!("job {n}");
         let Some(outcome) = self.expected(&name, call) else { return };
-        self.call(&name, call, &outcome);
+        self.picture(&name, call, &outcome);
         self.with_other_room(rng, &name, call, &outcome);
         match call.settings() {
             Some(s) => tally.add(&s, &call.planes, &outcome),
@@ -276,7 +297,7 @@ impl Run {
             None => tally.add_malformed(),
             Some((job, outcome)) => {
                 let call = Call::of(job, WORK, OUTPUT);
-                self.call(&name, &call, outcome);
+                self.picture(&name, &call, outcome);
                 self.with_other_room(rng, &name, &call, outcome);
                 tally.add(&job.settings(), &job.planes, outcome);
             }
@@ -303,6 +324,22 @@ impl Run {
         let (call, outcome) = call.with_room(outcome, work, output);
         self.call(&format!("{name} work {work} output {output}"), &call, &outcome);
     }
+}
+
+/// Whether the unit of a lossless picture of `reader`'s wavelets gives the samples back; nothing
+/// for other calls.
+fn read_back(call: &Call, outcome: &Outcome) -> Option<Result<(), String>> {
+    let s = call.settings()?;
+    if outcome.answer != 0 || s.rate != Rate::Lossless || !deep::allows_8(s.wavelet, s.wavelet_ho) {
+        return None;
+    }
+    let read = unit::read(&outcome.unit, s.version_3());
+    let planes = read.and_then(|unit| reader::samples(&outcome.unit, &unit, &s));
+    Some(planes.and_then(|planes| {
+        let wanted: [Vec<i64>; 3] =
+            call.planes.each_ref().map(|plane| plane.iter().map(|&v| v as i64).collect());
+        if planes == wanted { Ok(()) } else { Err("other samples are read back".into()) }
+    }))
 }
 
 /// The random numbers of the `n`-th job.
@@ -332,6 +369,7 @@ fn run(seed: u64, count: u64, folder: &str, job: Option<&str>) -> Done {
         differ: 0,
         calls: 0,
         job_runs: 0,
+        read_back: BTreeMap::new(),
         port: Duration::ZERO,
         rust: Duration::ZERO,
     };
@@ -347,6 +385,9 @@ fn run(seed: u64, count: u64, folder: &str, job: Option<&str>) -> Done {
         Some(_) => println!("job program: run {} times", run.job_runs),
         None => println!("job program: not run, there is none"),
     }
+    let read_back: Vec<String> =
+        run.read_back.iter().map(|(sum, n)| format!("{sum}: {n}")).collect();
+    println!("lossless pictures read back, by the sum of the depths: {}", read_back.join(", "));
     println!("picture calls: {}", run.calls);
     println!(
         "seconds: {:.0}, of these {:.0} in the port and {:.0} in the Rust",
@@ -368,7 +409,10 @@ fn list_cases(seed: u64) -> Done {
 fn one_call(file: &str) -> Done {
     let call = Call::parse(&fs::read_to_string(file)?).ok_or("this is no call")?;
     let outcome = call.expected()?;
-    let (found, _) = port::picture(&call, &outcome, 1);
+    let (mut found, _) = port::picture(&call, &outcome, 1);
+    if let Some(Err(message)) = read_back(&call, &outcome) {
+        found.push(message);
+    }
     let told = [outcome.unit.len() as u64, outcome.cut, outcome.scaler];
     println!("must be: answer {}, length, cut slices, scaler {told:?}", outcome.answer);
     for line in &found {

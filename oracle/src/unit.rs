@@ -29,20 +29,20 @@ pub fn bits_for(n: u64) -> u32 {
     64 - (n - 1).leading_zeros()
 }
 
-struct Bits<'a> {
-    bytes: &'a [u8],
-    at: usize,
+pub struct Bits<'a> {
+    pub bytes: &'a [u8],
+    pub at: usize,
 }
 
 impl Bits<'_> {
-    fn bit(&mut self) -> Result<u64, String> {
+    pub fn bit(&mut self) -> Result<u64, String> {
         let byte = *self.bytes.get(self.at / 8).ok_or("unit: ends inside a field")?;
         let bit = byte >> (7 - self.at % 8) & 1;
         self.at += 1;
         Ok(bit as u64)
     }
 
-    fn literal(&mut self, bits: u32) -> Result<u64, String> {
+    pub fn literal(&mut self, bits: u32) -> Result<u64, String> {
         (0..bits).try_fold(0, |v, _| Ok(2 * v + self.bit()?))
     }
 
@@ -58,7 +58,7 @@ impl Bits<'_> {
     }
 
     /// Takes `count` bytes from the next whole byte on, and gives the first one's place.
-    fn bytes(&mut self, count: u64) -> Result<usize, String> {
+    pub fn bytes(&mut self, count: u64) -> Result<usize, String> {
         let start = self.at.div_ceil(8);
         if count > (self.bytes.len() - start) as u64 {
             return Err("unit: ends inside a slice".into());
