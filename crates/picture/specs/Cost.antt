@@ -1,18 +1,14 @@
 -- What a run of numbers costs, added up number by number.
 use mathlib.Core.Path.{_≡_}
-use mathlib.Core.Bool.{Bool, true, false, cond}
+use mathlib.Core.Bool.{Bool, cond}
 use mathlib.Core.List.{List, [], _∷_}
-use Prim.Native.Nat.{ℕ, zero, suc, _+_, _*_, _≤_, _^_}
+use Prim.Native.Nat.{ℕ, _+_, _*_, _≤_, _^_}
 use lib.Dec.{leb, eqb}
-use lib.IntN.{ℤ, pos, negsuc}
+use lib.IntN.{ℤ}
 use lib.ListN.{length}
 use Rattle.codewords.specs.Code.{codeS}
+use Rattle.unit.specs.Trim.{isZero}
 use Rattle.picture.specs.declared.cost.Cost.{Cost}
-
-abbrev pub isZero : ℤ → Bool
-isZero (pos zero) = true
-isZero (pos (suc n)) = false
-isZero (negsuc n) = false
 
 -- the run that fits, with all numbers so far where these do
 unfoldable pub fitted : Cost → Cost

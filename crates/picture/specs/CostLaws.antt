@@ -12,10 +12,10 @@ use lib.ListN.{length, take, length-append}
 use lib.Seq.{take-take, take-all, append-snoc}
 use Rattle.codewords.specs.Code.{codeS, codes}
 use Rattle.codewords.specs.CodeLaws.{codes-more, length-codeS-zero, length-codeS}
-use Rattle.unit.specs.Trim.{trimCons, trimmed, bitsOf, trimmedCost, fitPrefix}
+use Rattle.unit.specs.Trim.{isZero, trimCons, trimmed, bitsOf, trimmedCost, fitPrefix}
 use Rattle.unit.specs.TrimLaws.{Small, bits-most, fit-prefix}
 use Rattle.picture.specs.declared.cost.Cost.{Cost}
-use Rattle.picture.specs.Cost.{isZero, fitted, kept, addLen, add1, added, addAll, noCost, Countable, Kept}
+use Rattle.picture.specs.Cost.{fitted, kept, addLen, add1, added, addAll, noCost, Countable, Kept}
 use Rattle.picture.specs.AddedLaws.{added-one}
 
 -- ---- one number, as the code adds it

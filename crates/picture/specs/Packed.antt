@@ -10,10 +10,10 @@ use lib.ListN.{length, replicate}
 use Rattle.laws.specs.Laid.{laid}
 use Rattle.laws.specs.Window.{piece}
 use Rattle.codewords.specs.Code.{codeS}
+use Rattle.unit.specs.Trim.{isZero}
 use Rattle.picture.specs.declared.strip.Strip.{Strip}
 use Rattle.picture.specs.declared.packed.Packing.{Packing}
 use Rattle.picture.specs.Run.{Plain}
-use Rattle.picture.specs.Cost.{isZero}
 
 abbrev pub mark : ℕ
 mark = 2 ^ 52

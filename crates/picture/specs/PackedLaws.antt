@@ -22,7 +22,7 @@ use Rattle.codewords.specs.CodeLaws.{length-codeS-zero}
 use Rattle.quantiser.specs.Quant.{forwardBy}
 use Rattle.unit.specs.Slices.{partSize}
 use Rattle.unit.specs.TestLaws.{no-truth}
-use Rattle.unit.specs.Trim.{bitsOf}
+use Rattle.unit.specs.Trim.{isZero, bitsOf}
 use Rattle.unit.specs.TrimLaws.{bits-most}
 use Rattle.unit.specs.TrimLaws as trim
 use Rattle.picture.specs.declared.strip.Strip.{Strip}
@@ -30,7 +30,6 @@ use Rattle.picture.specs.declared.layout.Component.{Component}
 use Rattle.picture.specs.declared.layout.Layout.{Layout}
 use Rattle.picture.specs.declared.packed.Packing.{Packing}
 use Rattle.picture.specs.Run.{planeFrom, numberIn, placeNumbers, rowNumbers, stripNumbers, reach, Small, Within, Inside}
-use Rattle.picture.specs.Cost.{isZero}
 use Rattle.picture.specs.RunLaws.{places, rowAt, rows, row-chunks, rows-chunks, second-none, chunks-length, chunks-small, place-small, row-small, small-set}
 use Rattle.picture.specs.TallyLaws.{plain-number, place-plain, bits-more, bits-none}
 use Rattle.picture.specs.Layout.{bandCount, gridIn, bandSize, stripOf, runNumbers, RunIn}

@@ -6,11 +6,11 @@ use lib.Dec.{eqb}
 use lib.IntN.{ℤ}
 use lib.ListN.{length}
 use Rattle.codewords.specs.Code.{codeS}
-use Rattle.unit.specs.Trim.{trimmed, trimmedCost}
+use Rattle.unit.specs.Trim.{isZero, trimmed, trimmedCost}
 use Rattle.picture.specs.declared.cost.Cost.{Cost}
 use Rattle.picture.specs.declared.high_index.Trimmed.{Trimmed}
 use Rattle.picture.specs.declared.tally.Tally.{Tally}
-use Rattle.picture.specs.Cost.{isZero, added, Counted}
+use Rattle.picture.specs.Cost.{added, Counted}
 
 -- a tally with one number more
 abbrev pub tally1 : Tally → ℤ → Tally

@@ -1,11 +1,16 @@
 -- Runs without their trailing zeros, what a run costs, and the longest run that fits: document 01, "Slices and unit".
-use mathlib.Core.Bool.{true, false}
+use mathlib.Core.Bool.{Bool, true, false}
 use mathlib.Core.List.{List, [], _∷_}
 use Prim.Native.Nat.{ℕ, zero, suc, _-_}
 use lib.Dec.{leb}
 use lib.IntN.{ℤ, pos, negsuc}
 use lib.ListN.{length}
 use Rattle.codewords.specs.Code.{codeS, codes}
+
+abbrev pub isZero : ℤ → Bool
+isZero (pos zero) = true
+isZero (pos (suc n)) = false
+isZero (negsuc n) = false
 
 -- x in front of a run that has no trailing zeros
 abbrev pub trimCons : ℤ → List ℤ → List ℤ
