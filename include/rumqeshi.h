@@ -115,9 +115,9 @@ uint32_t vc2_oned_analysis(int64_t *row, size_t row_count, uint32_t index);
  *  - VC2_SHORT_OUTPUT: refused. out and work are filled with zeros.
  *  - VC2_ACCEPTED: the unit stands at the start of out and the rest of out is as it was; work is
  *    filled with zeros.
- * *written (the unit's length, in bytes), *cut_slices (low-delay slices that carry index 127; 0 in
- * high quality) and *slice_size_scaler (the final scaler; in low delay the setting's) are set only
- * where VC2_ACCEPTED is answered. Otherwise they stay as they were.
+ * *written (the unit's length, in bytes), *cut_slices (slices of which a quantised number that is
+ * not 0 is not written; 0 in high quality) and *slice_size_scaler (the final scaler; in low delay
+ * the setting's) are set only where VC2_ACCEPTED is answered. Otherwise they stay as they were.
  */
 uint32_t vc2_encode_picture(const uint32_t *settings, size_t settings_count,
                             const uint32_t *matrix, size_t matrix_count,

@@ -1,5 +1,6 @@
 -- What the entry points leave behind their references.
 use mathlib.Core.Path.{_≡_}
+use mathlib.Core.Logic.{_↔_}
 use mathlib.Core.Bool.{Bool, true, false, cond}
 use mathlib.Core.List.{List}
 use Prim.Native.Nat.{ℕ}
@@ -11,7 +12,8 @@ use Rattle.unit.specs.declared.Answer.the-variants.{Accepted, Refused}
 use Rattle.unit.specs.Three.{Three}
 use Rattle.unit.specs.Words.{known, settingsOf}
 use Rattle.unit.specs.Outcome.{numberOf, outcomeOf}
-use Rattle.unit.specs.Demand.{Demand3}
+use Rattle.unit.specs.Unit.{planOf}
+use Rattle.unit.specs.Demand.{Undropped, Demand3}
 
 -- a quantiser call at index i whose value is z: what stood behind the reference stays where the index is refused
 pub record Gives (i : ℕ) (z before after : ℤ) (r : ℕ) : Type 0 where
@@ -52,3 +54,5 @@ pub record Picture (ws m : List ℕ) (p : Three (List ℕ)) (out : List ℕ) (wo
   pub is : after ≡ leftOf ws m p out work v
   -- an accepted call: demand 3 of the bytes that its length counts
   pub demand : after .number ≡ 0 → Demand3 (settingsOf ws) m p (take (after .values .written) (after .output))
+  -- its count of cut slices is 0 just where no slice has dropped a number that is not 0
+  pub uncut : after .number ≡ 0 → (after .values .cut ≡ 0) ↔ Undropped (planOf (settingsOf ws) m p)

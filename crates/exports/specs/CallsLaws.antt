@@ -1,5 +1,6 @@
 -- The entry points' outcomes from what the calls inside leave.
 use mathlib.Core.Path.{_≡_, refl, sym, ap, _∙_}
+use mathlib.Core.Logic.{_↔_}
 use mathlib.Core.Bool.{Bool, true, false, cond}
 use mathlib.Core.List.{List}
 use Prim.Native.Nat.{ℕ, _^_, _<_}
@@ -28,7 +29,7 @@ use Rattle.unit.specs.Unit.{planOf, lengthOf}
 use Rattle.unit.specs.Words.{known, settingsOf}
 use Rattle.unit.specs.Outcome.{Outcome, numberOf, tooLong, codedIf, outcomeIf, outcomeOf}
 use Rattle.unit.specs.DemandLaws.{isAccepted}
-use Rattle.unit.specs.Demand.{Demand3}
+use Rattle.unit.specs.Demand.{Undropped, Demand3}
 use Rattle.picture.specs.Encoded.{Encodes}
 use Rattle.exports.specs.Calls.{Gives, Values, valuesOf, Left, leftIf, leftOf, Picture}
 
@@ -81,11 +82,18 @@ module _ (s : Settings) (m : List ℕ) (p : Three (List ℕ)) (out : List ℕ) (
   unfolding outcomeOf
   zero-accepted e = outcome-zero (eqb (refusalOf s m p work) 0) refl e
 
-  -- demand 3 of an answer of number 0
-  demand-zero : (out′ : List ℕ) (work′ : List ℤ) (v : Values) (r : Answer) → Encodes s m p out work out′ work′ r → numberOf r ≡ 0
-      → Demand3 s m p (take (valuesOf r v .written) out′)
-  demand-zero out′ work′ v (Accepted c) h e = h .demand c refl
-  demand-zero out′ work′ v (Refused n) h e = no-truth (sym (ap isAccepted (h .answer) ∙ zero-accepted (sym (ap numberOf (h .answer)) ∙ e)))
+  -- demand 3 and the count of an answer of number 0
+  module _ (out′ : List ℕ) (work′ : List ℤ) (v : Values) where
+    not-refused : {A : Type 0} (n : ℕ) → Encodes s m p out work out′ work′ (Refused n) → numberOf (Refused n) ≡ 0 → A
+    not-refused n h e = no-truth (sym (ap isAccepted (h .answer) ∙ zero-accepted (sym (ap numberOf (h .answer)) ∙ e)))
+
+    demand-zero : (r : Answer) → Encodes s m p out work out′ work′ r → numberOf r ≡ 0 → Demand3 s m p (take (valuesOf r v .written) out′)
+    demand-zero (Accepted c) h e = h .demand c refl
+    demand-zero (Refused n) h e = not-refused n h e
+
+    uncut-zero : (r : Answer) → Encodes s m p out work out′ work′ r → numberOf r ≡ 0 → (valuesOf r v .cut ≡ 0) ↔ Undropped (planOf s m p)
+    uncut-zero (Accepted c) h e = h .uncut c refl
+    uncut-zero (Refused n) h e = not-refused n h e
 
 left-same : (n k : ℕ) (o u : List ℕ) (w x : List ℤ) (a b : Values) → n ≡ k → o ≡ u → w ≡ x → a ≡ b
     → _≡_ {A = Left} (record { number = n; output = o; work = w; values = a }) (record { number = k; output = u; work = x; values = b })
@@ -98,7 +106,7 @@ module _ (ws m : List ℕ) (p : Three (List ℕ)) (out : List ℕ) (work : List 
 
   -- words that are no settings
   pub picture-unknown : known ws ≡ false → Picture ws m p out work v (record { number = 100; output = out; work = work; values = v })
-  picture-unknown e = record { is = sym (left-if false e); demand = λ n. absurd (omega (arith, n)) }
+  picture-unknown e = record { is = sym (left-if false e); demand = λ n. absurd (omega (arith, n)); uncut = λ n. absurd (omega (arith, n)) }
 
   encoded : (out′ : List ℕ) (work′ : List ℤ) (r : Answer) → known ws ≡ true → Encodes (settingsOf ws) m p out work out′ work′ r
       → Picture ws m p out work v (record { number = numberOf r; output = out′; work = work′; values = valuesOf r v })
@@ -109,6 +117,7 @@ module _ (ws m : List ℕ) (p : Three (List ℕ)) (out : List ℕ) (work : List 
             left-same (numberOf r) (numberOf (o .answer)) out′ (o .output) work′ (o .work) (valuesOf r v) (valuesOf (o .answer) v)
             (ap numberOf (h .answer)) (h .output) (h .work-left) (ap (λ (r : Answer). valuesOf r v) (h .answer)) ∙ sym (left-if true e);
         demand = demand-zero (settingsOf ws) m p out work out′ work′ v r h;
+        uncut = uncut-zero (settingsOf ws) m p out work out′ work′ v r h;
       }
 
   module _ (s : Settings) (out′ : List ℕ) (work′ : List ℤ) (r : Answer) (e : known ws ≡ true) (f : s ≡ settingsOf ws) (h : Encodes s m p out work out′ work′ r) where

@@ -72,6 +72,10 @@ pub map-span : {A B : Type 0} (g : A → B) (f : ℕ → A) (i n : ℕ) → map 
 map-span g f i zero = refl
 map-span {B = B} g f i (suc n) = ap (λ (r : List B). g (f i) ∷ r) (map-span g f (suc i) n)
 
+pub total-more : (f : ℕ → ℕ) (i n : ℕ) → total (span f i (suc n)) ≡ total (span f i n) + f (i + n)
+total-more f i zero = let e : i + 0 ≡ i = omega arith in rw e (omega arith)
+total-more f i (suc n) = let e : i + suc n ≡ suc i + n = omega arith in rw e (omega (arith, total-more f (suc i) n))
+
 -- n places of f
 abbrev pub row : ℕ → (ℕ → ℤ) → List ℤ
 row n f = span f 0 n

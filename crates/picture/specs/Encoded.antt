@@ -1,5 +1,7 @@
--- What the picture call leaves: answer, output and work slice as the definition's outcome has them, and demand 3.
+-- What the picture call leaves: answer, output and work slice as the definition's outcome has them, demand 3, and what
+-- the count of cut slices says.
 use mathlib.Core.Path.{_≡_}
+use mathlib.Core.Logic.{_↔_}
 use mathlib.Core.Bool.{Bool, true, false}
 use mathlib.Core.List.{List, [], _∷_, _++_}
 use Prim.Native.Nat.{ℕ, _+_}
@@ -15,8 +17,9 @@ use Rattle.unit.specs.Three.{Three}
 use Rattle.unit.specs.Refusal.{refusalOf}
 use Rattle.unit.specs.Plan.{Plan}
 use Rattle.unit.specs.Unit.{planOf, lengthOf, unitOf}
-use Rattle.unit.specs.Outcome.{numberOf, tells, cutCount, scalerIn, codedOf, tooLong, outcomeOf}
-use Rattle.unit.specs.Demand.{Demand3}
+use Rattle.unit.specs.Cut.{cutCount}
+use Rattle.unit.specs.Outcome.{numberOf, tells, scalerIn, codedOf, tooLong, outcomeOf}
+use Rattle.unit.specs.Demand.{Undropped, Demand3}
 use Rattle.picture.specs.declared.layout.Picture.{Picture}
 use Rattle.picture.specs.Run.{Small}
 use Rattle.picture.specs.Analysed.{pictureOf, frontOf, Called, Analysed}
@@ -35,7 +38,7 @@ answerTold s m p out work =
     let n = answerNumber s m p out work in
     let a = planOf s m p in
     n ∷ elim (eqb n 0) [
-      | true ↦ lengthOf s a ∷ cutCount (s .kind) a ∷ scalerIn (a .parameters .sliceParameters) (s .«slice_size_scaler») ∷ []
+      | true ↦ lengthOf s a ∷ cutCount a ∷ scalerIn (a .parameters .sliceParameters) (s .«slice_size_scaler») ∷ []
       | false ↦ []
     ]
 
@@ -49,6 +52,9 @@ pub record Encodes (s : Settings) (m : List ℕ) (p : Three (List ℕ)) (out : L
   pub work-left : work′ ≡ outcomeOf s m p out work .work
   -- an accepted call: demand 3 of the bytes that the answer counts, as they now stand in the output
   pub demand : (c : Coded) → r ≡ Accepted c → Demand3 s m p (take (c .written) out′)
+  -- its count of cut slices is 0 just where no slice has dropped a number that is not 0, a premise of demand 3's `near`
+  -- and `samples`
+  pub uncut : (c : Coded) → r ≡ Accepted c → (c .«cut_slices» ≡ 0) ↔ Undropped (planOf s m p)
 
 -- ---- for the code: before the work slice is cleared
 abbrev pub answerBy : Settings → Plan → Bool → Answer

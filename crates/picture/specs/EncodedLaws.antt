@@ -16,9 +16,10 @@ use Rattle.unit.specs.Three.{Three}
 use Rattle.unit.specs.Refusal.{refusalOf}
 use Rattle.unit.specs.Plan.{Plan}
 use Rattle.unit.specs.Unit.{planOf, lengthOf}
-use Rattle.unit.specs.Outcome.{numberOf, tells, cutCount, scalerIn, codedOf, Outcome, tooLong, codedIf, coded, outcomeIf, outcomeOf}
+use Rattle.unit.specs.Cut.{cutCount}
+use Rattle.unit.specs.Outcome.{numberOf, tells, scalerIn, codedOf, Outcome, tooLong, codedIf, coded, outcomeIf, outcomeOf}
 use Rattle.unit.specs.PlannedLaws.{Component, Y, C1, C2, pick}
-use Rattle.unit.specs.DemandLaws.{Typed, accepted}
+use Rattle.unit.specs.DemandLaws.{Typed, accepted, accepted-uncut}
 use Rattle.picture.specs.Encoded.{Encodes, answerBy, outputBy, Codes, clearedBy}
 
 -- ---- zeros over a list
@@ -67,7 +68,7 @@ module _ (s : Settings) (m : List ℕ) (p : Three (List ℕ)) (out : List ℕ) (
   told-by : (b t : Bool) → eqb (refusalOf s m p work) 0 ≡ b → tells (elim b [ true ↦ codedIf s a out work t .answer | false ↦ Refused (refusalOf s m p work) ])
       ≡ (let n : ℕ = elim b [ true ↦ elim t [ true ↦ 14 | false ↦ 0 ] | false ↦ refusalOf s m p work ] in
       n ∷ elim (eqb n 0) [
-        | true ↦ lengthOf s a ∷ cutCount (s .kind) a ∷ scalerIn (a .parameters .sliceParameters) (s .«slice_size_scaler») ∷ []
+        | true ↦ lengthOf s a ∷ cutCount a ∷ scalerIn (a .parameters .sliceParameters) (s .«slice_size_scaler») ∷ []
         | false ↦ []
       ])
   unfolding codedOf
@@ -94,6 +95,7 @@ module _ (s : Settings) (m : List ℕ) (p : Three (List ℕ)) (out : List ℕ) (
     output = o;
     work-left = w;
     demand = λ c f. rw o (accepted s m p out work t c (sym e ∙ f));
+    uncut = λ c f. accepted-uncut s m p out work c (sym e ∙ f);
   }
 
   pub encodes-refused : (n : ℕ) → Typed s p → n ≡ refusalOf s m p work → (n ≡ 0 → ⊥) → Encodes s m p out work out work (Refused n)

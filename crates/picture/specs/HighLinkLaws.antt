@@ -30,7 +30,9 @@ use Rattle.unit.specs.HighQuality.{shareOf, highNumbers, highIndex, highPlan, s
 use Rattle.unit.specs.HighQualityLaws.{needs-most}
 use Rattle.unit.specs.Unit.{majorVersion, gridOf, highParameters, highBytes, highSlicesOf, scalerOf, planOf, sliceRuns, headBits, lengthOf}
 use Rattle.unit.specs.Unit as unit
-use Rattle.unit.specs.Outcome.{codedOf, cutCount, tooLong}
+use Rattle.unit.specs.Cut.{cutCount}
+use Rattle.unit.specs.Outcome.{codedOf, tooLong}
+use Rattle.unit.specs.DropLaws.{Whole, all-high, whole-count}
 use Rattle.unit.specs.Valid.{RateFits}
 use Rattle.unit.specs.ValidLaws.{target-few}
 use Rattle.unit.specs.SoundLaws.{three, coefficients-within}
@@ -141,12 +143,16 @@ module _ (w : List ℤ) (p : Picture) (s : Settings) (m : List ℕ) where
       z .end ∙ ap (λ (b : List ℕ). 17 + parameterBytes (majorVersion s) (highParameters s m (r .scaler)) + length b) (runs-are (r .scaler))
       ∙ sym (length-parts s (codePlan w p s m (r .scaler)))
 
-  coded-is : (c n cut : ℕ) → s .kind ≡ HighQuality → n ≡ lengthOf s (codePlan w p s m c) → cut ≡ 0
+  -- no slice drops a number
+  count-is : (c : ℕ) → cutCount (codePlan w p s m c) ≡ 0
+  unfolding cutCount planIn
+  count-is c = whole-count (slicesBy w p s m c) (all-high Whole _ (λ k. refl) 0 (slicesIn p))
+
+  coded-is : (c n cut : ℕ) → n ≡ lengthOf s (codePlan w p s m c) → cut ≡ 0
       → record { written = n; «cut_slices» = cut; «slice_size_scaler» = c } ≡ codedOf s (codePlan w p s m c)
-  unfolding codedOf cutCount
-  coded-is c n cut e f g =
-      ap₂ (λ (n k : ℕ). record { written = n; «cut_slices» = k; «slice_size_scaler» = c }) f g
-      ∙ ap (λ (k : PictureKind). record { written = lengthOf s (codePlan w p s m c); «cut_slices» = cutCount k (codePlan w p s m c); «slice_size_scaler» = c }) (sym e)
+  unfolding codedOf
+  coded-is c n cut f g =
+      ap₂ (λ (n k : ℕ). record { written = n; «cut_slices» = k; «slice_size_scaler» = c }) f (g ∙ sym (count-is c))
 
 -- ---- answer and output
 module _ {w : List ℤ} {p : Picture} {s : Settings} {m : List ℕ} (k : Coding s m HighQuality p w) {r : Settled} (z : Settles w p s m r) (out : List ℕ) where
@@ -174,7 +180,7 @@ module _ {w : List ℤ} {p : Picture} {s : Settings} {m : List ℕ} (k : Coding 
       let c = r .scaler in
       let f : n ≡ lengthOf s (codePlan w p s m c) = en ∙ length-is w p s m r z in
       any-plan o′ (codes-written s (codePlan w p s m c) out n at end o o′ (record { written = n; «cut_slices» = cut; «slice_size_scaler» = c }) (test-is false e) f ea eo
-      (subst (λ (b : List ℕ). Lays o at b o′ end) (ap (λ (t : Terms). highRuns w p t (slicesIn p)) et ∙ runs-are w p s m c) l) (coded-is w p s m c n cut (k .same) f ec))
+      (subst (λ (b : List ℕ). Lays o at b o′ end) (ap (λ (t : Terms). highRuns w p t (slicesIn p)) et ∙ runs-are w p s m c) l) (coded-is w p s m c n cut f ec))
 
 -- ---- what the calls ask
 plain-by : (s : Settings) (m : List ℕ) → s .kind ≡ HighQuality → pictureOf s m .layout .predicted ≡ false

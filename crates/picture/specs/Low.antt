@@ -1,12 +1,13 @@
--- Low delay as the code has it: rebuilt planes, index and bits of a slice by the work slice.
+-- Low delay as the code has it: rebuilt planes, index, bits and cut of a slice by the work slice.
 use mathlib.Core.Path.{_≡_}
 use mathlib.Core.Bool.{Bool, true, false, cond}
 use mathlib.Core.List.{List, _++_}
 use Prim.Native.Nat.{ℕ, zero, suc, _+_, _^_, _≤_, _<_}
-use lib.Dec.{leb, eqb}
+use lib.Dec.{leb}
 use lib.IntN.{ℤ}
 use lib.ListN.{length, take}
 use Rattle.laws.specs.Chunks.{chunks}
+use Rattle.laws.specs.Rows.{span, total}
 use Rattle.codewords.specs.Bit.{Bits}
 use Rattle.codewords.specs.Bytes.{toBytes}
 use Rattle.codewords.specs.Code.{codes}
@@ -51,16 +52,20 @@ lowBitsBy v p n k q =
     let r = keptRuns (roomOf n) (lumaIn v p k q) (colourIn v p k q) in
     lowBits n q (r .luma) (r .colour)
 
--- 1 for the last index
-abbrev pub isLast : ℕ → ℕ
-isLast q = cond (eqb q 127) 1 0
+-- 1 where the runs ys and cs take more than room bits, so that they are cut, else 0
+abbrev pub cutBy : ℕ → List ℤ → List ℤ → ℕ
+cutBy room ys cs = cond (leb (trimmedCost ys + trimmedCost cs) room) 0 1
+
+-- 1 where that slice is cut, else 0
+unfoldable pub lowCutBy : List ℤ → Picture → ℕ → ℕ → ℕ → ℕ
+lowCutBy v p n k q = cutBy (roomOf n) (lumaIn v p k q) (colourIn v p k q)
 
 -- n is the numerator
 module _ (p : Picture) (n : ℕ) where
   abbrev pub bytesAt : ℕ → ℕ
   bytesAt k = sliceBytes n (slicesIn p) k
 
-  -- the index of slice k, its bits, and the work slice behind it
+  -- the index of slice k, the work slice behind it, its bits, and whether it is cut
   unfoldable pub lowIndexIn : List ℤ → ℕ → ℕ
   lowIndexIn w k = elect 0 127 (lowFitsIn w p (roomOf (bytesAt k)) k)
 
@@ -70,18 +75,20 @@ module _ (p : Picture) (n : ℕ) where
   abbrev pub lowBitsIn : List ℤ → ℕ → Bits
   lowBitsIn w k = lowBitsBy (lowWorkIn w k) p (bytesAt k) k (lowIndexIn w k)
 
+  abbrev pub lowCutIn : List ℤ → ℕ → ℕ
+  lowCutIn w k = lowCutBy (lowWorkIn w k) p (bytesAt k) k (lowIndexIn w k)
+
   -- the work slice before slice k
   unfoldable pub workAt : List ℤ → ℕ → List ℤ
   workAt w zero = w
   workAt w (suc k) = lowWorkIn (workAt w k) k
 
-  -- the bytes of the first j slices, and how many of these carry index 127
+  -- the bytes of the first j slices, and how many of these are cut
   abbrev pub lowRuns : List ℤ → ℕ → List ℕ
   lowRuns w j = chunks (λ k. toBytes (lowBitsIn (workAt w k) k)) j
 
-  unfoldable pub cutsIn : List ℤ → ℕ → ℕ
-  cutsIn w zero = 0
-  cutsIn w (suc j) = cutsIn w j + isLast (lowIndexIn (workAt w j) j)
+  abbrev pub cutsIn : List ℤ → ℕ → ℕ
+  cutsIn w j = total (span (λ k. lowCutIn (workAt w k) k) 0 j)
 
 -- ---- outcomes
 -- trials have made v of w: at every index the same planes are rebuilt from either
@@ -104,13 +111,14 @@ pub record CutIn (w : List ℤ) (p : Picture) (room k q : ℕ) (y : Cost) : Type
 abbrev pub runBits : List ℤ → Picture → ℕ → ℕ → code.Kept → Bits
 runBits w p k q r = codes (take (r .luma) (lumaIn w p k q)) ++ codes (take (r .colour) (colourIn w p k q))
 
--- the runs that are written of ys and cs, by count and bits
+-- the runs that are written of ys and cs, by count and bits, and whether they are cut
 pub record KeptOf (room : ℕ) (ys cs : List ℤ) (r : code.Kept) : Type 0 where
   pub luma : keptRuns room ys cs .luma ≡ take (r .luma) ys
   pub luma-bits : r .«luma_bits» ≡ bitsOf (keptRuns room ys cs .luma)
   pub colour : keptRuns room ys cs .colour ≡ take (r .colour) cs
   pub colour-bits : r .«colour_bits» ≡ bitsOf (keptRuns room ys cs .colour)
   pub fits : r .«luma_bits» + r .«colour_bits» ≤ room
+  pub cut : r .cut ≡ cutBy room ys cs
 
 -- low-delay slices can be coded with numerator n
 pub record LowIn (p : Picture) (n : ℕ) (w : List ℤ) : Type 0 where

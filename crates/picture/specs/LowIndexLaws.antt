@@ -6,7 +6,6 @@ use Prim.Native.Nat.{ℕ, suc, _+_, _*_, _-_, _/_, _^_, _≤_}
 use native.Mathlib.Nat.{suc-mul, mul-le-mul-left, mul-one, add-mul-div-right}
 use native.Mathlib.Numerals.{add-one}
 use native.Mathlib.Omega.{arith}
-use borrow.Author.Tests.{eq-eqb, ne-eqb}
 use lib.IntN.{ℤ}
 use Rattle.unit.specs.SliceLaws.{div-rises}
 use Rattle.unit.specs.Intlog2Laws.{intlog2-least, intlog2-most}
@@ -18,7 +17,7 @@ use Rattle.picture.specs.Cost.{noCost, Countable}
 use Rattle.picture.specs.Layout.{RunIn}
 use Rattle.picture.specs.Picture.{SliceIn}
 use Rattle.picture.specs.PictureLaws.{run-y, run-pair}
-use Rattle.picture.specs.Low.{strip0, rebuiltIn, isLast}
+use Rattle.picture.specs.Low.{strip0, rebuiltIn}
 
 -- ---- bytes
 module _ (n d k : ℕ) where
@@ -46,13 +45,6 @@ length-few n h = intlog2-least (8 * n - 7) .least 33 (omega arith)
 -- the length field leaves the rest as room
 pub length-most : (n : ℕ) → lengthBits n ≤ 8 * n - 7
 length-most n = intlog2-most (8 * n - 7)
-
--- ---- the last index
-pub last-yes : (q : ℕ) → q ≡ 127 → 1 ≡ isLast q
-last-yes q e = rw (eq-eqb q 127 e)
-
-pub last-no : (q : ℕ) → (q ≡ 127 → ⊥) → 0 ≡ isLast q
-last-no q e = rw (ne-eqb q 127 e)
 
 -- ---- rebuilt planes
 -- one component after the other

@@ -1,15 +1,15 @@
--- The code's low-delay slices are the unit's: rebuilt planes, numbers, indices and bytes, slice by slice.
+-- The code's low-delay slices are the unit's: rebuilt planes, numbers, indices, bytes and cuts, slice by slice.
 use mathlib.Core.Path.{_≡_, refl, sym, ap, ap₂, _∙_, fun-ext, subst}
-use mathlib.Core.Bool.{Bool, true, false, cond}
-use mathlib.Core.List.{List, [], _∷_, _++_, flatten}
+use mathlib.Core.Bool.{Bool, true, false, not, cond}
+use mathlib.Core.List.{List, _++_, map, flatten}
 use Prim.Native.Nat.{ℕ, zero, suc, _+_, _*_, _≤_, _<_}
-use native.Mathlib.Nat.{mul-pos, zero-add}
+use native.Mathlib.Nat.{mul-pos}
 use native.Mathlib.Omega.{arith}
 use lib.Arith.{digits-lt}
-use lib.Dec.{eqb, leb}
+use lib.Dec.{leb}
 use lib.IntN.{ℤ, pos}
 use lib.ListN.{length, getD, drop}
-use Rattle.laws.specs.Rows.{at, span, span-suc, total}
+use Rattle.laws.specs.Rows.{at, span, span-ext, map-span, total}
 use Rattle.laws.specs.Plane.{Plane, Agree}
 use Rattle.laws.specs.Chunks.{chunks-ext}
 use Rattle.laws.specs.Laid.{Lays}
@@ -22,7 +22,7 @@ use Rattle.unit.specs.Slices.{Grid, sliceCount}
 use Rattle.unit.specs.SliceLaws.{bound-rises}
 use Rattle.unit.specs.Trim.{trimmedCost}
 use Rattle.unit.specs.Elect.{elect}
-use Rattle.unit.specs.Quantised.{rebuilt, numbersLD, leftLD}
+use Rattle.unit.specs.Quantised.{sizeOf, rebuilt, numbersLD, leftLD}
 use Rattle.unit.specs.Plan.{SlicePlan, Plan}
 use Rattle.unit.specs.LowDelay.{numerator, sliceBytes, roomOf, alternated, lowBits, keptRuns, lowNumbers, lowLeft, lowFits, lowIndex, lowPlan, lowSlices, zeroPlane, zeroPlanes}
 use Rattle.unit.specs.PlannedLaws.{lowState, lowElected, lowAt, low-span}
@@ -37,9 +37,11 @@ use Rattle.unit.specs.Coefficients.{coefficientsOf}
 use Rattle.unit.specs.Valid.{RateFits}
 use Rattle.unit.specs.ValidLaws.{target-few}
 use Rattle.unit.specs.Unit.{majorVersion, gridOf, parametersBy, targetOf, lowParameters, numeratorOf, planBy, planOf, sliceRuns, headBits, lengthOf}
-use Rattle.unit.specs.Outcome.{lastIndices, cutCount, scalerIn, codedOf, tooLong}
+use Rattle.unit.specs.Cut.{cutOf, cutCount}
+use Rattle.unit.specs.Outcome.{scalerIn, codedOf, tooLong}
 use Rattle.unit.specs.LowDelayLaws.{numerator-least, bytes-all, low-bytes}
 use Rattle.unit.specs.SoundLaws.{length-is}
+use Rattle.unit.specs.DropLaws.{cut-unfit, alike-of}
 use Rattle.picture.specs.declared.layout.Component.{Component}
 use Rattle.picture.specs.declared.layout.Picture.{Picture}
 use Rattle.picture.specs.Run.{planeFrom, rebuiltStrip, Small}
@@ -48,29 +50,15 @@ use Rattle.picture.specs.LayoutLaws.{first-fits}
 use Rattle.picture.specs.StripLaws.{Apart, rebuilt-outside}
 use Rattle.picture.specs.NumberLaws.{Bands, Holds, bottom-most, right-most, left-front, holds-rebuilt, rebuilt-low, numbers-low, numbers-pair}
 use Rattle.picture.specs.Picture.{slicesIn, runOf, Placed, Arranged}
-use Rattle.picture.specs.Low.{strip0, rebuiltIn, lumaIn, colourIn, lowFitsIn, lowBitsBy, isLast, bytesAt, lowIndexIn, lowWorkIn, lowBitsIn, workAt, lowRuns, cutsIn, LowIn}
+use Rattle.picture.specs.Low.{strip0, rebuiltIn, lumaIn, colourIn, lowFitsIn, cutBy, lowBitsBy, lowCutBy, bytesAt, lowIndexIn, lowWorkIn, lowBitsIn, lowCutIn, workAt, lowRuns, cutsIn, LowIn}
 use Rattle.picture.specs.Analysed.{isLow, frontOf, layoutOf, pictureOf, Called, Analysed}
 use Rattle.picture.specs.Encoded.{Coding, CodesAny}
 use Rattle.picture.specs.AnalysedLaws.{called-arranged, count-few, grid-is, slices-are, values-in, bands-y, bands-c1, bands-c2, small-by, holds-y, holds-c1, holds-c2, flatten-span, codes-refused, codes-written}
 use Rattle.picture.specs.AgainLaws.{length-strip}
 
--- how many slices carry index 127, with one slice more
-last-more : (ps : List SlicePlan) (s : SlicePlan) → lastIndices (ps ++ (s ∷ [])) ≡ lastIndices ps + isLast (s .index)
-last-more [] s = by (eqb (s .index) 127)
-  where
-    by : (t : Bool) → elim t as (λ z. ℕ) [ true ↦ 1 | false ↦ 0 ] ≡ 0 + cond t 1 0
-    by true = refl
-    by false = refl
-last-more (a ∷ ps) s = by (eqb (a .index) 127) (last-more ps s)
-  where
-    i : ℕ
-    i = isLast (s .index)
-
-    by : (t : Bool) → lastIndices (ps ++ (s ∷ [])) ≡ lastIndices ps + i
-        → elim t as (λ z. ℕ) [ true ↦ suc (lastIndices (ps ++ (s ∷ []))) | false ↦ lastIndices (ps ++ (s ∷ [])) ]
-        ≡ elim t as (λ z. ℕ) [ true ↦ suc (lastIndices ps) | false ↦ lastIndices ps ] + i
-    by true e = ap suc e ∙ omega arith
-    by false e = e
+cond-not : (t : Bool) → _≡_ {A = ℕ} (cond t 0 1) (cond (not t) 1 0)
+cond-not true = refl
+cond-not false = refl
 
 -- a picture whose components have the bands b, with the values m
 pub record Linked (p : Picture) (m : List ℕ) (b : Three (List Band)) : Type 0 where
@@ -211,6 +199,12 @@ module _ (p : Picture) (m : List ℕ) (b : Three (List Band)) (h : Linked p m b)
     bits-are n q =
         ap₂ (λ (y c : List ℤ). lowBits n q (keptRuns (roomOf n) y c .luma) (keptRuns (roomOf n) y c .colour)) (luma-is q) (colour-is q)
 
+    cut-is : map sizeOf (b .c1) ≡ map sizeOf (b .c2) → (n q : ℕ) → lowCutBy (rebuiltIn w p k q) p n k q ≡ cutOf (lowPlan g m b n r k q)
+    unfolding lowCutBy
+    cut-is alike n q =
+        ap₂ (cutBy (roomOf n)) (luma-is q) (colour-is q) ∙ cond-not (lowFits g m b (roomOf n) r k q)
+        ∙ ap (λ (t : Bool). cond t 1 0) (sym (cut-unfit g m b alike r n k q))
+
     module _ (n : ℕ) where
       pub index-is : lowIndexIn p n w k ≡ lowIndex g m b (sliceBytes n (sliceCount g) k) r k
       unfolding lowIndexIn lowIndex
@@ -275,17 +269,20 @@ module _ (p : Picture) (m : List ℕ) (b : Three (List Band)) (h : Linked p m b)
         ∙ sym (flatten-span (lowAt g m b n) (slicesIn p))
         ∙ ap (λ (ps : List SlicePlan). flatten (sliceRuns ps)) (sym spans)
 
-    cuts-span : (j : ℕ) → j ≤ slicesIn p → cutsIn p n w j ≡ lastIndices (span (lowAt g m b n) 0 j)
-    unfolding cutsIn lowPlan
-    cuts-span zero o = refl
-    cuts-span (suc j) o =
-        ap₂ _+_ (cuts-span j (omega arith)) (ap isLast (index-at j o))
-        ∙ sym (last-more (span (lowAt g m b n) 0 j) (lowAt g m b n j))
-        ∙ ap lastIndices (ap (λ (i : ℕ). span (lowAt g m b n) 0 j ++ (lowAt g m b n i ∷ [])) (sym (zero-add j)) ∙ sym (span-suc (lowAt g m b n) 0 j))
+    module _ (alike : map sizeOf (b .c1) ≡ map sizeOf (b .c2)) where
+      cut-at : (k : ℕ) → k < slicesIn p → lowCutIn p n (workAt p n w k) k ≡ cutOf (lowAt g m b n k)
+      cut-at k o =
+          let z = sliceBytes n (sliceCount g) k in
+          let r = lowState g m b n k in
+          cut-is r (workAt p n w k) k o (follows-at k (omega arith)) alike z (lowIndexIn p n (workAt p n w k) k)
+          ∙ ap (λ (q : ℕ). cutOf (lowPlan g m b z r k q)) (index-at k o)
 
-    -- how many of them carry index 127
-    pub low-cuts : cutsIn p n w (slicesIn p) ≡ lastIndices (lowSlices g m b n zeroPlanes 0 (slicesIn p))
-    low-cuts = cuts-span (slicesIn p) (omega arith) ∙ ap lastIndices (sym spans)
+      -- how many of them are cut
+      pub low-cuts : cutsIn p n w (slicesIn p) ≡ total (map cutOf (lowSlices g m b n zeroPlanes 0 (slicesIn p)))
+      low-cuts =
+          ap total
+          (span-ext (λ k. lowCutIn p n (workAt p n w k) k) (λ k. cutOf (lowAt g m b n k)) 0 (slicesIn p) (λ k a o. cut-at k (omega arith))
+          ∙ sym (map-span cutOf (lowAt g m b n) 0 (slicesIn p)) ∙ ap (map cutOf) (sym spans))
 
 -- ---- a low-delay call
 numerator-most : (version target slices : ℕ) (t : ℕ → Parameters) (n : ℕ) → target ≤ n → slices ≤ n → numerator version target slices t ≤ n
@@ -346,11 +343,11 @@ module _ {s : Settings} {m : List ℕ} (called : Called s m) (low : s .kind ≡ 
     scaler-is : s .«slice_size_scaler» ≡ scalerIn (planOf s m pl .parameters .sliceParameters) (s .«slice_size_scaler»)
     scaler-is = ap (λ (a : Plan). scalerIn (a .parameters .sliceParameters) (s .«slice_size_scaler»)) (sym plan-is)
 
-    coded-is : {l c : ℕ} → l ≡ lengthOf s (planOf s m pl) → c ≡ cutCount (s .kind) (planOf s m pl) → codedBy l c (s .«slice_size_scaler») ≡ codedOf s (planOf s m pl)
+    coded-is : {l c : ℕ} → l ≡ lengthOf s (planOf s m pl) → c ≡ cutCount (planOf s m pl) → codedBy l c (s .«slice_size_scaler») ≡ codedOf s (planOf s m pl)
     unfolding codedOf
     coded-is el ec =
         ap₂ (λ (l c : ℕ). codedBy l c (s .«slice_size_scaler»)) el ec
-        ∙ ap (codedBy (lengthOf s (planOf s m pl)) (cutCount (s .kind) (planOf s m pl))) scaler-is
+        ∙ ap (codedBy (lengthOf s (planOf s m pl)) (cutCount (planOf s m pl))) scaler-is
 
     -- the slices take the numerator
     length-low : lengthOf s (planOf s m pl) ≡ 17 + parameterBytes (majorVersion s) (lowParameters s m (numeratorOf s m)) + numeratorOf s m
@@ -379,12 +376,12 @@ module _ {s : Settings} {m : List ℕ} (called : Called s m) (low : s .kind ≡ 
           ∙ ap (λ (g : Grid). flatten (sliceRuns (lowSlices g (matrixValues s m) bands (numeratorOf s m) zeroPlanes 0 (sliceCount g)))) (grid-is s m)
           ∙ ap (λ (a : Plan). flatten (sliceRuns (a .slices))) (sym plan-is)
 
-      cuts-are : cutsIn (pictureOf s m) (numeratorOf s m) w (slicesIn (pictureOf s m)) ≡ cutCount (s .kind) (planOf s m pl)
+      cuts-are : cutsIn (pictureOf s m) (numeratorOf s m) w (slicesIn (pictureOf s m)) ≡ cutCount (planOf s m pl)
       unfolding cutCount
       cuts-are =
-          low-cuts (pictureOf s m) (matrixValues s m) bands linked (numeratorOf s m) w start
-          ∙ ap (λ (g : Grid). lastIndices (lowSlices g (matrixValues s m) bands (numeratorOf s m) zeroPlanes 0 (sliceCount g))) (grid-is s m)
-          ∙ sym (ap₂ cutCount low plan-is)
+          low-cuts (pictureOf s m) (matrixValues s m) bands linked (numeratorOf s m) w start (alike-of s pl)
+          ∙ ap (λ (g : Grid). total (map cutOf (lowSlices g (matrixValues s m) bands (numeratorOf s m) zeroPlanes 0 (sliceCount g)))) (grid-is s m)
+          ∙ sym (ap cutCount plan-is)
 
 -- what is worked out before the output is written: numerator n, d slices, and the unit's length l
 pub record Worked (s : Settings) (m : List ℕ) (p : Picture) (w : List ℤ) (n d l : ℕ) : Type 0 where

@@ -3,14 +3,15 @@ use mathlib.Core.Path.{_≡_, refl, sym, ap, ap₂, _∙_}
 use mathlib.Core.Bool.{Bool, true, false, cond}
 use mathlib.Core.List.{List, _++_, append-assoc}
 use Prim.Native.Nat.{ℕ, zero, suc, _+_, _*_, _-_, _/_, _≤_, _<_}
-use native.Mathlib.Nat.{suc-mul, zero-mul, zero-div, mul-div-cancel-left, mul-le-mul-right}
+use native.Mathlib.Nat.{zero-add, suc-mul, zero-mul, zero-div, mul-div-cancel-left, mul-le-mul-right}
 use native.Mathlib.Numerals.{add-one}
 use native.Mathlib.Omega.{arith}
 use native.Mathlib.Decide.{decLe}
-use borrow.Author.Tests.{lt-leb}
-use lib.Dec.{eqb}
+use borrow.Author.Tests.{le-leb, lt-leb}
+use lib.Dec.{leb}
 use lib.IntN.{ℤ}
 use lib.ListN.{length, take, length-append, length-replicate}
+use Rattle.laws.specs.Rows.{total-more}
 use Rattle.laws.specs.Laid.{Lays, lays-start, lays-on}
 use Rattle.laws.specs.Chunks.{chunks}
 use Rattle.codewords.specs.Bit.{Bits, lit, oneBits}
@@ -39,7 +40,7 @@ use Rattle.picture.specs.CostLaws.{CostOf, cost-of, trimmed-prefix, kept
 use Rattle.picture.specs.HeadLaws.{room-first, room-rest}
 use Rattle.picture.specs.Picture.{slicesIn}
 use Rattle.picture.specs.Tally.{trimmedOf}
-use Rattle.picture.specs.Low.{rebuiltIn, lumaIn, colourIn, lowFitsIn, lowBitsBy, isLast, bytesAt, lowIndexIn, lowWorkIn, lowBitsIn, workAt, lowRuns, cutsIn, Tried, Shorter, runBits, KeptOf, LowIn}
+use Rattle.picture.specs.Low.{rebuiltIn, lumaIn, colourIn, lowFitsIn, lowBitsBy, cutBy, lowCutBy, bytesAt, lowIndexIn, lowWorkIn, lowBitsIn, lowCutIn, workAt, lowRuns, cutsIn, Tried, Shorter, runBits, KeptOf, LowIn}
 use Rattle.picture.specs.AgainLaws.{length-rebuilt}
 
 -- ---- the runs that are kept
@@ -80,7 +81,7 @@ module _ (room : ℕ) (ys cs : List ℤ) where
   -- a slice that does not fit
   pub kept-cut : (y : Cost) (l : Run) (c : Cost) (r : Run) → y ≡ addAll (noCost room) ys → room < trimmedCost ys + trimmedCost cs
       → Shorter y l → c ≡ addAll (noCost (room - l .bits)) cs → Shorter c r
-      → KeptOf room ys cs (record { luma = l .count; «luma_bits» = l .bits; colour = r .count; «colour_bits» = r .bits })
+      → KeptOf room ys cs (record { luma = l .count; «luma_bits» = l .bits; colour = r .count; «colour_bits» = r .bits; cut = 1 })
   kept-cut y l c r e h s d t =
       let k = runs-cut h in
       let a = cut-bits room ys y e l s in
@@ -94,11 +95,12 @@ module _ (room : ℕ) (ys cs : List ℤ) where
         colour-bits =
             b ∙ ap (λ (j : ℕ). bitsOf (fitPrefix (trimmed cs) (room - j))) a ∙ sym (ap (λ (v : Runs). bitsOf (v .colour)) k);
         fits = omega (arith, cut-fits room ys y e l s, cut-fits (room - l .bits) cs c d r t);
+        cut = rw (lt-leb (trimmedCost ys + trimmedCost cs) room h) refl;
       }
 
   -- a slice that fits
   pub kept-whole : (y c : Trimmed) → y ≡ trimmedOf ys → c ≡ trimmedOf cs → y .bits + c .bits ≤ room
-      → KeptOf room ys cs (record { luma = y .count; «luma_bits» = y .bits; colour = c .count; «colour_bits» = c .bits })
+      → KeptOf room ys cs (record { luma = y .count; «luma_bits» = y .bits; colour = c .count; «colour_bits» = c .bits; cut = 0 })
   unfolding trimmedCost
   kept-whole y c e d h =
       let a = ap (λ (t : Trimmed). t .bits) e in
@@ -110,6 +112,7 @@ module _ (room : ℕ) (ys cs : List ℤ) where
         colour = ap (λ (v : Runs). v .colour) k ∙ trimmed-prefix cs ∙ ap (λ (t : Trimmed). take (t .count) cs) (sym d);
         colour-bits = b ∙ sym (ap (λ (v : Runs). bitsOf (v .colour)) k);
         fits = h;
+        cut = rw (le-leb (trimmedCost ys + trimmedCost cs) room (omega (arith, a, b))) refl;
       }
 
   pub not-whole : (y c : Trimmed) → y ≡ trimmedOf ys → c ≡ trimmedOf cs → room < y .bits + c .bits → room < trimmedCost ys + trimmedCost cs
@@ -182,6 +185,10 @@ module _
   long : length (lit 7 q ++ (lit m (r .«luma_bits») ++ (runBits v p k q r ++ oneBits left))) ≡ 8 * n
   long = ap length (slice-parts v p n k q room m r er em h) ∙ slice-long v p n k q some
 
+  pub slice-cut : r .cut ≡ lowCutBy v p n k q
+  unfolding lowCutBy
+  slice-cut = h .cut ∙ ap (λ (x : ℕ). cutBy x (lumaIn v p k q) (colourIn v p k q)) er
+
   module _ {o₁ : List ℕ} {w₁ : BitWriter} (a : Wrote o (startAt i) (lit 7 q) o₁ w₁) where
     pub length-room : Room o₁ w₁ m
     length-room =
@@ -208,18 +215,20 @@ module _
               (parts-laid i n (lit 7 q) (lit m (r .«luma_bits»)) (runBits v p k q r) (oneBits left) long fits a b c d f)
 
 -- ---- a slice's index, and the work slice behind it
-bit-small : (b : Bool) → cond b 1 0 ≤ 1
+bit-small : (b : Bool) → cond b 0 1 ≤ 1
 bit-small true = omega arith
 bit-small false = omega arith
 
-pub last-small : (q : ℕ) → isLast q ≤ 1
-last-small q = bit-small (eqb q 127)
+pub cut-small : (v : List ℤ) (p : Picture) (n k q : ℕ) → lowCutBy v p n k q ≤ 1
+unfolding lowCutBy
+cut-small v p n k q = bit-small (leb (trimmedCost (lumaIn v p k q) + trimmedCost (colourIn v p k q)) (roomOf n))
 
 -- slice k of w was coded at index q, which gave v
 pub record Elects (p : Picture) (n : ℕ) (w : List ℤ) (k bytes q : ℕ) (v : List ℤ) : Type 0 where
   pub index : q ≡ lowIndexIn p n w k
   pub work : v ≡ lowWorkIn p n w k
   pub bits : lowBitsBy v p bytes k q ≡ lowBitsIn p n w k
+  pub cut : lowCutBy v p bytes k q ≡ lowCutIn p n w k
 
 module _ (p : Picture) (n : ℕ) (w : List ℤ) (k d bytes : ℕ) (ed : d ≡ slicesIn p) (eb : bytes ≡ sliceBytes n d k) where
   bytes-is : bytes ≡ bytesAt p n k
@@ -246,6 +255,7 @@ module _ (p : Picture) (n : ℕ) (w : List ℤ) (k d bytes : ℕ) (ed : d ≡ sl
         index = i;
         work = f;
         bits = ap (λ (x : List ℤ). lowBitsBy x p bytes k q) f ∙ ap₂ (λ (b j : ℕ). lowBitsBy (lowWorkIn p n w k) p b k j) bytes-is i;
+        cut = ap (λ (x : List ℤ). lowCutBy x p bytes k q) f ∙ ap₂ (λ (b j : ℕ). lowCutBy (lowWorkIn p n w k) p b k j) bytes-is i;
       }
 
 pub work-size : (p : Picture) (n : ℕ) (w : List ℤ) (k : ℕ) → length (workAt p n w k) ≡ length w
@@ -289,7 +299,7 @@ pub record Coded (p : Picture) (n : ℕ) (w : List ℤ) (o : List ℕ) (i k : �
 
 pub coded-none : (p : Picture) (n : ℕ) (w : List ℤ) (o : List ℕ) (i : ℕ) (c : SliceCoder) → LowIn p n w → c .at ≡ i → c .«cut_slices» ≡ 0
     → Coded p n w o i 0 w o c
-unfolding chunks workAt cutsIn
+unfolding chunks workAt
 coded-none p n w o i c h e d = record {
   many = omega arith;
   lays = rw e (lays-start o i);
@@ -313,16 +323,19 @@ module _ {p : Picture} {n : ℕ} {w : List ℤ} {o : List ℕ} {i k : ℕ} {w′
 
   -- one slice more is coded
   pub coded-more : {w″ : List ℤ} {o″ : List ℕ} {c′ : SliceCoder} → Lays o′ (c .at) (toBytes (lowBitsIn p n w′ k)) o″ (c′ .at)
-      → w″ ≡ lowWorkIn p n w′ k → Small (p .front) (p .end) w″ → c′ .«cut_slices» ≡ c .«cut_slices» + isLast (lowIndexIn p n w′ k)
+      → w″ ≡ lowWorkIn p n w′ k → Small (p .front) (p .end) w″ → c′ .«cut_slices» ≡ c .«cut_slices» + lowCutIn p n w′ k
       → Coded p n w o i (k + 1) w″ o″ c′
-  unfolding chunks workAt cutsIn
+  unfolding chunks workAt
   coded-more {w″} {o″} {c′} a e s d =
       let a′ : Lays o′ (c .at) (toBytes (lowBitsIn p n (workAt p n w k) k)) o″ (c′ .at) = rw (h .work) at a in
       let r : Coded p n w o i (suc k) w″ o″ c′ = record {
         many = omega (arith, l);
         lays = lays-on (h .lays) a′;
-        cuts = d ∙ ap₂ (λ (x : ℕ) (u : List ℤ). x + isLast (lowIndexIn p n u k)) (h .cuts) (h .work);
-        few = omega (arith, d, h .few, last-small (lowIndexIn p n w′ k));
+        cuts =
+            d ∙ ap₂ (λ (x : ℕ) (u : List ℤ). x + lowCutIn p n u k) (h .cuts) (h .work)
+            ∙ ap (λ (j : ℕ). cutsIn p n w k + lowCutIn p n (workAt p n w j) j) (sym (zero-add k))
+            ∙ sym (total-more (λ j. lowCutIn p n (workAt p n w j) j) 0 k);
+        few = omega (arith, d, h .few, cut-small (lowWorkIn p n w′ k) p (bytesAt p n k) k (lowIndexIn p n w′ k));
         work = e ∙ ap (λ (u : List ℤ). lowWorkIn p n u k) (h .work);
         small = s;
       } in

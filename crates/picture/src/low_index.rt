@@ -17,7 +17,7 @@ ghost use Rattle.picture.specs.Cost.{noCost, addAll};
 ghost use Rattle.picture.specs.Layout.{bandCount, windowOf, restNumbers, RunIn};
 ghost use Rattle.picture.specs.Picture.{slicesIn, SliceIn, Arranged};
 ghost use Rattle.picture.specs.Tally.{trimmedOf};
-ghost use Rattle.picture.specs.Low.{rebuiltIn, lumaIn, colourIn, lowFitsIn, isLast, Tried};
+ghost use Rattle.picture.specs.Low.{rebuiltIn, lumaIn, colourIn, lowFitsIn, Tried};
 ghost use Rattle.picture.specs.LowRest.{windowsOf, joinedOf, bitsWith, FirstOf, Known, Joins};
 
 // What a slice has of level 0: of luma, and of each colour.
@@ -96,13 +96,6 @@ pub(crate) fn room_of(n: u64) -> u64
     ensures { λ r. ⌜ (r ≡ roomOf n) × (r ≤ 2 ^ 33) ⌝ }
 {
     8 * n - 7 - length_bits(n) as u64
-}
-
-// 1 where q is the last index, else 0.
-pub(crate) fn is_last(q: u32) -> u32
-    ensures { λ r. ⌜ r ≡ isLast q ⌝ }
-{
-    if q == 127 { 1 } else { 0 }
 }
 
 // What slice k has of level 0, worked out once for all trials.

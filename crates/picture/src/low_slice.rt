@@ -14,14 +14,22 @@ ghost use Rattle.codewords.specs.Bytes.{toBytes};
 ghost use Rattle.codewords.specs.Writer.{Room, Wrote};
 ghost use Rattle.picture.specs.Picture.{slicesIn, SliceIn};
 ghost use Rattle.picture.specs.LowRest.{windowsOf, Known};
-ghost use Rattle.picture.specs.Low.{lumaIn, colourIn, runBits, lowBitsBy, lowRuns, workAt, cutsIn, KeptOf, LowIn, Shorter, CutIn};
+ghost use Rattle.picture.specs.Low.{lumaIn, colourIn, runBits, lowBitsBy, lowCutBy, lowRuns, workAt, cutsIn, KeptOf, LowIn, Shorter, CutIn};
 
-// The runs that are written: how many numbers of luma and of the colours, and their bits.
+// The runs that are written: how many numbers of luma and of the colours, and their bits; cut is 1 where a number that
+// is not 0 is left out, else 0.
 struct Kept {
     luma: usize,
     luma_bits: u64,
     colour: usize,
     colour_bits: u64,
+    cut: u32,
+}
+
+// A coded slice: the place where it ends, and 1 where it is cut, else 0.
+pub(crate) struct CodedSlice {
+    pub at: usize,
+    pub cut: u32,
 }
 
 // A run: how many numbers, and their bits.
@@ -60,6 +68,7 @@ fn cut(work: &[i64], p: Picture, room: u64, k: u32, q: u32, y: Cost) -> Kept
         luma_bits: l.bits,
         colour: c.count,
         colour_bits: c.bits,
+        cut: 1,
     }
 }
 
@@ -82,6 +91,7 @@ fn kept_runs(work: &[i64], p: Picture, room: u64, k: u32, q: u32, v: Windows, r:
             luma_bits: y.bits,
             colour: c.count,
             colour_bits: c.bits,
+            cut: 0,
         };
     }
     cut(
@@ -147,8 +157,7 @@ fn put_runs(
     b.writer
 }
 
-// Writes slice k of n bytes at index q from place at on, and gives the place where it ends. rest has its runs behind
-// level 0 at q or at another index.
+// Writes slice k of n bytes at index q from place at on. rest has its runs behind level 0 at q or at another index.
 pub(crate) fn put_ld_slice(
     out: &mut [u8],
     at: usize,
@@ -159,9 +168,10 @@ pub(crate) fn put_ld_slice(
     q: u32,
     v: Windows,
     rest: Rest,
-) -> usize
+) -> CodedSlice
     requires { ⌜ SliceIn p (now work) k q × (((1 ≤ n) × (n ≤ 2 ^ 30)) × ((at + n ≤ length (now out)) × (Known (now work) p k rest × (v ≡ windowsOf p k)))) ⌝ }
-    ensures { λ r. ⌜ Lays (now (out .entry)) at (toBytes (lowBitsBy (now (work .entry)) p n k q)) (now (out .exit)) r ⌝ }
+    ensures { λ r. ⌜ Lays (now (out .entry)) at (toBytes (lowBitsBy (now (work .entry)) p n k q)) (now (out .exit)) (r .at)
+        × (r .cut ≡ lowCutBy (now (work .entry)) p n k q) ⌝ }
 {
     let room = crate::low_index::room_of(n);
     let r = kept_runs(
@@ -183,7 +193,10 @@ pub(crate) fn put_ld_slice(
     let c = put_runs(out, b, work, p, k, q, r);
     let d = codewords::bitio::put_ones(out, c, room - r.luma_bits - r.colour_bits);
     let z = codewords::bitio::flush(out, d);
-    z.at
+    CodedSlice {
+        at: z.at,
+        cut: r.cut,
+    }
 }
 
 // Writes all slices from place at on; n is the numerator.

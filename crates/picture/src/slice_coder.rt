@@ -10,11 +10,11 @@ ghost use Rattle.codewords.specs.Bytes.{toBytes};
 ghost use Rattle.picture.specs.Run.{Small};
 ghost use Rattle.picture.specs.Picture.{slicesIn};
 ghost use Rattle.picture.specs.High.{planIn, choiceIn, wordsIn, wordsTo, sliceNumberCount, noteIn, plannedBy, FewBits, TermsIn, PlanIn, PlansOn, Notes};
-ghost use Rattle.picture.specs.Low.{isLast, lowIndexIn, lowBitsIn, lowWorkIn, LowIn};
+ghost use Rattle.picture.specs.Low.{lowBitsIn, lowCutIn, lowWorkIn, LowIn};
 
-// Where the next slice goes in the output, how many low-delay slices carry index 127, the largest need of a component,
-// the index of the slice before, from which the search in high quality and the bracket in low delay begin, and where
-// the words of the next slice stand in the work slice.
+// Where the next slice goes in the output, how many low-delay slices are cut, the largest need of a component, the
+// index of the slice before, from which the search in high quality and the bracket in low delay begin, and where the
+// words of the next slice stand in the work slice.
 pub(crate) struct SliceCoder {
     pub at: usize,
     pub cut_slices: u32,
@@ -121,7 +121,7 @@ impl SliceCoder {
             × (self .at + length (toBytes (lowBitsIn p n (now work) k)) ≤ length (now out)))) ⌝ }
         ensures { λ r. ⌜ Lays (now (out .entry)) (self .at) (toBytes (lowBitsIn p n (now (work .entry)) k)) (now (out .exit)) (r .at)
             × ((now (work .exit) ≡ lowWorkIn p n (now (work .entry)) k) × (Small (p .front) (p .end) (now (work .exit))
-            × ((r .«cut_slices» ≡ self .«cut_slices» + isLast (lowIndexIn p n (now (work .entry)) k)) × (r .largest ≡ self .largest)))) ⌝ }
+            × ((r .«cut_slices» ≡ self .«cut_slices» + lowCutIn p n (now (work .entry)) k) × (r .largest ≡ self .largest)))) ⌝ }
     {
         let bytes = crate::low_index::slice_bytes(n, crate::low_index::slice_count(p), k);
         let room = crate::low_index::room_of(bytes);
@@ -131,9 +131,10 @@ impl SliceCoder {
         let q = e.index;
         let rest = e.rest;
         crate::low_index::rebuild_planes(work, p, k, q, v);
+        let z = crate::low_slice::put_ld_slice(out, self.at, work, p, bytes, k, q, v, rest);
         SliceCoder {
-            at: crate::low_slice::put_ld_slice(out, self.at, work, p, bytes, k, q, v, rest),
-            cut_slices: self.cut_slices + crate::low_index::is_last(q),
+            at: z.at,
+            cut_slices: self.cut_slices + z.cut,
             largest: self.largest,
             index: q,
             words: self.words,

@@ -1,5 +1,6 @@
--- Demand 3 holds of the unit of every accepted call.
+-- Demand 3 holds of the unit of every accepted call, and what its count of cut slices says.
 use mathlib.Core.Path.{_≡_, refl, sym, ap, ap₂, _∙_}
+use mathlib.Core.Logic.{_↔_}
 use mathlib.Core.Bool.{Bool, true, false}
 use mathlib.Core.List.{List, [], _∷_, map}
 use mathlib.Core.Option.{Option, none, some, Option·getD}
@@ -32,7 +33,8 @@ use Rattle.unit.specs.Coefficients.{bandsOf, coefficientsOf}
 use Rattle.unit.specs.Quantised.{sizeOf}
 use Rattle.unit.specs.Plan.{Plan}
 use Rattle.unit.specs.Unit.{majorVersion, gridOf, parametersBy, planBy, planOf, lengthOf, unitOf}
-use Rattle.unit.specs.Outcome.{lengthIn, codedOf, tooLong, codedIf, outcomeIf, outcomeOf}
+use Rattle.unit.specs.Cut.{cutCount}
+use Rattle.unit.specs.Outcome.{tells, lengthIn, codedOf, tooLong, codedIf, outcomeIf, outcomeOf}
 use Rattle.unit.specs.Reader.{Reading, gridIn, bandSizesIn, valuesBy, valuesIn, readBands, readSamplesOf, readSamples}
 use Rattle.unit.specs.Demand.{SameSlices, Follow, Undropped, AllZero, planIndex, NearBands, SameSamples, Demand3}
 use Rattle.unit.specs.Valid.{Between, Valid}
@@ -45,7 +47,7 @@ use Rattle.unit.specs.SynthesisLaws.{idwt-back}
 use Rattle.unit.specs.PlannedLaws.{Component, Y, C1, C2, pick, ReadAs, call-planned, planned-near, planned-equal}
 use Rattle.unit.specs.Intlog2Laws.{offset-range}
 use Rattle.unit.specs.PaddedLaws.{padded-wide, padded-high, padded-is}
-use Rattle.unit.specs.DropLaws.{drops-of}
+use Rattle.unit.specs.DropLaws.{drops-of, cut-none}
 use Rattle.unit.specs.TestLaws.{no-truth, or-none}
 use Rattle.unit.specs.ValidLaws.{valid, sample-depths}
 
@@ -258,3 +260,19 @@ module _ (s : Settings) (m : List ℕ) (p : Three (List ℕ)) (out : List ℕ) (
     pub accepted : outcomeOf s m p out work .answer ≡ Accepted c → Demand3 s m p (take (c .written) (outcomeOf s m p out work .output))
     unfolding outcomeOf
     accepted a = outcome-by (eqb (refusalOf s m p work) 0) refl a
+
+  module _ (c : Coded) where
+    -- the count that an accepted call gives
+    count-if : (b : Bool) → codedIf s (planOf s m p) out work b .answer ≡ Accepted c → c .«cut_slices» ≡ cutCount (planOf s m p)
+    unfolding codedOf
+    count-if true a = no-truth (sym (ap isAccepted a))
+    count-if false a = sym (ap (λ (r : Answer). getD (tells r) 2 0) a)
+
+    count-by : (b : Bool) → outcomeIf s m p out work b .answer ≡ Accepted c → c .«cut_slices» ≡ cutCount (planOf s m p)
+    count-by true a = count-if (tooLong (length out) n) a
+    count-by false a = no-truth (sym (ap isAccepted a))
+
+    -- it is 0 just where no slice has dropped a number that is not 0
+    pub accepted-uncut : outcomeOf s m p out work .answer ≡ Accepted c → (c .«cut_slices» ≡ 0) ↔ Undropped (planOf s m p)
+    unfolding outcomeOf
+    accepted-uncut a = rw (count-by (eqb (refusalOf s m p work) 0) a) (cut-none s m p)

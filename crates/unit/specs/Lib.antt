@@ -14,6 +14,7 @@ pub mod Plan
 pub mod LowDelay
 pub mod HighQuality
 pub mod Unit
+pub mod Cut
 pub mod Outcome
 pub mod Words
 pub mod Reader
@@ -28,6 +29,7 @@ pub mod SubbandLaws
 pub mod SliceLaws
 pub mod Intlog2Laws
 pub mod LowDelayLaws
+pub mod CutLaws
 pub mod HighQualityLaws
 pub mod PaddedLaws
 pub mod TestLaws
@@ -46,3 +48,4 @@ pub mod DemandLaws
 pub mod Examples
 pub mod DepthLaws
 pub mod DepthExamples
+pub mod CutExamples

@@ -1,20 +1,19 @@
 -- The outcome of a picture call: document 01, "Answers that turn a call away".
 use mathlib.Core.Bool.{Bool, true, false, _||_}
 use mathlib.Core.List.{List, [], _∷_, _++_}
-use Prim.Native.Nat.{ℕ, suc}
+use Prim.Native.Nat.{ℕ}
 use lib.Dec.{eqb, ltb}
 use lib.IntN.{ℤ, pos}
 use lib.ListN.{length, drop, replicate}
 use Rattle.unit.specs.declared.Settings.{Settings}
-use Rattle.unit.specs.declared.PictureKind.{PictureKind}
-use Rattle.unit.specs.declared.PictureKind.the-variants.{LowDelay, HighQuality}
 use Rattle.unit.specs.declared.Coded.{Coded}
 use Rattle.unit.specs.declared.Answer.{Answer}
 use Rattle.unit.specs.declared.Answer.the-variants.{Accepted, Refused}
 use Rattle.unit.specs.Three.{Three}
 use Rattle.unit.specs.Refusal.{refusalOf}
 use Rattle.unit.specs.Parameters.{SliceParameters, lowDelay, highQuality}
-use Rattle.unit.specs.Plan.{SlicePlan, Plan}
+use Rattle.unit.specs.Plan.{Plan}
+use Rattle.unit.specs.Cut.{cutCount}
 use Rattle.unit.specs.Unit.{planOf, lengthOf, unitOf}
 
 -- document 01's number of an answer: 0 where the call is accepted
@@ -32,16 +31,6 @@ abbrev pub lengthIn : Answer → ℕ
 lengthIn (Accepted c) = c .written
 lengthIn (Refused n) = 0
 
--- how many slices carry index 127
-abbrev pub lastIndices : List SlicePlan → ℕ
-lastIndices [] = 0
-lastIndices (s ∷ ss) = elim (eqb (s .index) 127) [ true ↦ suc (lastIndices ss) | false ↦ lastIndices ss ]
-
--- document 01's cut slices: the low-delay slices that carry index 127; 0 in high quality
-unfoldable pub cutCount : PictureKind → Plan → ℕ
-cutCount LowDelay a = lastIndices (a .slices)
-cutCount HighQuality a = 0
-
 -- the final scaler; in low delay the setting's
 abbrev pub scalerIn : SliceParameters → ℕ → ℕ
 scalerIn (lowDelay n d) c = c
@@ -51,7 +40,7 @@ scalerIn (highQuality p c) d = c
 unfoldable pub codedOf : Settings → Plan → Coded
 codedOf s a = record {
   written = lengthOf s a;
-  «cut_slices» = cutCount (s .kind) a;
+  «cut_slices» = cutCount a;
   «slice_size_scaler» = scalerIn (a .parameters .sliceParameters) (s .«slice_size_scaler»);
 }
 

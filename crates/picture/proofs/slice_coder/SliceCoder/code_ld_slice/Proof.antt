@@ -3,9 +3,8 @@ use mathlib.Core.Path.{refl, ap, _∙_}
 use Prim.Native.Nat.{ℕ, _+_}
 use lib.ListN.{length}
 use Rattle.picture.specs.Picture.{SliceIn}
-use Rattle.picture.specs.Low.{isLast}
 use Rattle.picture.specs.LowRestLaws.{slice-at, known-rebuilt}
-use Rattle.picture.specs.LowSliceLaws.{last-small, slice-fits, elects}
+use Rattle.picture.specs.LowSliceLaws.{cut-small, slice-fits, elects}
 use native.Mathlib.Omega.{arith}
 use borrow.Author.Needs.{needs}
 use Rattle.picture.proofs.slice_coder.SliceCoder.code_ld_slice.Statement.{statement}
@@ -14,7 +13,6 @@ use Rattle.picture.proofs.slice_coder.SliceCoder.code_ld_slice.Reads as
 use Rattle.picture.proofs.slice_coder.SliceCoder.code_ld_slice.Lts as lts
 use Rattle.picture.proofs.low_index.elect_qindex.Reads as elect-qindex-reads
 use Rattle.picture.proofs.low_index.guess.Reads as guess-reads
-use Rattle.picture.proofs.low_index.is_last.Reads as is-last-reads
 use Rattle.picture.proofs.low_index.rebuild_planes.Reads as rebuild-planes-reads
 use Rattle.picture.proofs.low_index.room_of.Reads as room-of-reads
 use Rattle.picture.proofs.low_index.slice_bytes.Reads as slice-bytes-reads
@@ -65,13 +63,14 @@ put-ld-slice-requires c κs =
       ),
     )
 
-is-last-requires : tie.Need-is-last-requires
-is-last-requires c κs = search needs
-
-add-t25 : tie.Need-add-t25
-add-t25 c =
+add-t15 : tie.Need-add-t15
+add-t15 c =
     let st = c .before .before .before .before .before .before .before .before .before .before .before .before .before .before .before .before .before .before .before .before in
-    omega (arith, st .pre .1 .0, st .pre .1 .1 .0, st .pre .0 .arranged .slices, c .before .is-last .ensures, last-small (c .before .before .before .before .before .before .before .before .before .before .before .before .elect-qindex .result .index))
+    let a = st .args in
+    let d = c .before .before .before .before .before .before .before .before .before .before .before .before .before .before .before .before .before .slice-bytes .result in
+    let q = c .before .before .before .before .before .before .before .before .before .before .before .before .elect-qindex .result .index in
+    let v = c .before .before .before .before .before .before .before .before .rebuild-planes .last .0 in
+    omega (arith, st .pre .1 .0, st .pre .1 .1 .0, st .pre .0 .arranged .slices, c .before .before .before .before .put-ld-slice .ensures .1, cut-small v (a .p) d (a .k) q)
 
 same-length : tie.Need-same-length
 same-length c = search needs
@@ -89,8 +88,8 @@ returns c =
     let q = c .before .before .before .before .before .before .before .before .before .before .before .before .elect-qindex in
     let v = c .before .before .before .before .before .before .before .before .rebuild-planes in
     let e = elects (a .p) (a .n) (a .work .now) (a .k) (d .result) (b .result) (d .ensures .0) (b .ensures .0) (r .result) (q .result .index) (r .ensures .0) (q .ensures .0) (q .ensures .1 .1 .0) (v .ensures .0) in
-    let z = c .before .is-last .ensures ∙ ap (λ (x : ℕ). isLast x) (e .index) in
-    (rw (e .bits) at (c .before .before .before .before .put-ld-slice .ensures), (e .work, (v .ensures .1, (ap (λ (x : ℕ). a .self .«cut_slices» + x) z, refl))))
+    let z = c .before .before .before .before .put-ld-slice in
+    (rw (e .bits) at (z .ensures .0), (e .work, (v .ensures .1, (ap (λ (x : ℕ). a .self .«cut_slices» + x) (z .ensures .1 ∙ e .cut), refl))))
 
 pub code-ld-slice-spec : {M : Type 1} → statement M
 code-ld-slice-spec =
@@ -104,8 +103,7 @@ code-ld-slice-spec =
     elect-qindex-requires
     rebuild-planes-requires
     put-ld-slice-requires
-    is-last-requires
-    add-t25
+    add-t15
     same-length
     same-length-2
     returns)
