@@ -7,6 +7,9 @@ mod scene;
 #[path = "../../oracle/src/call.rs"]
 mod call;
 #[allow(dead_code)]
+#[path = "../../oracle/src/cut.rs"]
+mod cut;
+#[allow(dead_code)]
 #[path = "../../oracle/src/jobs.rs"]
 mod jobs;
 #[allow(dead_code)]

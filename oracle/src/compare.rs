@@ -11,6 +11,7 @@ mod wide;
 // Parts of the oracle, of which not all is used here.
 #[allow(dead_code)]
 mod cases;
+mod cut;
 mod deep;
 #[allow(dead_code)]
 mod edges;
@@ -29,6 +30,7 @@ use call::Call;
 use edges::Wanted;
 use entries::Entries;
 use jobs::{OUTPUT, WORK};
+use named::Named;
 use picture::{Outcome, Rate};
 use random::Random;
 use std::collections::BTreeMap;
@@ -56,13 +58,14 @@ const SHOWN: u64 = 20;
 const MANY_EVERY: u64 = 1_000;
 /// Calls with more slices than this are not made again with other lengths of the lent slices.
 const MANY_SLICES: u64 = 500;
-/// Job n also goes to the job program where n divided by this leaves 0 or `DEEP_AT`, and so do all
-/// malformed ones.
+/// Job n also goes to the job program where n divided by this leaves 0, `DEEP_AT` or `LAST_AT`, and
+/// so do all malformed ones.
 const JOB_EVERY: u64 = 20;
-/// Job n is one of `deep` where n divided by the first leaves the second, and no edge has its first
-/// turn.
-const DEEP_EVERY: u64 = 10;
+/// Job n is one of `deep` where n divided by the first leaves the second, and one around the last
+/// index of low delay where it leaves the third, unless an edge has its first turn.
+const TURNS: u64 = 10;
 const DEEP_AT: u64 = 4;
+const LAST_AT: u64 = 8;
 
 struct Run {
     folder: PathBuf,
@@ -73,7 +76,7 @@ struct Run {
     /// Lossless pictures whose samples were read back, by the sum of the depths.
     read_back: BTreeMap<u64, u64>,
     port: Duration,
-    rust: Duration,
+    oracle: Duration,
 }
 
 impl Run {
@@ -134,7 +137,7 @@ impl Run {
     fn expected(&mut self, name: &str, call: &Call) -> Option<Outcome> {
         let begin = Instant::now();
         let expected = call.expected();
-        self.rust += begin.elapsed();
+        self.oracle += begin.elapsed();
         match expected {
             Ok(outcome) => Some(outcome),
             Err(message) => {
@@ -185,10 +188,31 @@ impl Run {
                 let what = format!("the oracle says {}, not {}", outcome.answer, case.answer);
                 self.differs(&case.name, &what);
             }
+            if let Some(wanted) = case.cut {
+                self.cut_slices(case, &outcome, wanted);
+            }
             self.picture(&case.name, &case.call, &outcome);
         }
         println!("named cases: {}, answers {}", cases.len(), tally::listed(&answers));
         println!("  not run: {}", named::NOT_RUN);
+    }
+
+    /// A case that is about slices of index 127 and cut slices, which goes to the job program too.
+    fn cut_slices(&mut self, case: &Named, outcome: &Outcome, wanted: [u64; 2]) {
+        let s = case.call.settings().expect("the words are settings");
+        let read = unit::read(&outcome.unit, s.version_3()).expect("the unit was read before");
+        let last = read.slices.iter().filter(|slice| slice.index == 127).count() as u64;
+        if [last, outcome.cut] != wanted {
+            let what = format!("{last} of index 127, {} cut, not {wanted:?}", outcome.cut);
+            self.differs(&case.name, &what);
+        }
+        let bytes = case.call.job().expect("the call is a job's");
+        match jobs::answer(&bytes) {
+            Ok(answered) => self.job(&case.name, &bytes, &answered.text),
+            Err(message) => {
+                self.differs(&case.name, &message);
+            }
+        }
     }
 
     /// Jobs that only the job program is tried with.
@@ -213,7 +237,7 @@ impl Run {
         for n in 0..wide::LARGE {
             let rng = &mut sequence(seed, n as u64);
             let (what, mut call) = wide::large(rng, n);
-            let [rust, port] = [self.rust, self.port];
+            let [oracle, port] = [self.oracle, self.port];
             call.output = 1 << 28;
             let Some(outcome) = self.expected(&what, &call) else { continue };
             call.output = outcome.unit.len() + 1_000;
@@ -222,13 +246,13 @@ impl Run {
             let (short, refused) = call.with_room(&outcome, call.work - 1, call.output);
             self.call(&what, &short, &refused);
             println!(
-                "  {what}: answer {}, {} bytes, {} cut, scaler {}, {:.1} s, Rust {:.1} s{}",
+                "  {what}: answer {}, {} bytes, {} cut, scaler {}, {:.1} s, oracle {:.1} s{}",
                 outcome.answer,
                 outcome.unit.len(),
                 outcome.cut,
                 outcome.scaler,
                 (self.port - port).as_secs_f64(),
-                (self.rust - rust).as_secs_f64(),
+                (self.oracle - oracle).as_secs_f64(),
                 if self.differ == before { "" } else { ", DIFFERS" }
             );
         }
@@ -269,17 +293,17 @@ impl Run {
         let name = format!("job {n}");
         // While each edge has its first turn, jobs may be slow; later another one stands in.
         let first_turn = (n as usize) < 4 * edges::count();
-        let (mut bytes, mut wanted) = if !first_turn && n % DEEP_EVERY == DEEP_AT {
-            deep::nth(rng, (n / DEEP_EVERY) as usize)
-        } else {
-            generate::nth(rng, n as usize / 2)
+        let (mut bytes, mut wanted) = match n % TURNS {
+            DEEP_AT if !first_turn => deep::nth(rng, (n / TURNS) as usize),
+            LAST_AT if !first_turn => generate::around_last_index(rng, 0),
+            _ => generate::nth(rng, n as usize / 2),
         };
         while !first_turn && jobs::is_slow(&bytes) {
             (bytes, wanted) = generate::nth(rng, 1);
         }
         let begin = Instant::now();
         let answered = jobs::answer(&bytes);
-        self.rust += begin.elapsed();
+        self.oracle += begin.elapsed();
         let answered = match answered {
             Ok(answered) => answered,
             Err(message) => {
@@ -302,7 +326,7 @@ impl Run {
                 tally.add(&job.settings(), &job.planes, outcome);
             }
         }
-        let turn = n % JOB_EVERY == 0 || n % JOB_EVERY == DEEP_AT;
+        let turn = [0, DEEP_AT, LAST_AT].contains(&(n % JOB_EVERY));
         if answer.is_none() || first_turn && wanted != Wanted::Any || turn {
             self.job(&name, &bytes, &answered.text);
         }
@@ -371,7 +395,7 @@ fn run(seed: u64, count: u64, folder: &str, job: Option<&str>) -> Done {
         job_runs: 0,
         read_back: BTreeMap::new(),
         port: Duration::ZERO,
-        rust: Duration::ZERO,
+        oracle: Duration::ZERO,
     };
     let rng = &mut Random::new(seed);
     run.entries("code lengths", entries::code_lengths(rng, 200_000));
@@ -390,10 +414,10 @@ fn run(seed: u64, count: u64, folder: &str, job: Option<&str>) -> Done {
     println!("lossless pictures read back, by the sum of the depths: {}", read_back.join(", "));
     println!("picture calls: {}", run.calls);
     println!(
-        "seconds: {:.0}, of these {:.0} in the port and {:.0} in the Rust",
+        "seconds: {:.0}, of these {:.0} in the port and {:.0} in the oracle",
         begin.elapsed().as_secs_f64(),
         run.port.as_secs_f64(),
-        run.rust.as_secs_f64()
+        run.oracle.as_secs_f64()
     );
     println!("{} differ", run.differ);
     Ok(run.differ == 0)
@@ -401,7 +425,8 @@ fn run(seed: u64, count: u64, folder: &str, job: Option<&str>) -> Done {
 
 fn list_cases(seed: u64) -> Done {
     for case in named::all(seed) {
-        println!("{:>3}  {}", case.answer, case.name);
+        let cut = case.cut.map(|[last, cut]| format!(": {last} of index 127, {cut} cut"));
+        println!("{:>3}  {}{}", case.answer, case.name, cut.unwrap_or_default());
     }
     Ok(true)
 }

@@ -4,6 +4,7 @@ use crate::edges::{self, Wanted};
 use crate::jobs::*;
 use crate::picture::Settings;
 use crate::random::Random;
+use crate::unit;
 
 /// The `n`-th job of a run. Edge jobs and random ones take turns until each edge has had one;
 /// from then on every sixth job is an edge again.
@@ -278,25 +279,42 @@ fn kept_zeros(rng: &mut Random) -> Job {
     job
 }
 
-/// Low delay whose single slice fits at index 127 and hardly below: the matrix puts there the
-/// index that a matrix of zeros elects.
+/// Low delay of a single slice, with a matrix by which its index is mostly 127: see
+/// `put_at_last_index`.
 fn fit_at_last_index(rng: &mut Random) -> Job {
     let mut job = general_of(rng, 0);
-    (job.settings[ACROSS], job.settings[DOWN], job.settings[CUSTOM]) = (1, 1, 1);
+    (job.settings[ACROSS], job.settings[DOWN]) = (1, 1);
+    put_at_last_index(&mut job, |_| 0);
+    job
+}
+
+/// Low delay with a matrix by which the index of one slice, at random, is mostly 127: see
+/// `put_at_last_index`. Others fit below, there, or not at all.
+pub fn around_last_index(rng: &mut Random, _: usize) -> (Vec<u8>, Wanted) {
+    let mut job = general_of(rng, 0);
+    put_at_last_index(&mut job, |slices| rng.below(slices as u64) as usize);
+    (job.bytes(), Wanted::Any)
+}
+
+/// Gives a job another matrix: a slice of index 127 has in each band the index that one slice has
+/// with a matrix of zeros. `pick` gives that slice's number, by the count of slices.
+fn put_at_last_index(job: &mut Job, pick: impl FnOnce(usize) -> usize) {
+    job.settings[CUSTOM] = 1;
     let count = job.settings().matrix_count() as usize;
     job.matrix = vec![0; count];
     let numerator = job.numerator();
     let elected = match job.encode(WORK, OUTPUT) {
         Ok(outcome) if outcome.answer == 0 => {
-            outcome.unit[outcome.unit.len() - numerator as usize] >> 1
+            let read = unit::read(&outcome.unit, job.settings().version_3());
+            let slices = read.expect("the unit was read before").slices;
+            slices[pick(slices.len())].index
         }
-        _ => return job,
+        _ => return,
     };
     job.matrix = vec![127 - elected as u32; count];
     while job.numerator() < numerator {
         job.settings[RATE_NUMBER] += 1;
     }
-    job
 }
 
 /// High quality with a component too long for its byte at the set scaler.

@@ -1,6 +1,7 @@
 //! Answers from the Rust encoder, for comparison with the port.
 
 mod cases;
+mod cut;
 mod deep;
 mod edges;
 mod generate;
@@ -23,12 +24,13 @@ use std::process::ExitCode;
 use tally::Tally;
 
 const USAGE: &str = "usage:
-  oracle record SEED words|quantiser|rows|dwts|jobs|deep [COUNT]
+  oracle record SEED words|quantiser|rows|dwts|jobs|deep|last [COUNT]
       prints recorded cases: edges and random ones, COUNT in all
   oracle job
       reads a job and prints what the job program prints for it
   oracle jobs SEED COUNT DIR
   oracle deep SEED COUNT DIR
+  oracle last SEED COUNT DIR
       writes DIR/0001.job and DIR/0001.out and so on
   oracle case uint_code_len V | sint_code_len V | quant_factor INDEX | quant_offset INDEX
   oracle case forward_quant COEFFICIENT INDEX | inverse_quant NUMBER INDEX
@@ -52,9 +54,12 @@ fn record(seed: u64, what: &str, count: Option<u64>) -> Done {
         "quantiser" => cases::quantiser(&mut rec, rng, count.unwrap_or(6_600))?,
         "rows" => cases::rows(&mut rec, rng, count.unwrap_or(2_400))?,
         "dwts" => cases::dwts(&mut rec, rng, count.unwrap_or(400))?,
-        "jobs" | "deep" => {
-            let (make, usual): (Make, _) =
-                if what == "jobs" { (generate::nth, 480) } else { (deep::nth, 60) };
+        "jobs" | "deep" | "last" => {
+            let (make, usual): (Make, _) = match what {
+                "jobs" => (generate::nth, 480),
+                "deep" => (deep::nth, 60),
+                _ => (generate::around_last_index, 40),
+            };
             each_job(rng, count.unwrap_or(usual), false, make, |_, bytes, answered| {
                 let text = answered.text.as_bytes();
                 let mut payload = vec![bytes.len() as u64];
@@ -141,6 +146,9 @@ fn run(args: &[&str]) -> Done {
         ["job"] => answer_job(),
         ["jobs", seed, count, dir] => write_jobs(number(seed)?, number(count)?, dir, generate::nth),
         ["deep", seed, count, dir] => write_jobs(number(seed)?, number(count)?, dir, deep::nth),
+        ["last", seed, count, dir] => {
+            write_jobs(number(seed)?, number(count)?, dir, generate::around_last_index)
+        }
         ["case", name, ref args @ ..] => single_case(name, args),
         _ => Err(USAGE.into()),
     }

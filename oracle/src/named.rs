@@ -11,6 +11,8 @@ pub struct Named {
     pub name: String,
     pub call: Call,
     pub answer: u32,
+    /// How many slices have index 127, and how many are cut, where the case is about that.
+    pub cut: Option<[u64; 2]>,
 }
 
 /// What no case tries.
@@ -70,6 +72,7 @@ pub fn all(seed: u64) -> Vec<Named> {
     cases.planes();
     cases.in_room(1 << 20, Cases::work);
     cases.output();
+    cases.cut_slices();
     cases.numbers();
     cases.order();
     cases.list
@@ -118,7 +121,7 @@ impl Cases {
     }
 
     fn add(&mut self, name: String, call: Call, answer: u32) {
-        self.list.push(Named { name, call, answer });
+        self.list.push(Named { name, call, answer, cut: None });
     }
 
     fn settings(&mut self, change: Change, answer: u32) {
@@ -647,6 +650,59 @@ impl Cases {
             let name = format!("a unit of {bytes} bytes and its head, scaler {scaler}");
             self.add(name, call_of(&job, self.room), 14);
         }
+    }
+
+    /// One row of samples, matrix values of 126: at index 127 a difference of 1 becomes 0, a larger
+    /// one does not.
+    fn cut_slices(&mut self) {
+        type Row<'a> = [&'a [u32]; 3];
+        let grey: &[u32] = &[128];
+        let two: Row = [&[130, 131], &[131, 131], &[128, 131]];
+        let ramp: Row = [&[129, 130, 131, 132], &[128; 4], &[128; 4]];
+        // Slices across, target, samples, slices of index 127, cut slices.
+        let rows: [(&str, u32, u32, Row, [u64; 2]); 13] = [
+            ("grey", 1, 0, [grey, grey, grey], [0, 0]),
+            ("luma fits", 1, 0, [&[129], grey, grey], [1, 0]),
+            ("luma does not, with the same unit", 1, 0, [&[131], grey, grey], [1, 1]),
+            ("the first colour fits", 1, 0, [grey, &[127], grey], [1, 0]),
+            ("the first colour does not", 1, 0, [grey, &[125], grey], [1, 1]),
+            ("the second colour fits", 1, 0, [grey, grey, &[129]], [1, 0]),
+            ("the second colour does not", 1, 0, [grey, grey, &[131]], [1, 1]),
+            ("a luma 0 is written", 1, 23, [&[128, 228], &[128, 128], &[128, 128]], [1, 1]),
+            ("a ramp, two slices fit", 2, 25, ramp, [2, 0]),
+            ("a ramp, two slices do not", 2, 23, ramp, [2, 2]),
+            ("two slices of one byte", 2, 22, two, [2, 2]),
+            ("two slices of two bytes, the colours of one lost", 2, 25, two, [2, 1]),
+            ("two slices of three bytes", 2, 27, two, [0, 0]),
+        ];
+        for (name, across, target, planes, cut) in rows {
+            let mut job = edges::example();
+            job.settings[KIND] = 0;
+            (job.settings[RATE], job.settings[RATE_NUMBER]) = (2, target);
+            (job.settings[ACROSS], job.settings[WIDTH]) = (across, planes[0].len() as u32);
+            job.settings[CUSTOM] = 1;
+            job.matrix = vec![126];
+            job.planes = planes.map(|plane| plane.to_vec());
+            self.add_cut(name, &job, cut);
+            (job.settings[KIND], job.settings[RATE], job.settings[RATE_NUMBER]) = (1, 1, 127);
+            self.add_cut(&format!("samples of \"{name}\", high quality"), &job, [across as u64, 0]);
+        }
+        // A longer ramp, two levels, eight slices of index 127.
+        let mut job = edges::example();
+        (job.settings[KIND], job.settings[RATE]) = (0, 2);
+        (job.settings[ACROSS], job.settings[WIDTH], job.settings[DEPTH]) = (8, 32, 2);
+        job.settings[CUSTOM] = 1;
+        job.matrix = vec![126; 7];
+        job.planes = [(0..32).map(|x| 112 + x / 2).collect(), vec![128; 32], vec![128; 32]];
+        for (target, cut) in [(64, 0), (56, 2), (48, 8)] {
+            job.settings[RATE_NUMBER] = target;
+            self.add_cut(&format!("a ramp in eight slices, target {target}"), &job, [8, cut]);
+        }
+    }
+
+    fn add_cut(&mut self, name: &str, job: &Job, cut: [u64; 2]) {
+        let (name, call) = (format!("cut slices: {name}"), Call::of(job, WORK, OUTPUT));
+        self.list.push(Named { name, call, answer: 0, cut: Some(cut) });
     }
 
     fn numbers(&mut self) {

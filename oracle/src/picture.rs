@@ -1,6 +1,8 @@
-//! One picture: document 01's refusals in their order, the unit from the Rust, and the numbers
-//! of the answer, read off that unit.
+//! One picture: document 01's refusals in their order, the unit from the Rust, and the numbers of
+//! the answer: the unit's length, its cut slices, which `cut` counts, and the scaler, which in high
+//! quality is read off the unit.
 
+use crate::cut;
 use crate::unit::{self, Unit};
 use vc2::encoder::{EncoderConfig, PictureInput, RateControl, SequenceEncoder};
 use vc2::params::ColorDiffFormat;
@@ -257,24 +259,24 @@ pub fn encode(
     if least > output_len.max(RUN_LIMIT) {
         return refused(14);
     }
-    let bytes = from_rust(s, matrix, planes).map_err(|e| format!("the Rust refuses: {e:?}"))?;
+    let message = |e| format!("the Rust refuses: {e:?}");
+    let mut encoder = encoder(s, matrix).map_err(message)?;
+    encoder.continue_sequence(s.picture_number, s.previous_length);
+    let input = PictureInput::new(planes[0], planes[1], planes[2]);
+    let bytes = encoder.encode_picture(&input).map_err(message)?;
     let read = unit::read(&bytes, s.version_3())?;
     check(s, matrix, &bytes, &read)?;
     if bytes.len() as u64 > output_len {
         return refused(14);
     }
-    let (cut, scaler) = match s.kind {
-        Kind::LowDelay => (read.slices.iter().filter(|x| x.index == 127).count(), s.scaler as u64),
-        Kind::HighQuality => (0, read.pair[1]),
+    let indices: Vec<u64> = read.slices.iter().map(|slice| slice.index as u64).collect();
+    let quantised = encoder.quantised(&input, &indices).map_err(message)?;
+    let cut = cut::count(&bytes, &read, &quantised)?;
+    let scaler = match s.kind {
+        Kind::LowDelay => s.scaler as u64,
+        Kind::HighQuality => read.pair[1],
     };
-    Ok(Outcome { answer: 0, unit: bytes, cut: cut as u64, scaler })
-}
-
-/// The unit as the Rust writes it.
-fn from_rust(s: &Settings, matrix: &[u32], planes: &[&[u16]; 3]) -> vc2::Result<Vec<u8>> {
-    let mut encoder = encoder(s, matrix)?;
-    encoder.continue_sequence(s.picture_number, s.previous_length);
-    encoder.encode_picture(&PictureInput::new(planes[0], planes[1], planes[2]))
+    Ok(Outcome { answer: 0, unit: bytes, cut, scaler })
 }
 
 /// The Rust's encoder for these settings.

@@ -2,7 +2,7 @@
 //! wavelets 1, 3 and 4. It takes nothing from the Rust encoder or the port.
 
 use crate::picture::{Settings, Size};
-use crate::unit::{Bits, Unit};
+use crate::unit::{Block, Unit};
 
 /// A band or a plane, row by row.
 #[derive(Clone)]
@@ -22,22 +22,14 @@ impl Plane {
 pub fn samples(bytes: &[u8], unit: &Unit, s: &Settings) -> Result<[Vec<i64>; 3], String> {
     let [luma, colour] = s.sizes();
     let mut bands = [luma, colour, colour].map(|size| empty_bands(unit, s.padded(size)));
-    let slices: usize = unit.slices.iter().map(|slice| slice.length).sum();
-    let mut bits = Bits { bytes, at: 8 * (bytes.len() - slices) };
-    for down in 0..unit.down as usize {
-        for across in 0..unit.across as usize {
-            bits.bytes(unit.pair[0])?;
-            if bits.literal(8)? != 0 {
-                return Err("a lossless unit has an index above 0".into());
-            }
-            for component in &mut bands {
-                let count = bits.literal(8)? * unit.pair[1];
-                let start = bits.bytes(count)?;
-                let block = &bytes[start..start + count as usize];
-                let mut block = Bits { bytes: block, at: 0 };
-                for band in component.iter_mut() {
-                    slice_of(band, unit, [across, down], &mut block);
-                }
+    for (k, slice) in unit.slices.iter().enumerate() {
+        if slice.index != 0 {
+            return Err("a lossless unit has an index above 0".into());
+        }
+        for (component, block) in bands.iter_mut().zip(&slice.blocks) {
+            let mut block = Block::new(bytes, block);
+            for band in component.iter_mut() {
+                slice_of(band, unit, k, &mut block);
             }
         }
     }
@@ -69,24 +61,14 @@ fn empty_bands(unit: &Unit, padded: Size) -> Vec<Plane> {
 }
 
 /// 13.5.6: the numbers of one slice in one band.
-fn slice_of(band: &mut Plane, unit: &Unit, [across, down]: [usize; 2], block: &mut Bits) {
+fn slice_of(band: &mut Plane, unit: &Unit, k: usize, block: &mut Block) {
     let [columns, rows] = [unit.across as usize, unit.down as usize];
+    let [across, down] = [k % columns, k / columns];
     for y in band.height * down / rows..band.height * (down + 1) / rows {
         for x in band.width * across / columns..band.width * (across + 1) / columns {
-            band.numbers[y * band.width + x] = bounded_signed(block);
+            band.numbers[y * band.width + x] = block.signed();
         }
     }
-}
-
-/// A.4.4: a signed number of a block, behind whose end all bits are 1.
-fn bounded_signed(block: &mut Bits) -> i64 {
-    let mut bit = || block.bit().unwrap_or(1);
-    let mut v: u64 = 1;
-    while bit() == 0 {
-        v = 2 * v + bit();
-    }
-    let size = (v - 1) as i64;
-    if size != 0 && bit() == 1 { -size } else { size }
 }
 
 /// 15.4.1: the plane that the bands are of.

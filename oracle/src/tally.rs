@@ -100,6 +100,11 @@ impl Tally {
         ] {
             self.count(what, holds as u64);
         }
+        let last = read.slices.iter().filter(|x| low_delay && x.index == 127).count() as u64;
+        // No other slice is cut: `cut::count` answers with an error.
+        let fit = last - outcome.cut;
+        self.count("low delay, pictures with slices of index 127 that fit", (fit != 0) as u64);
+        self.count("low delay, slices of index 127 that fit", fit);
         self.count("slices", read.slices.len() as u64);
         self.count("cut slices", outcome.cut);
         let kept_zeros = read.slices.iter().filter(|x| x.luma_ends_in_zero).count();

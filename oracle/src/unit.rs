@@ -1,4 +1,7 @@
-//! A small reader of picture units: the head's fields, and for each slice its place and index.
+//! A small reader of picture units: the head's fields, and for each slice its length, its index and
+//! its blocks of numbers.
+
+use std::ops::Range;
 
 pub struct Unit {
     pub code: u8,
@@ -20,8 +23,44 @@ pub struct Unit {
 pub struct Slice {
     pub length: usize,
     pub index: u8,
+    /// The unit's bits that are of luma and of the colours together in low delay, of each component
+    /// in high quality.
+    pub blocks: Vec<Range<usize>>,
     /// Low delay: the luma run is not empty and its last number is 0, as only a cut leaves it.
     pub luma_ends_in_zero: bool,
+}
+
+impl Unit {
+    pub fn is_low_delay(&self) -> bool {
+        self.code == 0xC8
+    }
+}
+
+/// A bounded block: A.4.2.
+pub struct Block<'a> {
+    bits: Bits<'a>,
+    end: usize,
+}
+
+impl<'a> Block<'a> {
+    pub fn new(bytes: &'a [u8], bits: &Range<usize>) -> Block<'a> {
+        Block { bits: Bits { bytes, at: bits.start }, end: bits.end }
+    }
+
+    /// Behind the end all bits are 1.
+    fn bit(&mut self) -> u64 {
+        if self.bits.at < self.end { self.bits.bit().expect("the block is in the unit") } else { 1 }
+    }
+
+    /// A.4.4: a signed number.
+    pub fn signed(&mut self) -> i64 {
+        let mut v: u64 = 1;
+        while self.bit() == 0 {
+            v = 2 * v + self.bit();
+        }
+        let size = (v - 1) as i64;
+        if size != 0 && self.bit() == 1 { -size } else { size }
+    }
 }
 
 /// Least m where 2^m is at least `n`; `n` is at least 1.
@@ -29,20 +68,20 @@ pub fn bits_for(n: u64) -> u32 {
     64 - (n - 1).leading_zeros()
 }
 
-pub struct Bits<'a> {
-    pub bytes: &'a [u8],
-    pub at: usize,
+struct Bits<'a> {
+    bytes: &'a [u8],
+    at: usize,
 }
 
 impl Bits<'_> {
-    pub fn bit(&mut self) -> Result<u64, String> {
+    fn bit(&mut self) -> Result<u64, String> {
         let byte = *self.bytes.get(self.at / 8).ok_or("unit: ends inside a field")?;
         let bit = byte >> (7 - self.at % 8) & 1;
         self.at += 1;
         Ok(bit as u64)
     }
 
-    pub fn literal(&mut self, bits: u32) -> Result<u64, String> {
+    fn literal(&mut self, bits: u32) -> Result<u64, String> {
         (0..bits).try_fold(0, |v, _| Ok(2 * v + self.bit()?))
     }
 
@@ -58,7 +97,7 @@ impl Bits<'_> {
     }
 
     /// Takes `count` bytes from the next whole byte on, and gives the first one's place.
-    pub fn bytes(&mut self, count: u64) -> Result<usize, String> {
+    fn bytes(&mut self, count: u64) -> Result<usize, String> {
         let start = self.at.div_ceil(8);
         if count > (self.bytes.len() - start) as u64 {
             return Err("unit: ends inside a slice".into());
@@ -149,15 +188,19 @@ fn low_delay_slice(bits: &mut Bits, length: u64) -> Result<Slice, String> {
     if inside.at > end {
         return Err("unit: luma length inside a number".into());
     }
-    Ok(Slice { length: length as usize, index, luma_ends_in_zero: last == 0 })
+    let [luma, colours] = [8 * start + end - luma_bits as usize, 8 * start + end];
+    let blocks = vec![luma..colours, colours..8 * (start + slice.len())];
+    Ok(Slice { length: length as usize, index, blocks, luma_ends_in_zero: last == 0 })
 }
 
 fn high_quality_slice(bits: &mut Bits, [prefix, scaler]: [u64; 2]) -> Result<Slice, String> {
     let start = bits.bytes(prefix)?;
     let index = bits.literal(8)? as u8;
+    let mut blocks = Vec::new();
     for _ in 0..3 {
-        let count = bits.literal(8)?;
-        bits.bytes(count * scaler)?;
+        let count = bits.literal(8)? * scaler;
+        let block = 8 * bits.bytes(count)?;
+        blocks.push(block..block + 8 * count as usize);
     }
-    Ok(Slice { length: bits.at / 8 - start, index, luma_ends_in_zero: false })
+    Ok(Slice { length: bits.at / 8 - start, index, blocks, luma_ends_in_zero: false })
 }
