@@ -13,7 +13,7 @@ use lib.Seq.{take-take, take-all, append-snoc}
 use Rattle.codewords.specs.Code.{codeS, codes}
 use Rattle.codewords.specs.CodeLaws.{codes-more, length-codeS-zero, length-codeS}
 use Rattle.unit.specs.Trim.{isZero, trimCons, trimmed, bitsOf, trimmedCost, fitPrefix}
-use Rattle.unit.specs.TrimLaws.{Small, bits-most, fit-prefix}
+use Rattle.unit.specs.TrimLaws.{Small, bits-most, fit-all, fit-prefix}
 use Rattle.picture.specs.declared.cost.Cost.{Cost}
 use Rattle.picture.specs.Cost.{fitted, kept, addLen, add1, added, addAll, noCost, Countable, Kept}
 use Rattle.picture.specs.AddedLaws.{added-one}
@@ -105,15 +105,6 @@ trimmed-last (x ∷ xs) (negsuc n) = ap (trimCons x) (trimmed-last xs (negsuc n)
 
 abbrev fitCons : Bool → ℤ → List ℤ → List ℤ
 fitCons b x ys = elim b [ true ↦ x ∷ ys | false ↦ [] ]
-
--- a run that fits
-pub fit-all : (xs : List ℤ) (n : ℕ) → bitsOf xs ≤ n → fitPrefix xs n ≡ xs
-unfolding fitPrefix codes
-fit-all [] n h = refl
-fit-all (x ∷ xs) n h =
-    let l = length-append (codeS x) (codes xs) in
-    ap (λ (b : Bool). fitCons b x (fitPrefix xs (n - length (codeS x)))) (le-leb (length (codeS x)) n (omega arith))
-    ∙ ap (λ (r : List ℤ). x ∷ r) (fit-all xs (n - length (codeS x)) (omega arith))
 
 -- a run of which the last number does not fit
 fit-short : (xs : List ℤ) (z : ℤ) (n : ℕ) → n < bitsOf (xs ++ (z ∷ [])) → fitPrefix (xs ++ (z ∷ [])) n ≡ fitPrefix xs n

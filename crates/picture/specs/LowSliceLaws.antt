@@ -174,6 +174,20 @@ module _ (v : List ℤ) (p : Picture) (n k q : ℕ) where
       (sym (g .luma)) (sym (g .colour))
       ∙ parts-of n q m room (u .luma) (u .colour) (r .«luma_bits») (r .«colour_bits») em er (g .luma-bits) (g .colour-bits)
 
+-- ---- whether a slice is cut
+bit-small : (b : Bool) → cond b 0 1 ≤ 1
+bit-small true = omega arith
+bit-small false = omega arith
+
+module _ (v : List ℤ) (p : Picture) (n k q : ℕ) where
+  cut-small : lowCutBy v p n k q ≤ 1
+  unfolding lowCutBy
+  cut-small = bit-small (leb (trimmedCost (lumaIn v p k q) + trimmedCost (colourIn v p k q)) (roomOf n))
+
+  cut-is : (room cut : ℕ) → room ≡ roomOf n → cut ≡ cutBy room (lumaIn v p k q) (colourIn v p k q) → cut ≡ lowCutBy v p n k q
+  unfolding lowCutBy
+  cut-is room cut er e = e ∙ ap (λ (x : ℕ). cutBy x (lumaIn v p k q) (colourIn v p k q)) er
+
 -- a slice that is written part by part
 module _
     (o : List ℕ) (i : ℕ) (v : List ℤ) (p : Picture) (n k q room m : ℕ) (r : code.Kept)
@@ -185,9 +199,8 @@ module _
   long : length (lit 7 q ++ (lit m (r .«luma_bits») ++ (runBits v p k q r ++ oneBits left))) ≡ 8 * n
   long = ap length (slice-parts v p n k q room m r er em h) ∙ slice-long v p n k q some
 
-  pub slice-cut : r .cut ≡ lowCutBy v p n k q
-  unfolding lowCutBy
-  slice-cut = h .cut ∙ ap (λ (x : ℕ). cutBy x (lumaIn v p k q) (colourIn v p k q)) er
+  slice-cut : (r .cut ≡ lowCutBy v p n k q) × (r .cut ≤ 1)
+  slice-cut = let e = cut-is v p n k q room (r .cut) er (h .cut) in (e, omega (arith, cut-small v p n k q))
 
   module _ {o₁ : List ℕ} {w₁ : BitWriter} (a : Wrote o (startAt i) (lit 7 q) o₁ w₁) where
     pub length-room : Room o₁ w₁ m
@@ -209,20 +222,15 @@ module _
           pub flush-room : Room o₄ w₄ 0
           flush-room = room-after 0 ones-room d (omega (arith, length-replicate left true))
 
-          pub slice-laid : {o₅ : List ℕ} {w₅ : BitWriter} → Flushes o₄ w₄ o₅ w₅ → Lays o i (toBytes (lowBitsBy v p n k q)) o₅ (w₅ .at)
-          slice-laid f =
-              rw (← slice-parts v p n k q room m r er em h)
-              (parts-laid i n (lit 7 q) (lit m (r .«luma_bits»)) (runBits v p k q r) (oneBits left) long fits a b c d f)
+          -- the slice is laid, and it is known whether it is cut
+          pub slice-laid : {o₅ : List ℕ} {w₅ : BitWriter} → Flushes o₄ w₄ o₅ w₅ → Lays o i (toBytes (lowBitsBy v p n k q)) o₅ (w₅ .at) × ((r .cut ≡ lowCutBy v p n k q) × (r .cut ≤ 1))
+          slice-laid f = (
+            rw (← slice-parts v p n k q room m r er em h)
+                (parts-laid i n (lit 7 q) (lit m (r .«luma_bits»)) (runBits v p k q r) (oneBits left) long fits a b c d f),
+            slice-cut,
+          )
 
 -- ---- a slice's index, and the work slice behind it
-bit-small : (b : Bool) → cond b 0 1 ≤ 1
-bit-small true = omega arith
-bit-small false = omega arith
-
-pub cut-small : (v : List ℤ) (p : Picture) (n k q : ℕ) → lowCutBy v p n k q ≤ 1
-unfolding lowCutBy
-cut-small v p n k q = bit-small (leb (trimmedCost (lumaIn v p k q) + trimmedCost (colourIn v p k q)) (roomOf n))
-
 -- slice k of w was coded at index q, which gave v
 pub record Elects (p : Picture) (n : ℕ) (w : List ℤ) (k bytes q : ℕ) (v : List ℤ) : Type 0 where
   pub index : q ≡ lowIndexIn p n w k

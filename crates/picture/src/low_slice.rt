@@ -171,7 +171,7 @@ pub(crate) fn put_ld_slice(
 ) -> CodedSlice
     requires { ⌜ SliceIn p (now work) k q × (((1 ≤ n) × (n ≤ 2 ^ 30)) × ((at + n ≤ length (now out)) × (Known (now work) p k rest × (v ≡ windowsOf p k)))) ⌝ }
     ensures { λ r. ⌜ Lays (now (out .entry)) at (toBytes (lowBitsBy (now (work .entry)) p n k q)) (now (out .exit)) (r .at)
-        × (r .cut ≡ lowCutBy (now (work .entry)) p n k q) ⌝ }
+        × ((r .cut ≡ lowCutBy (now (work .entry)) p n k q) × (r .cut ≤ 1)) ⌝ }
 {
     let room = crate::low_index::room_of(n);
     let r = kept_runs(

@@ -5,7 +5,7 @@ use mathlib.Core.List.{List, [], _∷_}
 use Prim.Native.Nat.{ℕ, zero, suc, _+_, _-_, _≤_, _<_}
 use native.Mathlib.Omega.{arith}
 use native.Mathlib.Decide.{decLe}
-use borrow.Author.Tests.{leb-true, leb-false, le-leb}
+use borrow.Author.Tests.{leb-true, leb-false}
 use lib.Dec.{leb}
 use lib.IntN.{ℤ, pos, negsuc}
 use lib.ListN.{length, length-append}
@@ -17,6 +17,7 @@ use Rattle.unit.specs.Trim.{isZero, trimCons, trimmed, bitsOf, trimmedCo
 use Rattle.unit.specs.Plan.{SlicePlan}
 use Rattle.unit.specs.LowDelay.{roomOf, alternated, evens, odds, keptRuns, lowPlanOf}
 use Rattle.unit.specs.Cut.{anyLost, isCut}
+use Rattle.unit.specs.TrimLaws.{fit-all}
 use Rattle.unit.specs.LowDelayLaws.{low-whole}
 use Rattle.unit.specs.SliceLaws.{length-alternated}
 use Rattle.unit.specs.TestLaws.{no-truth}
@@ -78,14 +79,6 @@ cut-lost (x ∷ xs) n h = by x (trimmed xs) h (zeros-lost xs) (cut-lost xs)
     by (pos (suc k)) [] h z r = let x = pos (suc k) in alone x refl (omega (arith, h, length-append (codeS x) [])) (leb (length (codeS x)) n) refl
     by (negsuc k) [] h z r = let x = negsuc k in alone x refl (omega (arith, h, length-append (codeS x) [])) (leb (length (codeS x)) n) refl
 
--- a run that fits is kept whole
-fit-whole : (xs : List ℤ) (n : ℕ) → bitsOf xs ≤ n → fitPrefix xs n ≡ xs
-unfolding fitPrefix codes
-fit-whole [] n h = refl
-fit-whole (x ∷ xs) n h =
-    let l = length-append (codeS x) (codes xs) in
-    rw (le-leb (length (codeS x)) n (omega arith), fitPrefix) (ap (λ (r : List ℤ). x ∷ r) (fit-whole xs (n - length (codeS x)) (omega arith)))
-
 -- ---- the colours alternate
 four-way : (a b p q r : Bool) → (r ≡ true → (p || q) ≡ true) → (a || (b || r)) ≡ true → (a || p || (b || q)) ≡ true
 four-way true b p q r f e = refl
@@ -137,7 +130,7 @@ module _ (g : Grid) (m : List ℕ) (b : Three (List Band)) (n q : ℕ) (z : Thre
   over h = by (decLe (trimmedCost (z .y)) (roomOf n))
     where
       by : Dec (trimmedCost (z .y) ≤ roomOf n) → (luma-lost || colour-lost) ≡ true
-      by (yes f) = or-right luma-lost colour-lost (over-colour (omega (arith, ap bitsOf (fit-whole (trimmed (z .y)) (roomOf n) f))))
+      by (yes f) = or-right luma-lost colour-lost (over-colour (omega (arith, ap bitsOf (fit-all (trimmed (z .y)) (roomOf n) f))))
       by (no f) = or-left luma-lost colour-lost (cut-lost (z .y) (roomOf n) (omega arith))
 
   pub low-cut : isCut (lowPlanOf g m b n q z) ≡ not (leb cost (roomOf n))

@@ -4,7 +4,7 @@ use mathlib.Core.Bool.{Bool, true, false}
 use mathlib.Core.List.{List, [], _∷_, _++_}
 use Prim.Native.Nat.{ℕ, zero, suc, _+_, _*_, _-_, _^_, _≤_}
 use native.Mathlib.Omega.{arith}
-use borrow.Author.Tests.{leb-true}
+use borrow.Author.Tests.{leb-true, le-leb}
 use lib.Dec.{leb}
 use lib.IntN.{ℤ, pos, negsuc, natAbs}
 use lib.ListN.{length, take, length-append}
@@ -79,6 +79,14 @@ fit-bits (x ∷ xs) n = by (leb (length (codeS x)) n) refl (fit-bits xs (n - len
     by true e h =
         rw (length-append (codeS x) (codes (fitPrefix xs (n - length (codeS x))))) (omega (arith, leb-true (length (codeS x)) n e))
     by false e h = omega arith
+
+-- a run that fits
+pub fit-all : (xs : List ℤ) (n : ℕ) → bitsOf xs ≤ n → fitPrefix xs n ≡ xs
+unfolding fitPrefix codes
+fit-all [] n h = refl
+fit-all (x ∷ xs) n h =
+    let l = length-append (codeS x) (codes xs) in
+    rw (le-leb (length (codeS x)) n (omega arith), fitPrefix) (ap (λ (r : List ℤ). x ∷ r) (fit-all xs (n - length (codeS x)) (omega arith)))
 
 -- the longest prefix that fits is a run from the start
 pub fit-prefix : (xs : List ℤ) (n : ℕ) → fitPrefix xs n ≡ take (length (fitPrefix xs n)) xs

@@ -1,6 +1,6 @@
 -- `low_slice::put_ld_slice` meets its contract.
 use native.Mathlib.Omega.{arith}
-use Rattle.picture.specs.LowSliceLaws.{length-room, runs-room, ones-room, flush-room, slice-laid, slice-cut}
+use Rattle.picture.specs.LowSliceLaws.{length-room, runs-room, ones-room, flush-room, slice-laid}
 use borrow.Author.Needs.{needs}
 use Rattle.picture.proofs.low_slice.put_ld_slice.Statement.{statement}
 use Rattle.picture.proofs.low_slice.put_ld_slice.Tie as tie
@@ -79,7 +79,7 @@ returns c =
     let n = c .before .before .before .before .before .before .before .before .before .before .before .before .before .before .before .before .before .before .before .before .before .before .before .before .before .room-of in
     let r = c .before .before .before .before .before .before .before .before .before .before .before .before .before .before .before .before .before .before .before .before .before .before .before .kept-runs in
     let m = c .before .before .before .before .before .before .before .before .before .before .before .before .before .before .before .before .before .length-bits in
-    (slice-laid (a .out .now) (a .at) (a .work .now) (a .p) (a .n) (a .k) (a .q) (n .result) (m .result) (r .result) (n .ensures .0) (m .ensures .0) (r .ensures) (st .pre .1 .0 .0) (st .pre .1 .1 .0) (c .before .before .before .before .before .before .before .before .before .before .before .before .before .before .before .before .before .before .before .before .before .put-nbits .ensures) (c .before .before .before .before .before .before .before .before .before .before .before .before .before .before .before .before .put-nbits2 .ensures) (c .before .before .before .before .before .before .before .before .before .before .before .before .put-runs .ensures) (c .before .before .before .before .before .before .put-ones .ensures) (c .before .before .flush .ensures), slice-cut (a .out .now) (a .at) (a .work .now) (a .p) (a .n) (a .k) (a .q) (n .result) (m .result) (r .result) (n .ensures .0) (m .ensures .0) (r .ensures) (st .pre .1 .0 .0) (st .pre .1 .1 .0))
+    slice-laid (a .out .now) (a .at) (a .work .now) (a .p) (a .n) (a .k) (a .q) (n .result) (m .result) (r .result) (n .ensures .0) (m .ensures .0) (r .ensures) (st .pre .1 .0 .0) (st .pre .1 .1 .0) (c .before .before .before .before .before .before .before .before .before .before .before .before .before .before .before .before .before .before .before .before .before .put-nbits .ensures) (c .before .before .before .before .before .before .before .before .before .before .before .before .before .before .before .before .put-nbits2 .ensures) (c .before .before .before .before .before .before .before .before .before .before .before .before .put-runs .ensures) (c .before .before .before .before .before .before .put-ones .ensures) (c .before .before .flush .ensures)
 
 same-length : tie.Need-same-length
 same-length c = returns c .0 .size

@@ -4,7 +4,7 @@ use Prim.Native.Nat.{ℕ, _+_}
 use lib.ListN.{length}
 use Rattle.picture.specs.Picture.{SliceIn}
 use Rattle.picture.specs.LowRestLaws.{slice-at, known-rebuilt}
-use Rattle.picture.specs.LowSliceLaws.{cut-small, slice-fits, elects}
+use Rattle.picture.specs.LowSliceLaws.{slice-fits, elects}
 use native.Mathlib.Omega.{arith}
 use borrow.Author.Needs.{needs}
 use Rattle.picture.proofs.slice_coder.SliceCoder.code_ld_slice.Statement.{statement}
@@ -66,11 +66,9 @@ put-ld-slice-requires c κs =
 add-t15 : tie.Need-add-t15
 add-t15 c =
     let st = c .before .before .before .before .before .before .before .before .before .before .before .before .before .before .before .before .before .before .before .before in
-    let a = st .args in
-    let d = c .before .before .before .before .before .before .before .before .before .before .before .before .before .before .before .before .before .slice-bytes .result in
-    let q = c .before .before .before .before .before .before .before .before .before .before .before .before .elect-qindex .result .index in
-    let v = c .before .before .before .before .before .before .before .before .rebuild-planes .last .0 in
-    omega (arith, st .pre .1 .0, st .pre .1 .1 .0, st .pre .0 .arranged .slices, c .before .before .before .before .put-ld-slice .ensures .1, cut-small v (a .p) d (a .k) q)
+    let coded = c .before .before in
+    let z = coded .before .before .put-ld-slice in
+    omega (arith, st .pre .1 .0, st .pre .1 .1 .0, st .pre .0 .arranged .slices, z .ensures .1 .1)
 
 same-length : tie.Need-same-length
 same-length c = search needs
@@ -88,8 +86,9 @@ returns c =
     let q = c .before .before .before .before .before .before .before .before .before .before .before .before .elect-qindex in
     let v = c .before .before .before .before .before .before .before .before .rebuild-planes in
     let e = elects (a .p) (a .n) (a .work .now) (a .k) (d .result) (b .result) (d .ensures .0) (b .ensures .0) (r .result) (q .result .index) (r .ensures .0) (q .ensures .0) (q .ensures .1 .1 .0) (v .ensures .0) in
-    let z = c .before .before .before .before .put-ld-slice in
-    (rw (e .bits) at (z .ensures .0), (e .work, (v .ensures .1, (ap (λ (x : ℕ). a .self .«cut_slices» + x) (z .ensures .1 ∙ e .cut), refl))))
+    let coded = c .before .before in
+    let z = coded .before .before .put-ld-slice in
+    (rw (e .bits) at (z .ensures .0), (e .work, (v .ensures .1, (ap (λ (x : ℕ). a .self .«cut_slices» + x) (z .ensures .1 .0 ∙ e .cut), refl))))
 
 pub code-ld-slice-spec : {M : Type 1} → statement M
 code-ld-slice-spec =
