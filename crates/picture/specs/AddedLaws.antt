@@ -6,7 +6,7 @@ use Prim.Native.Nat.{ℕ, suc, _+_, _-_, _≤_}
 use native.Mathlib.Omega.{arith}
 use lib.IntN.{ℤ}
 use Rattle.laws.specs.Chunks.{chunks}
-use Rattle.picture.specs.declared.strip.Strip.{Strip}
+use Rattle.picture.specs.declared.slices.strip.Strip.{Strip}
 use Rattle.picture.specs.Run.{numberIn, secondNumber, placeNumbers}
 use Rattle.picture.specs.RunLaws.{second-one, second-none, place-is}
 use Rattle.picture.specs.Cost.{added}

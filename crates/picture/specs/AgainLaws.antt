@@ -13,9 +13,9 @@ use lib.Seq.{ext-getD}
 use Rattle.laws.specs.Rows.{at}
 use Rattle.quantiser.specs.Quant.{forwardBy, inverseBy}
 use Rattle.unit.specs.ScanLaws.{Neighbours, by-neighbours, predict-same}
-use Rattle.picture.specs.declared.strip.Strip.{Strip}
-use Rattle.picture.specs.declared.layout.Component.{Component}
-use Rattle.picture.specs.declared.layout.Picture.{Picture}
+use Rattle.picture.specs.declared.slices.strip.Strip.{Strip}
+use Rattle.picture.specs.declared.slices.layout.Component.{Component}
+use Rattle.picture.specs.declared.slices.layout.Picture.{Picture}
 use Rattle.picture.specs.Run.{planeFrom, valueIn, rebuiltStrip, Inside, Small}
 use Rattle.picture.specs.RunLaws.{rebuilt-rows-length}
 use Rattle.picture.specs.Layout.{stripOf, RunIn}

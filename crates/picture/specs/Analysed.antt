@@ -19,9 +19,9 @@ use Rattle.unit.specs.Refusal.{paddedArea, workNeeded}
 use Rattle.unit.specs.Coefficients.{coefficientsOf}
 use Rattle.unit.specs.Valid.{Between, RateFits, MatrixFits}
 use Rattle.unit.specs.ValidLaws.{Sides}
-use Rattle.picture.specs.declared.layout.Component.{Component}
-use Rattle.picture.specs.declared.layout.Layout.{Layout}
-use Rattle.picture.specs.declared.layout.Picture.{Picture}
+use Rattle.picture.specs.declared.slices.layout.Component.{Component}
+use Rattle.picture.specs.declared.slices.layout.Layout.{Layout}
+use Rattle.picture.specs.declared.slices.layout.Picture.{Picture}
 use Rattle.picture.specs.Run.{Small}
 use Rattle.picture.specs.NumberLaws.{Holds}
 

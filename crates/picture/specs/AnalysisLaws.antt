@@ -31,10 +31,10 @@ use Rattle.unit.specs.Valid.{Between}
 use Rattle.unit.specs.ValidLaws as valid
 use Rattle.unit.specs.Intlog2Laws.{depth-range, offset-is, offset-range}
 use Rattle.unit.specs.PaddedLaws.{padded-is}
-use Rattle.picture.specs.declared.layout.Component.{Component}
-use Rattle.picture.specs.declared.layout.Layout.{Layout}
-use Rattle.picture.specs.declared.layout.Picture.{Picture}
-use Rattle.picture.specs.declared.sizes.Sides as code
+use Rattle.picture.specs.declared.slices.layout.Component.{Component}
+use Rattle.picture.specs.declared.slices.layout.Layout.{Layout}
+use Rattle.picture.specs.declared.slices.layout.Picture.{Picture}
+use Rattle.picture.specs.declared.front.sizes.Sides as code
 use Rattle.picture.specs.Sides.{sizeIn}
 use Rattle.picture.specs.Run.{most, reach, Small}
 use Rattle.picture.specs.NumberLaws.{Holds}

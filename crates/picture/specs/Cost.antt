@@ -8,7 +8,7 @@ use lib.IntN.{ℤ}
 use lib.ListN.{length}
 use Rattle.codewords.specs.Code.{codeS}
 use Rattle.unit.specs.Trim.{isZero}
-use Rattle.picture.specs.declared.cost.Cost.{Cost}
+use Rattle.picture.specs.declared.slices.cost.Cost.{Cost}
 
 -- the run that fits, with all numbers so far where these do
 unfoldable pub fitted : Cost → Cost

@@ -14,7 +14,7 @@ use Rattle.codewords.specs.Code.{codeS, codes}
 use Rattle.codewords.specs.CodeLaws.{codes-more, length-codeS-zero, length-codeS}
 use Rattle.unit.specs.Trim.{isZero, trimCons, trimmed, bitsOf, trimmedCost, fitPrefix}
 use Rattle.unit.specs.TrimLaws.{Small, bits-most, fit-all, fit-prefix}
-use Rattle.picture.specs.declared.cost.Cost.{Cost}
+use Rattle.picture.specs.declared.slices.cost.Cost.{Cost}
 use Rattle.picture.specs.Cost.{fitted, kept, addLen, add1, added, addAll, noCost, Countable, Kept}
 use Rattle.picture.specs.AddedLaws.{added-one}
 

@@ -1,8 +1,8 @@
 -- How many numbers slices have.
 use Prim.Native.Nat.{ℕ, zero, suc, _+_}
 use Rattle.unit.specs.Slices.{partSize}
-use Rattle.picture.specs.declared.layout.Component.{Component}
-use Rattle.picture.specs.declared.layout.Layout.{Layout}
+use Rattle.picture.specs.declared.slices.layout.Component.{Component}
+use Rattle.picture.specs.declared.slices.layout.Layout.{Layout}
 use Rattle.picture.specs.Layout.{bandCount, gridIn, bandSize}
 
 -- how many numbers slice k has of the first n subbands of a component

@@ -13,8 +13,8 @@ use lib.ListN.{length, length-append}
 use Rattle.unit.specs.Sizes.{Size, area}
 use Rattle.unit.specs.Slices.{bound, sliceCount, partSize}
 use Rattle.unit.specs.SliceLaws.{bound-rises, bound-most}
-use Rattle.picture.specs.declared.layout.Component.{Component}
-use Rattle.picture.specs.declared.layout.Layout.{Layout}
+use Rattle.picture.specs.declared.slices.layout.Component.{Component}
+use Rattle.picture.specs.declared.slices.layout.Layout.{Layout}
 use Rattle.picture.specs.Layout.{bandCount, gridIn, bandSize, startOf, runNumbers, LayoutIn}
 use Rattle.picture.specs.Counts.{bandNumbersOf, countOf}
 use Rattle.picture.specs.LayoutLaws.{start-next, band-fits, row-of, bandNumbers, run-none, run-next}

@@ -7,7 +7,7 @@ use borrow.Author.Tests.{lt-ltb, le-ltb, ltb-true, ltb-false}
 use lib.Dec.{ltb}
 use Rattle.unit.specs.Elect.{halve, elect}
 use Rattle.unit.specs.ElectLaws.{elect-halves}
-use Rattle.picture.specs.declared.high_index.Range.{Range}
+use Rattle.picture.specs.declared.slices.search.Range.{Range}
 use Rattle.picture.specs.High.{halfOf}
 
 -- ---- halving

@@ -20,7 +20,7 @@ use Rattle.unit.specs.Unit.{planOf, lengthOf, unitOf}
 use Rattle.unit.specs.Cut.{cutCount}
 use Rattle.unit.specs.Outcome.{numberOf, tells, scalerIn, codedOf, tooLong, outcomeOf}
 use Rattle.unit.specs.Demand.{Undropped, Demand3}
-use Rattle.picture.specs.declared.layout.Picture.{Picture}
+use Rattle.picture.specs.declared.slices.layout.Picture.{Picture}
 use Rattle.picture.specs.Run.{Small}
 use Rattle.picture.specs.Analysed.{pictureOf, frontOf, Called, Analysed}
 

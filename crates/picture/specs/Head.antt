@@ -7,8 +7,8 @@ use lib.ListN.{length}
 use Rattle.unit.specs.declared.Settings.{Settings}
 use Rattle.unit.specs.Parameters.{SliceParameters, lowDelay, highQuality, parameterBytes}
 use Rattle.unit.specs.Unit.{majorVersion, parametersBy}
-use Rattle.picture.specs.declared.header.SliceParameters as code
-use Rattle.picture.specs.declared.header.SliceParameters.the-variants.{LowDelay, HighQuality}
+use Rattle.picture.specs.declared.front.header.SliceParameters as code
+use Rattle.picture.specs.declared.front.header.SliceParameters.the-variants.{LowDelay, HighQuality}
 
 abbrev pub sliceIn : code.SliceParameters → SliceParameters
 sliceIn (LowDelay n d) = lowDelay n d

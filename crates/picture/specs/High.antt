@@ -24,14 +24,14 @@ use Rattle.unit.specs.Valid.{RateFits}
 use Rattle.unit.specs.Parameters.{parameterBytes}
 use Rattle.unit.specs.HighQuality.{needOf, sliceSize, componentBits, highBits, shareOf, largestNeed, scalerFrom}
 use Rattle.unit.specs.Unit.{majorVersion, highParameters, highBytes}
-use Rattle.picture.specs.declared.layout.Picture.{Picture}
-use Rattle.picture.specs.declared.high_index.Needs.{Needs}
-use Rattle.picture.specs.declared.packed.Packed.{Packed}
-use Rattle.picture.specs.declared.high_index.Choice.{Choice}
-use Rattle.picture.specs.declared.high_index.Terms.{Terms}
-use Rattle.picture.specs.declared.high_index.Range.{Range}
-use Rattle.picture.specs.declared.slice_coder.SliceCoder.{SliceCoder}
-use Rattle.picture.specs.declared.high_plan.Settled.{Settled}
+use Rattle.picture.specs.declared.slices.layout.Picture.{Picture}
+use Rattle.picture.specs.declared.high.size.Needs.{Needs}
+use Rattle.picture.specs.declared.high.packed.Packed.{Packed}
+use Rattle.picture.specs.declared.high.choice.Choice.{Choice}
+use Rattle.picture.specs.declared.high.size.Terms.{Terms}
+use Rattle.picture.specs.declared.slices.search.Range.{Range}
+use Rattle.picture.specs.declared.coder.slice_coder.SliceCoder.{SliceCoder}
+use Rattle.picture.specs.declared.coder.plan.Settled.{Settled}
 use Rattle.picture.specs.Run.{Small}
 use Rattle.picture.specs.Counts.{countOf}
 use Rattle.picture.specs.Packed.{packed, unpacked, wordsAt}

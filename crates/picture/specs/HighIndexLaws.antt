@@ -24,14 +24,14 @@ use Rattle.unit.specs.ElectLaws.{elected}
 use Rattle.unit.specs.TestLaws.{no-truth}
 use Rattle.unit.specs.Valid.{RateFits}
 use Rattle.unit.specs.HighQuality.{needOf, sliceSize, shareOf}
-use Rattle.picture.specs.declared.layout.Component.{Component}
-use Rattle.picture.specs.declared.layout.Layout.{Layout}
-use Rattle.picture.specs.declared.layout.Picture.{Picture}
-use Rattle.picture.specs.declared.high_index.Needs.{Needs}
-use Rattle.picture.specs.declared.high_index.Trimmed.{Trimmed}
-use Rattle.picture.specs.declared.packed.Packed.{Packed}
-use Rattle.picture.specs.declared.high_index.Choice.{Choice}
-use Rattle.picture.specs.declared.high_index.Terms.{Terms}
+use Rattle.picture.specs.declared.slices.layout.Component.{Component}
+use Rattle.picture.specs.declared.slices.layout.Layout.{Layout}
+use Rattle.picture.specs.declared.slices.layout.Picture.{Picture}
+use Rattle.picture.specs.declared.high.size.Needs.{Needs}
+use Rattle.picture.specs.declared.slices.tally.Trimmed.{Trimmed}
+use Rattle.picture.specs.declared.high.packed.Packed.{Packed}
+use Rattle.picture.specs.declared.high.choice.Choice.{Choice}
+use Rattle.picture.specs.declared.high.size.Terms.{Terms}
 use Rattle.picture.specs.Packed.{packed}
 use Rattle.picture.specs.UnpackedLaws.{packed-few}
 use Rattle.picture.specs.Layout.{bandCount, gridIn, bandSize, startOf, stripOf, runNumbers}

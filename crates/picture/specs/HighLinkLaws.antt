@@ -36,10 +36,10 @@ use Rattle.unit.specs.DropLaws.{Whole, all-high, whole-count}
 use Rattle.unit.specs.Valid.{RateFits}
 use Rattle.unit.specs.ValidLaws.{target-few}
 use Rattle.unit.specs.SoundLaws.{three, coefficients-within}
-use Rattle.picture.specs.declared.layout.Component.{Component}
-use Rattle.picture.specs.declared.layout.Picture.{Picture}
-use Rattle.picture.specs.declared.high_index.Terms.{Terms}
-use Rattle.picture.specs.declared.high_plan.Settled.{Settled}
+use Rattle.picture.specs.declared.slices.layout.Component.{Component}
+use Rattle.picture.specs.declared.slices.layout.Picture.{Picture}
+use Rattle.picture.specs.declared.high.size.Terms.{Terms}
+use Rattle.picture.specs.declared.coder.plan.Settled.{Settled}
 use Rattle.picture.specs.NumberLaws.{Bands, Holds, numbers-high}
 use Rattle.picture.specs.Picture.{slicesIn, runOf, numbersIn}
 use Rattle.picture.specs.High.{indexBy, planBy, indexIn, planIn, highRuns, termsOf, slicesBy, PlanIn, HighIn, Settles, Notes}

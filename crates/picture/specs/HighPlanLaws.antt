@@ -26,11 +26,11 @@ use Rattle.unit.specs.Parameters.{parameterBytes}
 use Rattle.unit.specs.HighQuality.{needOf, sliceSize, highBits, largestNeed, scalerFrom}
 use Rattle.unit.specs.HighQualityLaws.{length-high, next-rises}
 use Rattle.unit.specs.Unit.{majorVersion, highParameters, targetOf}
-use Rattle.picture.specs.declared.layout.Picture.{Picture}
-use Rattle.picture.specs.declared.high_index.Needs.{Needs}
-use Rattle.picture.specs.declared.high_index.Choice.{Choice}
-use Rattle.picture.specs.declared.high_index.Terms.{Terms}
-use Rattle.picture.specs.declared.slice_coder.SliceCoder.{SliceCoder}
+use Rattle.picture.specs.declared.slices.layout.Picture.{Picture}
+use Rattle.picture.specs.declared.high.size.Needs.{Needs}
+use Rattle.picture.specs.declared.high.choice.Choice.{Choice}
+use Rattle.picture.specs.declared.high.size.Terms.{Terms}
+use Rattle.picture.specs.declared.coder.slice_coder.SliceCoder.{SliceCoder}
 use Rattle.picture.specs.Packed.{packed}
 use Rattle.picture.specs.Picture.{slicesIn, numbersIn}
 use Rattle.picture.specs.High.{indexIn, planIn, plansIn, choiceBy, choiceIn, sliceWords, wordsIn, wordsTo, wordsOf, needsBy, plannedBy, isTarget, termsOf, slicesBy, FewBits, PlanIn, NeedsOf, PlansOn, PlansTo, HighIn, Settles}

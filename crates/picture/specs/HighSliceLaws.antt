@@ -23,9 +23,9 @@ use Rattle.unit.specs.Three.{Three}
 use Rattle.unit.specs.Trim.{trimmed, bitsOf, trimmedCost}
 use Rattle.unit.specs.HighQuality.{scalersOf, componentBits, highBits}
 use Rattle.unit.specs.HighQualityLaws.{cost-held, length-component, length-high}
-use Rattle.picture.specs.declared.layout.Picture.{Picture}
-use Rattle.picture.specs.declared.high_index.Choice.{Choice}
-use Rattle.picture.specs.declared.high_index.Terms.{Terms}
+use Rattle.picture.specs.declared.slices.layout.Picture.{Picture}
+use Rattle.picture.specs.declared.high.choice.Choice.{Choice}
+use Rattle.picture.specs.declared.high.size.Terms.{Terms}
 use Rattle.picture.specs.HeadLaws.{room-less, room-first, room-rest}
 use Rattle.picture.specs.Packed.{packed, unpacked, wordsAt}
 use Rattle.picture.specs.UnpackedLaws.{Below, unpacked-run, trimmed-again, component-trimmed, run-below}

@@ -11,10 +11,10 @@ use Rattle.wavelet.specs.Depth.{deepest}
 use Rattle.unit.specs.Sizes.{Size, area}
 use Rattle.unit.specs.Subbands.{levelSize}
 use Rattle.unit.specs.Slices.{Grid, sliceCount, top, bottom, left, right}
-use Rattle.picture.specs.declared.strip.Strip.{Strip}
-use Rattle.picture.specs.declared.layout.Component.{Component}
-use Rattle.picture.specs.declared.layout.Layout.{Layout}
-use Rattle.picture.specs.declared.layout.Window.{Window}
+use Rattle.picture.specs.declared.slices.strip.Strip.{Strip}
+use Rattle.picture.specs.declared.slices.layout.Component.{Component}
+use Rattle.picture.specs.declared.slices.layout.Layout.{Layout}
+use Rattle.picture.specs.declared.slices.layout.Window.{Window}
 use Rattle.picture.specs.Run.{Small, stripNumbers}
 
 -- the level of the n-th subband: 0, the horizontal-only levels, then three to a level

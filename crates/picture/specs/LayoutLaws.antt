@@ -21,13 +21,13 @@ use Rattle.unit.specs.SubbandLaws.{half, quarter}
 use Rattle.unit.specs.SliceLaws.{bound-rises, bound-most, partSize-most}
 use Rattle.unit.specs.TrimLaws.{small-append}
 use Rattle.unit.specs.TrimLaws as trim
-use Rattle.picture.specs.declared.strip.Strip.{Strip}
-use Rattle.picture.specs.declared.cost.Cost.{Cost}
-use Rattle.picture.specs.declared.put.Put.{Put}
-use Rattle.picture.specs.declared.layout.Component.{Component}
-use Rattle.picture.specs.declared.layout.Layout.{Layout}
-use Rattle.picture.specs.declared.layout.Window.{Window}
-use Rattle.picture.specs.declared.tally.Tally.{Tally}
+use Rattle.picture.specs.declared.slices.strip.Strip.{Strip}
+use Rattle.picture.specs.declared.slices.cost.Cost.{Cost}
+use Rattle.picture.specs.declared.low.put.Put.{Put}
+use Rattle.picture.specs.declared.slices.layout.Component.{Component}
+use Rattle.picture.specs.declared.slices.layout.Layout.{Layout}
+use Rattle.picture.specs.declared.slices.layout.Window.{Window}
+use Rattle.picture.specs.declared.slices.tally.Tally.{Tally}
 use Rattle.picture.specs.Run.{stripNumbers, Small, Within, Plain}
 use Rattle.picture.specs.RunLaws.{rows-small, rows-length}
 use Rattle.picture.specs.Cost.{add1, addAll, noCost, Countable}

@@ -14,12 +14,12 @@ use Rattle.codewords.specs.Code.{codes}
 use Rattle.unit.specs.Trim.{bitsOf, trimmedCost}
 use Rattle.unit.specs.Elect.{elect}
 use Rattle.unit.specs.LowDelay.{sliceBytes, roomOf, lowBits, keptRuns}
-use Rattle.picture.specs.declared.strip.Strip.{Strip}
-use Rattle.picture.specs.declared.layout.Component.{Component}
-use Rattle.picture.specs.declared.layout.Picture.{Picture}
-use Rattle.picture.specs.declared.cost.Cost.{Cost}
-use Rattle.picture.specs.declared.low_slice.Run.{Run}
-use Rattle.picture.specs.declared.low_slice.Kept as code
+use Rattle.picture.specs.declared.slices.strip.Strip.{Strip}
+use Rattle.picture.specs.declared.slices.layout.Component.{Component}
+use Rattle.picture.specs.declared.slices.layout.Picture.{Picture}
+use Rattle.picture.specs.declared.slices.cost.Cost.{Cost}
+use Rattle.picture.specs.declared.low.cut.Run.{Run}
+use Rattle.picture.specs.declared.low.cut.Kept as code
 use Rattle.picture.specs.Run.{Small, rebuiltStrip}
 use Rattle.picture.specs.Cost.{noCost, addAll}
 use Rattle.picture.specs.Layout.{bandCount, stripOf, runNumbers}

@@ -11,7 +11,7 @@ use Rattle.unit.specs.SliceLaws.{div-rises}
 use Rattle.unit.specs.Intlog2Laws.{intlog2-least, intlog2-most}
 use Rattle.unit.specs.LowDelay.{sliceBytes, lengthBits}
 use Rattle.unit.specs.LowDelayLaws.{bytes-some}
-use Rattle.picture.specs.declared.layout.Picture.{Picture}
+use Rattle.picture.specs.declared.slices.layout.Picture.{Picture}
 use Rattle.picture.specs.Run.{rebuiltStrip}
 use Rattle.picture.specs.Cost.{noCost, Countable}
 use Rattle.picture.specs.Layout.{RunIn}

@@ -42,8 +42,8 @@ use Rattle.unit.specs.Outcome.{scalerIn, codedOf, tooLong}
 use Rattle.unit.specs.LowDelayLaws.{numerator-least, bytes-all, low-bytes}
 use Rattle.unit.specs.SoundLaws.{length-is}
 use Rattle.unit.specs.DropLaws.{cut-unfit, alike-of}
-use Rattle.picture.specs.declared.layout.Component.{Component}
-use Rattle.picture.specs.declared.layout.Picture.{Picture}
+use Rattle.picture.specs.declared.slices.layout.Component.{Component}
+use Rattle.picture.specs.declared.slices.layout.Picture.{Picture}
 use Rattle.picture.specs.Run.{planeFrom, rebuiltStrip, Small}
 use Rattle.picture.specs.Layout.{bandCount, gridIn, bandSize, stripOf}
 use Rattle.picture.specs.LayoutLaws.{first-fits}

@@ -5,12 +5,12 @@ use mathlib.Core.List.{List}
 use Prim.Native.Nat.{ℕ, _+_, _-_, _^_, _≤_}
 use lib.Dec.{eqb}
 use lib.IntN.{ℤ}
-use Rattle.picture.specs.declared.layout.Picture.{Picture}
-use Rattle.picture.specs.declared.tally.Tally.{Tally}
-use Rattle.picture.specs.declared.high_index.Trimmed.{Trimmed}
-use Rattle.picture.specs.declared.low_index.Windows.{Windows}
-use Rattle.picture.specs.declared.low_index.First.{First}
-use Rattle.picture.specs.declared.low_index.Rest.{Rest}
+use Rattle.picture.specs.declared.slices.layout.Picture.{Picture}
+use Rattle.picture.specs.declared.slices.tally.Tally.{Tally}
+use Rattle.picture.specs.declared.slices.tally.Trimmed.{Trimmed}
+use Rattle.picture.specs.declared.low.trial.Windows.{Windows}
+use Rattle.picture.specs.declared.low.trial.First.{First}
+use Rattle.picture.specs.declared.low.trial.Rest.{Rest}
 use Rattle.picture.specs.Run.{stripNumbers}
 use Rattle.picture.specs.Tally.{tallyAll, noTally, trimmedOf, trimmedBy}
 use Rattle.picture.specs.Layout.{bandCount, windowOf, stripOf, restNumbers}

@@ -15,14 +15,14 @@ use Rattle.codewords.specs.CodeLaws.{codes-append}
 use Rattle.unit.specs.Trim.{trimCons, trimmed, bitsOf, trimmedCost}
 use Rattle.unit.specs.TrimLaws.{length-trimmed, bits-most, cost-most}
 use Rattle.unit.specs.TrimLaws as trim
-use Rattle.picture.specs.declared.tally.Tally.{Tally}
-use Rattle.picture.specs.declared.layout.Component.{Component}
-use Rattle.picture.specs.declared.layout.Layout.{Layout}
-use Rattle.picture.specs.declared.layout.Picture.{Picture}
-use Rattle.picture.specs.declared.layout.Window.{Window}
-use Rattle.picture.specs.declared.high_index.Trimmed.{Trimmed}
-use Rattle.picture.specs.declared.low_index.First.{First}
-use Rattle.picture.specs.declared.low_index.Rest.{Rest}
+use Rattle.picture.specs.declared.slices.tally.Tally.{Tally}
+use Rattle.picture.specs.declared.slices.layout.Component.{Component}
+use Rattle.picture.specs.declared.slices.layout.Layout.{Layout}
+use Rattle.picture.specs.declared.slices.layout.Picture.{Picture}
+use Rattle.picture.specs.declared.slices.layout.Window.{Window}
+use Rattle.picture.specs.declared.slices.tally.Trimmed.{Trimmed}
+use Rattle.picture.specs.declared.low.trial.First.{First}
+use Rattle.picture.specs.declared.low.trial.Rest.{Rest}
 use Rattle.picture.specs.Run.{stripNumbers, Small}
 use Rattle.picture.specs.RunLaws.{rows-small}
 use Rattle.picture.specs.Tally.{trimmedOf, trimmedBy}

@@ -28,12 +28,12 @@ use Rattle.unit.specs.Elect.{elect}
 use Rattle.unit.specs.SliceLaws.{div-rises}
 use Rattle.unit.specs.LowDelay.{sliceBytes, lengthBits, roomOf, lowBits, Runs, keptRuns}
 use Rattle.unit.specs.LowDelayLaws.{bytes-some, runs-fit, runs-whole, length-low}
-use Rattle.picture.specs.declared.layout.Picture.{Picture}
-use Rattle.picture.specs.declared.cost.Cost.{Cost}
-use Rattle.picture.specs.declared.high_index.Trimmed.{Trimmed}
-use Rattle.picture.specs.declared.low_slice.Run.{Run}
-use Rattle.picture.specs.declared.low_slice.Kept as code
-use Rattle.picture.specs.declared.slice_coder.SliceCoder.{SliceCoder}
+use Rattle.picture.specs.declared.slices.layout.Picture.{Picture}
+use Rattle.picture.specs.declared.slices.cost.Cost.{Cost}
+use Rattle.picture.specs.declared.slices.tally.Trimmed.{Trimmed}
+use Rattle.picture.specs.declared.low.cut.Run.{Run}
+use Rattle.picture.specs.declared.low.cut.Kept as code
+use Rattle.picture.specs.declared.coder.slice_coder.SliceCoder.{SliceCoder}
 use Rattle.picture.specs.Run.{Small}
 use Rattle.picture.specs.Cost.{noCost, addAll}
 use Rattle.picture.specs.CostLaws.{CostOf, cost-of, trimmed-prefix, kept-run, fit-run, fit-shorter, keep-shorter, fit-shorter-bits, keep-shorter-bits}

@@ -23,13 +23,13 @@ use Rattle.unit.specs.HighQuality.{shareOf, largestNeed, scalerFrom}
 use Rattle.unit.specs.Parameters.{parameterBytes}
 use Rattle.unit.specs.Unit.{majorVersion, highParameters}
 use Rattle.unit.specs.Plan.{SlicePlan}
-use Rattle.picture.specs.declared.layout.Component.{Component}
-use Rattle.picture.specs.declared.layout.Picture.{Picture}
-use Rattle.picture.specs.declared.packed.Packed.{Packed}
-use Rattle.picture.specs.declared.high_index.Choice.{Choice}
-use Rattle.picture.specs.declared.high_index.Terms.{Terms}
-use Rattle.picture.specs.declared.high_plan.Settled.{Settled}
-use Rattle.picture.specs.declared.slice_coder.SliceCoder.{SliceCoder}
+use Rattle.picture.specs.declared.slices.layout.Component.{Component}
+use Rattle.picture.specs.declared.slices.layout.Picture.{Picture}
+use Rattle.picture.specs.declared.high.packed.Packed.{Packed}
+use Rattle.picture.specs.declared.high.choice.Choice.{Choice}
+use Rattle.picture.specs.declared.high.size.Terms.{Terms}
+use Rattle.picture.specs.declared.coder.plan.Settled.{Settled}
+use Rattle.picture.specs.declared.coder.slice_coder.SliceCoder.{SliceCoder}
 use Rattle.picture.specs.Run.{Small}
 use Rattle.picture.specs.PutLaws.{chunks-split}
 use Rattle.picture.specs.Layout.{RunIn}

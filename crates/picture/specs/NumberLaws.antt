@@ -26,9 +26,9 @@ use Rattle.unit.specs.Quantised.{sizeOf, numbersFrom, numbersHQ, numberAt, rebu
 use Rattle.unit.specs.LowDelay.{alternated}
 use Rattle.unit.specs.SliceLaws.{bound-rises, bound-most}
 use Rattle.picture.specs.LayoutLaws.{level-low, first-fits, run-chunks}
-use Rattle.picture.specs.declared.strip.Strip.{Strip}
-use Rattle.picture.specs.declared.layout.Component.{Component}
-use Rattle.picture.specs.declared.layout.Layout.{Layout}
+use Rattle.picture.specs.declared.slices.strip.Strip.{Strip}
+use Rattle.picture.specs.declared.slices.layout.Component.{Component}
+use Rattle.picture.specs.declared.slices.layout.Layout.{Layout}
 use Rattle.picture.specs.Run.{planeFrom, numberIn, stripNumbers, rebuiltStrip, Inside}
 use Rattle.picture.specs.Layout.{levelOf, bandCount, gridIn, bandSize, startOf, stripOf, runNumbers, RunIn}
 use Rattle.picture.specs.RunLaws.{prediction-no}

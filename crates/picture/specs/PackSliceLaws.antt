@@ -8,11 +8,11 @@ use lib.IntN.{ℤ}
 use lib.ListN.{length}
 use Rattle.laws.specs.Rows.{at}
 use Rattle.laws.specs.Laid.{laid, laid-then}
-use Rattle.picture.specs.declared.layout.Component.{Component}
-use Rattle.picture.specs.declared.layout.Picture.{Picture}
-use Rattle.picture.specs.declared.high_index.Choice.{Choice}
-use Rattle.picture.specs.declared.packed.Packing.{Packing}
-use Rattle.picture.specs.declared.packed.Packed.{Packed}
+use Rattle.picture.specs.declared.slices.layout.Component.{Component}
+use Rattle.picture.specs.declared.slices.layout.Picture.{Picture}
+use Rattle.picture.specs.declared.high.choice.Choice.{Choice}
+use Rattle.picture.specs.declared.high.packed.Packing.{Packing}
+use Rattle.picture.specs.declared.high.packed.Packed.{Packed}
 use Rattle.picture.specs.Run.{Small}
 use Rattle.picture.specs.Layout.{RunIn}
 use Rattle.picture.specs.Counts.{countOf}

@@ -11,8 +11,8 @@ use Rattle.laws.specs.Laid.{laid}
 use Rattle.laws.specs.Window.{piece}
 use Rattle.codewords.specs.Code.{codeS}
 use Rattle.unit.specs.Trim.{isZero}
-use Rattle.picture.specs.declared.strip.Strip.{Strip}
-use Rattle.picture.specs.declared.packed.Packing.{Packing}
+use Rattle.picture.specs.declared.slices.strip.Strip.{Strip}
+use Rattle.picture.specs.declared.high.packed.Packing.{Packing}
 use Rattle.picture.specs.Run.{Plain}
 
 abbrev pub mark : ℕ

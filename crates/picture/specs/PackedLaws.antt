@@ -25,10 +25,10 @@ use Rattle.unit.specs.TestLaws.{no-truth}
 use Rattle.unit.specs.Trim.{isZero, bitsOf}
 use Rattle.unit.specs.TrimLaws.{bits-most}
 use Rattle.unit.specs.TrimLaws as trim
-use Rattle.picture.specs.declared.strip.Strip.{Strip}
-use Rattle.picture.specs.declared.layout.Component.{Component}
-use Rattle.picture.specs.declared.layout.Layout.{Layout}
-use Rattle.picture.specs.declared.packed.Packing.{Packing}
+use Rattle.picture.specs.declared.slices.strip.Strip.{Strip}
+use Rattle.picture.specs.declared.slices.layout.Component.{Component}
+use Rattle.picture.specs.declared.slices.layout.Layout.{Layout}
+use Rattle.picture.specs.declared.high.packed.Packing.{Packing}
 use Rattle.picture.specs.Run.{planeFrom, numberIn, placeNumbers, rowNumbers, stripNumbers, reach, Small, Within, Inside}
 use Rattle.picture.specs.RunLaws.{places, rowAt, rows, row-chunks, rows-chunks, second-none, chunks-length, chunks-small, place-small, row-small, small-set}
 use Rattle.picture.specs.TallyLaws.{plain-number, place-plain, bits-more, bits-none}

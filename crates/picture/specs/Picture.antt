@@ -6,8 +6,8 @@ use Prim.Native.Nat.{ℕ, _+_, _*_, _≤_, _<_}
 use lib.IntN.{ℤ}
 use Rattle.unit.specs.Three.{Three}
 use Rattle.unit.specs.Slices.{sliceCount}
-use Rattle.picture.specs.declared.layout.Component.{Component}
-use Rattle.picture.specs.declared.layout.Picture.{Picture}
+use Rattle.picture.specs.declared.slices.layout.Component.{Component}
+use Rattle.picture.specs.declared.slices.layout.Picture.{Picture}
 use Rattle.picture.specs.Run.{Small}
 use Rattle.picture.specs.Layout.{bandCount, gridIn, runNumbers, LayoutIn, ComponentIn}
 

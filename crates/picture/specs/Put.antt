@@ -6,7 +6,7 @@ use lib.IntN.{ℤ}
 use lib.ListN.{length, take}
 use Rattle.codewords.specs.Code.{codes}
 use Rattle.codewords.specs.Writer.{Room, Wrote}
-use Rattle.picture.specs.declared.put.Put.{Put}
+use Rattle.picture.specs.declared.low.put.Put.{Put}
 
 -- there is room for those of xs that are still to be kept
 abbrev pub RoomFor : List ℕ → Put → List ℤ → Type 0

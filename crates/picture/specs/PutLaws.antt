@@ -15,7 +15,7 @@ use Rattle.codewords.specs.WriterLaws.{wrote-none, wrote-then, room-after}
 use Rattle.codewords.specs.declared.writer.BitWriter.{BitWriter}
 use Rattle.quantiser.specs.Quant.{forwardBy}
 use Rattle.quantiser.specs.SignLaws.{forward-code}
-use Rattle.picture.specs.declared.put.Put.{Put}
+use Rattle.picture.specs.declared.low.put.Put.{Put}
 use Rattle.picture.specs.Put.{RoomFor, Puts}
 
 -- ---- the code words of the first n

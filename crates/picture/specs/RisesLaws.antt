@@ -19,9 +19,9 @@ use Rattle.quantiser.specs.RisesLaws.{factor-rises, forward-falls, code-falls}
 use Rattle.unit.specs.Three.{Three}
 use Rattle.unit.specs.Trim.{trimCons, trimmed, bitsOf, trimmedCost}
 use Rattle.unit.specs.HighQuality.{needOf, scalersOf, sliceSize}
-use Rattle.picture.specs.declared.layout.Component.{Component}
-use Rattle.picture.specs.declared.layout.Layout.{Layout}
-use Rattle.picture.specs.declared.layout.Picture.{Picture}
+use Rattle.picture.specs.declared.slices.layout.Component.{Component}
+use Rattle.picture.specs.declared.slices.layout.Layout.{Layout}
+use Rattle.picture.specs.declared.slices.layout.Picture.{Picture}
 use Rattle.picture.specs.Run.{residualIn, numberIn, secondNumber, placeNumbers, rowNumbers}
 use Rattle.picture.specs.RunLaws.{places, rows, row-chunks, rows-chunks}
 use Rattle.picture.specs.TallyLaws.{bits-more, bits-none}

@@ -10,7 +10,7 @@ use Rattle.laws.specs.Rows.{at}
 use Rattle.laws.specs.Plane.{Plane}
 use Rattle.quantiser.specs.Quant.{quantFactor, quantOffset, forwardBy, inverseBy}
 use Rattle.unit.specs.Predict.{predict}
-use Rattle.picture.specs.declared.strip.Strip.{Strip}
+use Rattle.picture.specs.declared.slices.strip.Strip.{Strip}
 
 -- the numbers of l from base on as a plane w wide
 abbrev pub planeFrom : List ℤ → ℕ → ℕ → Plane

@@ -24,7 +24,7 @@ use Rattle.unit.specs.ScanLaws.{neighbours, predict-most}
 use Rattle.unit.specs.RebuiltLaws.{step-most}
 use Rattle.unit.specs.TrimLaws.{small-append}
 use Rattle.unit.specs.TrimLaws as trim
-use Rattle.picture.specs.declared.strip.Strip.{Strip}
+use Rattle.picture.specs.declared.slices.strip.Strip.{Strip}
 use Rattle.picture.specs.Run.{planeFrom, predictionIn, numberIn, secondNumber, placeNumbers, rowNumbers, rowsNumbers, valueIn, rebuiltRow, rebuiltRows, most, reach, Readable, Numbered, Small, Within, Inside}
 
 -- ---- predictions

@@ -6,7 +6,7 @@ use native.Mathlib.Omega.{arith}
 use native.Mathlib.Nat.{le-antisymm}
 use Rattle.unit.specs.Elect.{elect}
 use Rattle.unit.specs.ElectLaws.{elect-least}
-use Rattle.picture.specs.declared.high_index.Range.{Range}
+use Rattle.picture.specs.declared.slices.search.Range.{Range}
 use Rattle.picture.specs.High.{halfOf}
 
 -- the least index that fits lies in the range r, whose high end was tried and fits if it is below 255

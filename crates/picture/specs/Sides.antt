@@ -3,7 +3,7 @@ use mathlib.Core.List.{List}
 use Prim.Native.Nat.{ℕ}
 use Rattle.unit.specs.Three.{Three}
 use Rattle.unit.specs.Sizes.{Size}
-use Rattle.picture.specs.declared.sizes.Sides.{Sides}
+use Rattle.picture.specs.declared.front.sizes.Sides.{Sides}
 
 abbrev pub sizeIn : Sides → Size
 sizeIn z = record { width = z .width; height = z .height }

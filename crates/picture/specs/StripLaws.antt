@@ -22,7 +22,7 @@ use Rattle.unit.specs.LowDelay.{alternated}
 use Rattle.unit.specs.TestLaws.{no-truth}
 use Rattle.unit.specs.ScanLaws.{Neighbours, neighbours, predict-same, scan-unique}
 use Rattle.unit.specs.PlaceLaws.{inside→within, within→inside}
-use Rattle.picture.specs.declared.strip.Strip.{Strip}
+use Rattle.picture.specs.declared.slices.strip.Strip.{Strip}
 use Rattle.picture.specs.Run.{planeFrom, predictionIn, numberIn, placeNumbers, rowNumbers, rowsNumbers, stripNumbers, valueIn, rebuiltRow, rebuiltRows, rebuiltStrip, Inside}
 use Rattle.picture.specs.RunLaws.{prediction-yes}
 

@@ -7,9 +7,9 @@ use lib.IntN.{ℤ}
 use lib.ListN.{length}
 use Rattle.codewords.specs.Code.{codeS}
 use Rattle.unit.specs.Trim.{isZero, trimmed, trimmedCost}
-use Rattle.picture.specs.declared.cost.Cost.{Cost}
-use Rattle.picture.specs.declared.high_index.Trimmed.{Trimmed}
-use Rattle.picture.specs.declared.tally.Tally.{Tally}
+use Rattle.picture.specs.declared.slices.cost.Cost.{Cost}
+use Rattle.picture.specs.declared.slices.tally.Trimmed.{Trimmed}
+use Rattle.picture.specs.declared.slices.tally.Tally.{Tally}
 use Rattle.picture.specs.Cost.{added, Counted}
 
 -- a tally with one number more

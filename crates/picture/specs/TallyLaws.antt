@@ -13,9 +13,9 @@ use Rattle.codewords.specs.CodeLaws.{length-codeS-zero}
 use Rattle.quantiser.specs.Quant.{forwardBy}
 use Rattle.unit.specs.Trim.{trimCons, trimmed, bitsOf, trimmedCost}
 use Rattle.unit.specs.TrimLaws.{length-trimmed, Small, bits-most}
-use Rattle.picture.specs.declared.strip.Strip.{Strip}
-use Rattle.picture.specs.declared.cost.Cost.{Cost}
-use Rattle.picture.specs.declared.tally.Tally.{Tally}
+use Rattle.picture.specs.declared.slices.strip.Strip.{Strip}
+use Rattle.picture.specs.declared.slices.cost.Cost.{Cost}
+use Rattle.picture.specs.declared.slices.tally.Tally.{Tally}
 use Rattle.picture.specs.Run.{planeFrom, numberIn, secondNumber, placeNumbers}
 use Rattle.picture.specs.RunLaws.{prediction-no, second-one, place-is}
 use Rattle.picture.specs.Cost.{Counted, fitted, kept, add1, added, addAll, noCost}

@@ -17,9 +17,9 @@ use Rattle.quantiser.specs.Quant.{quantFactor, forwardBy, forwardQuant}
 use Rattle.quantiser.specs.QuantLaws.{number-size}
 use Rattle.unit.specs.Trim.{trimCons, trimmed, bitsOf, trimmedCost}
 use Rattle.unit.specs.HighQuality.{componentBits}
-use Rattle.picture.specs.declared.strip.Strip.{Strip}
-use Rattle.picture.specs.declared.layout.Component.{Component}
-use Rattle.picture.specs.declared.layout.Layout.{Layout}
+use Rattle.picture.specs.declared.slices.strip.Strip.{Strip}
+use Rattle.picture.specs.declared.slices.layout.Component.{Component}
+use Rattle.picture.specs.declared.slices.layout.Layout.{Layout}
 use Rattle.picture.specs.Run.{planeFrom, placeNumbers, rowNumbers, stripNumbers, most, Small, Inside}
 use Rattle.picture.specs.RunLaws.{places, rows, row-chunks, rows-chunks, second-none, place-lt}
 use Rattle.picture.specs.TallyLaws.{bits-more, bits-none, place-plain}

@@ -1,23 +1,9 @@
-// The picture call, the port of encoder.rs: `encoder::encode_picture`. `words` is for the layers above, the other
-// modules are its parts.
-mod analysis;
-mod cost;
+// The picture call, the port of encoder.rs: `encoder::encode_picture`. Its parts stand in rooms, and each room imports
+// only from rooms before it: front, slices, high and low, coder, encoder. `words` is for the layers above.
+mod coder;
 pub mod encoder;
-mod header;
-mod high_index;
-mod high_plan;
-mod high_slice;
-mod layout;
-mod low_index;
-mod low_slice;
-mod matrix;
-mod packed;
-mod put;
-mod rebuild;
-mod refusal;
-mod run;
-mod sizes;
-mod slice_coder;
-mod strip;
-mod tally;
+mod front;
+mod high;
+mod low;
+mod slices;
 pub mod words;

@@ -7,8 +7,8 @@ use Rattle.picture.proofs.encoder.code_picture.Statement.{statement}
 use Rattle.picture.proofs.encoder.code_picture.Tie as tie
 use Rattle.picture.proofs.encoder.code_picture.Reads as reads
 use Rattle.picture.proofs.encoder.code_picture.Lts as lts
-use Rattle.picture.proofs.analysis.analyse.Reads as analyse-reads
-use Rattle.picture.proofs.analysis.picture_of.Reads as picture-of-reads
+use Rattle.picture.proofs.coder.analysis.analyse.Reads as analyse-reads
+use Rattle.picture.proofs.coder.analysis.picture_of.Reads as picture-of-reads
 use Rattle.picture.proofs.encoder.code_high.Reads as code-high-reads
 use Rattle.picture.proofs.encoder.code_low.Reads as code-low-reads
 

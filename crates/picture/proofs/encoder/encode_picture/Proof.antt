@@ -10,10 +10,10 @@ use Rattle.picture.proofs.encoder.encode_picture.Statement.{statement}
 use Rattle.picture.proofs.encoder.encode_picture.Tie as tie
 use Rattle.picture.proofs.encoder.encode_picture.Reads as reads
 use Rattle.picture.proofs.encoder.encode_picture.Lts as lts
-use Rattle.picture.proofs.analysis.clear.Reads as clear-reads
+use Rattle.picture.proofs.coder.analysis.clear.Reads as clear-reads
 use Rattle.picture.proofs.encoder.clear_refused.Reads as clear-refused-reads
 use Rattle.picture.proofs.encoder.code_picture.Reads as code-picture-reads
-use Rattle.picture.proofs.refusal.refusal.Reads as refusal-reads
+use Rattle.picture.proofs.front.refusal.refusal.Reads as refusal-reads
 
 -- settings and samples by their types
 typed : (c : tie.After-shared-slice-known4) → let a = c .before .before .before .before .args in Typed (a .s) (planes (a .y .now) (a .c1 .now) (a .c2 .now))

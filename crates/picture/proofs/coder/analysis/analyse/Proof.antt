@@ -1,0 +1,157 @@
+-- `coder::analysis::analyse` meets its contract.
+use Prim.Native.Nat.{ℕ, _+_, _-_, _*_}
+use lib.ListN.{drop}
+use Rattle.wavelet.specs.DepthLaws.{few-levels}
+use Rattle.unit.specs.Sizes.{lumaSize, colourSize}
+use Rattle.picture.specs.Sides.{planes}
+use Rattle.picture.specs.AnalysisLaws.{padded-asks, taken-is, Taken, taken-of, front-is, components-in, Sampled, front-room, analysed-of}
+use native.Mathlib.Omega.{arith}
+use borrow.Author.Needs.{needs}
+use Rattle.picture.proofs.coder.analysis.analyse.Statement.{statement}
+use Rattle.picture.proofs.coder.analysis.analyse.Tie as tie
+use Rattle.picture.proofs.coder.analysis.analyse.Reads as reads
+use Rattle.picture.proofs.coder.analysis.analyse.Lts as lts
+use Rattle.picture.proofs.coder.analysis.clear.Reads as clear-reads
+use Rattle.picture.proofs.coder.analysis.sides_of.Reads as sides-of-reads
+use Rattle.picture.proofs.front.sizes.colour_size.Reads as colour-size-reads
+use Rattle.picture.proofs.front.sizes.luma_size.Reads as luma-size-reads
+use Rattle.picture.proofs.front.sizes.padded_size.Reads as padded-size-reads
+use Rattle.wavelet.proofs.component.analyse_components.Reads as analyse-components-reads
+
+-- samples have 16 bits
+samples : (c : tie.After-shared-slice-known3) → Sampled (planes (c .before .before .before .args .y .now) (c .before .before .before .args .c1 .now) (c .before .before .before .args .c2 .now))
+samples c = record {
+  y = λ n. omega (arith, c .before .before .shared-slice-known .given n);
+  c1 = λ n. omega (arith, c .before .shared-slice-known2 .given n);
+  c2 = λ n. omega (arith, c .shared-slice-known3 .given n);
+}
+
+known : (c : tie.After-sides-of2) → Taken (c .before .before .before .before .before .before .before .before .before .args .s) (c .before .before .sides-of .result) (c .sides-of2 .result)
+known c =
+    let st = c .before .before .before .before .before .before .before .before .before in
+    let a = st .args in
+    let s = a .s in
+    let l = c .before .before .before .before .before .luma-size in
+    let k = c .before .before .before .before .colour-size in
+    let p = c .before .before .before .padded-size in
+    let y = c .before .before .sides-of in
+    let q = c .before .padded-size2 in
+    let u = c .sides-of2 in
+    taken-of s (planes (a .y .now) (a .c1 .now) (a .c2 .now)) (a .work .now) (st .pre) (y .result) (u .result)
+    (taken-is s (lumaSize s) (s .«luma_excursion») (l .result) (p .result) (y .result) (l .ensures) (p .ensures) (y .ensures))
+    (taken-is s (colourSize s) (s .«color_diff_excursion») (k .result) (q .result) (u .result) (k .ensures) (q .ensures) (u .ensures))
+
+luma-size-requires : tie.Need-luma-size-requires
+luma-size-requires c κs = search needs
+
+colour-size-requires : tie.Need-colour-size-requires
+colour-size-requires c κs = search needs
+
+padded-size-requires : tie.Need-padded-size-requires
+padded-size-requires c κs =
+    let st = c .before .before .before .before .before in
+    let l = c .before .luma-size in
+    padded-asks (st .args .s) (l .result) (lumaSize (st .args .s)) (few-levels (st .args .s .«wavelet_index_ho») (st .args .s .«wavelet_index») (st .pre .depths)) (st .pre .luma) (l .ensures)
+
+sides-of-requires : tie.Need-sides-of-requires
+sides-of-requires c κs = search needs
+
+padded-size-requires-2 : tie.Need-padded-size-requires-2
+padded-size-requires-2 c κs =
+    let st = c .before .before .before .before .before .before .before in
+    let k = c .before .before .colour-size in
+    padded-asks (st .args .s) (k .result) (colourSize (st .args .s)) (few-levels (st .args .s .«wavelet_index_ho») (st .args .s .«wavelet_index») (st .pre .depths)) (st .pre .colour) (k .ensures)
+
+sides-of-requires-2 : tie.Need-sides-of-requires-2
+sides-of-requires-2 c κs = search needs
+
+mul-front : tie.Need-mul-front
+mul-front c = omega (arith, known (c .before) .luma-few)
+
+mul-front-2 : tie.Need-mul-front-2
+mul-front-2 c = omega (arith, known (c .before .before) .colour-few)
+
+add-front : tie.Need-add-front
+add-front c = let k = known (c .before .before) in omega (arith, k .luma-few, k .colour-few)
+
+mul-front-3 : tie.Need-mul-front-3
+mul-front-3 c = omega (arith, known (c .before .before .before) .colour-few)
+
+add-front-2 : tie.Need-add-front-2
+add-front-2 c = let k = known (c .before .before .before) in omega (arith, k .luma-few, k .colour-few)
+
+cast-t13 : tie.Need-cast-t13
+cast-t13 c = search needs
+
+cast-t16 : tie.Need-cast-t16
+cast-t16 c = search needs
+
+analyse-components-requires : tie.Need-analyse-components-requires
+analyse-components-requires c κs =
+    let at = c .before .before .before .before .before .before in
+    let st = at .before .before .before .before .before .before .before .before .before in
+    let a = st .args in
+    let l = at .before .before .sides-of .result in
+    let u = at .sides-of2 .result in
+    components-in (a .s) (planes (a .y .now) (a .c1 .now) (a .c2 .now)) (a .work .now) (st .pre) l u (known at) (l .pw * l .ph + u .pw * u .ph + u .pw * u .ph) (front-is (a .s) l u (known at))
+
+sub-clear : tie.Need-sub-clear
+sub-clear c = search needs
+
+part-clear-start : tie.Need-part-clear-start
+part-clear-start c = search needs
+
+part-clear-end : tie.Need-part-clear-end
+part-clear-end c =
+    let at = c .before .before .before .before .before .before .before .before in
+    let st = at .before .before .before .before .before .before .before .before .before in
+    let a = st .args in
+    let r = c .before .analyse-components in
+    front-room (a .s) (planes (a .y .now) (a .c1 .now) (a .c2 .now)) (a .work .now) (r .last .0) (st .pre) (at .before .before .sides-of .result) (at .sides-of2 .result) (known at) (r .kept .0)
+
+clear-requires : tie.Need-clear-requires
+clear-requires c κs = search needs
+
+same-length : tie.Need-same-length
+same-length c = search needs
+
+returns : tie.Need-returns
+returns c =
+    let at = c .before .before .before .before .before .before .before .before .before .before .before in
+    let st = at .before .before .before .before .before .before .before .before .before in
+    let a = st .args in
+    let l = at .before .before .sides-of .result in
+    let u = at .sides-of2 .result in
+    let w = a .work .now in
+    let r = c .before .before .before .before .analyse-components in
+    let z = c .before .clear in
+    let n : ℕ = l .pw * l .ph + u .pw * u .ph + u .pw * u .ph in (
+      analysed-of (a .s) (planes (a .y .now) (a .c1 .now) (a .c2 .now)) w (r .last .0) (z .last .0) (st .pre) (samples (at .before .before .before .before .before .before)) l u (known at) n (n - 0) (front-is (a .s) l u (known at)) (omega arith)
+          (drop (l .ph * l .pw + u .ph * u .pw + u .ph * u .pw) (drop n w)) (r .kept .0) (r .ensures) (z .ensures) (same-length c),
+      same-length c,
+    )
+
+pub analyse-spec : {M : Type 1} → statement M
+analyse-spec =
+    tie.close
+    (tie.spec
+    luma-size-requires
+    colour-size-requires
+    padded-size-requires
+    sides-of-requires
+    padded-size-requires-2
+    sides-of-requires-2
+    mul-front
+    mul-front-2
+    add-front
+    mul-front-3
+    add-front-2
+    cast-t13
+    cast-t16
+    analyse-components-requires
+    sub-clear
+    part-clear-start
+    part-clear-end
+    clear-requires
+    same-length
+    returns)

@@ -1,0 +1,116 @@
+-- `coder::analysis::picture_of` meets its contract.
+use Rattle.unit.specs.Sizes.{lumaSize, colourSize}
+use Rattle.picture.specs.AnalysisLaws.{padded-asks, Measures, measures-of, picture-is}
+use native.Mathlib.Omega.{arith}
+use borrow.Author.Needs.{needs}
+use Rattle.picture.proofs.coder.analysis.picture_of.Statement.{statement}
+use Rattle.picture.proofs.coder.analysis.picture_of.Tie as tie
+use Rattle.picture.proofs.coder.analysis.picture_of.Reads as reads
+use Rattle.picture.proofs.coder.analysis.picture_of.Lts as lts
+use Rattle.picture.proofs.coder.analysis.component_at.Reads as component-at-reads
+use Rattle.picture.proofs.coder.analysis.count_of.Reads as count-of-reads
+use Rattle.picture.proofs.coder.analysis.layout_of.Reads as layout-of-reads
+use Rattle.picture.proofs.front.sizes.colour_size.Reads as colour-size-reads
+use Rattle.picture.proofs.front.sizes.luma_size.Reads as luma-size-reads
+use Rattle.picture.proofs.front.sizes.padded_size.Reads as padded-size-reads
+
+known : (c : tie.After-count-of2) → Measures (c .before .before .before .before .before .before .before .args .s) (c .before .before .before .before .padded-size .result) (c .before .before .padded-size2 .result) (c .before .count-of .result) (c .count-of2 .result)
+known c =
+    let st = c .before .before .before .before .before .before .before in
+    let l = c .before .before .before .before .before .luma-size in
+    let z = c .before .before .before .before .padded-size in
+    let k = c .before .before .before .colour-size in
+    let d = c .before .before .padded-size2 in
+    let m = c .before .count-of in
+    let n = c .count-of2 in
+    measures-of (st .args .s) (st .args .matrix .now) (st .pre) (l .result) (k .result) (z .result) (d .result) (m .result) (n .result)
+    (l .ensures) (z .ensures) (k .ensures) (d .ensures) (m .ensures) (n .ensures)
+
+luma-size-requires : tie.Need-luma-size-requires
+luma-size-requires c κs = search needs
+
+padded-size-requires : tie.Need-padded-size-requires
+padded-size-requires c κs =
+    let st = c .before .before in
+    padded-asks (st .args .s) (c .luma-size .result) (lumaSize (st .args .s)) (st .pre .depths) (st .pre .luma) (c .luma-size .ensures)
+
+colour-size-requires : tie.Need-colour-size-requires
+colour-size-requires c κs = search needs
+
+padded-size-requires-2 : tie.Need-padded-size-requires-2
+padded-size-requires-2 c κs =
+    let st = c .before .before .before .before in
+    padded-asks (st .args .s) (c .colour-size .result) (colourSize (st .args .s)) (st .pre .depths) (st .pre .colour) (c .colour-size .ensures)
+
+count-of-requires : tie.Need-count-of-requires
+count-of-requires c κs = search needs
+
+count-of-requires-2 : tie.Need-count-of-requires-2
+count-of-requires-2 c κs = search needs
+
+add-front : tie.Need-add-front
+add-front c = let k = known c in omega (arith, k .luma-few, k .colour-few)
+
+add-front-2 : tie.Need-add-front-2
+add-front-2 c = let k = known c in omega (arith, k .luma-few, k .colour-few)
+
+layout-of-requires : tie.Need-layout-of-requires
+layout-of-requires c κs = search needs
+
+component-at-requires : tie.Need-component-at-requires
+component-at-requires c κs = search needs
+
+add-component-at : tie.Need-add-component-at
+add-component-at c = let k = known (c .before .before) in omega (arith, k .luma-few, k .colour-few)
+
+component-at-requires-2 : tie.Need-component-at-requires-2
+component-at-requires-2 c κs = search needs
+
+add-component-at-2 : tie.Need-add-component-at-2
+add-component-at-2 c = let k = known (c .before .before .before) in omega (arith, k .luma-few, k .colour-few)
+
+add-component-at-3 : tie.Need-add-component-at-3
+add-component-at-3 c = let k = known (c .before .before .before) in omega (arith, k .luma-few, k .colour-few)
+
+add-component-at-4 : tie.Need-add-component-at-4
+add-component-at-4 c = let k = known (c .before .before .before) in omega (arith, k .luma-few, k .colour-few)
+
+component-at-requires-3 : tie.Need-component-at-requires-3
+component-at-requires-3 c κs = search needs
+
+add-t13 : tie.Need-add-t13
+add-t13 c = let k = known (c .before .before .before .before) in omega (arith, k .luma-few, k .colour-few)
+
+returns : tie.Need-returns
+returns c =
+    let m = c .before .before .before .before in
+    let st = m .before .before .before .before .before .before .before in
+    let l = c .before .before .before .layout-of in
+    let y = c .before .before .component-at in
+    let c1 = c .before .component-at2 in
+    let c2 = c .component-at3 in
+    picture-is (st .args .s) (st .args .matrix .now) (m .before .before .before .before .padded-size .result) (m .before .before .padded-size2 .result) (m .before .count-of .result) (m .count-of2 .result) (known m)
+    (l .result) (y .result) (c1 .result) (c2 .result) (l .ensures) (y .ensures) (c1 .ensures) (c2 .ensures)
+
+pub picture-of-spec : {M : Type 1} → statement M
+picture-of-spec =
+    tie.close
+    (tie.spec
+    luma-size-requires
+    padded-size-requires
+    colour-size-requires
+    padded-size-requires-2
+    count-of-requires
+    count-of-requires-2
+    add-front
+    add-front-2
+    layout-of-requires
+    component-at-requires
+    add-component-at
+    component-at-requires-2
+    add-component-at-2
+    add-component-at-3
+    add-component-at-4
+    component-at-requires-3
+    add-t13
+    returns)

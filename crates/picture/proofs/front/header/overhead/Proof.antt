@@ -1,0 +1,58 @@
+-- `picture::front::header::overhead` meets its contract.
+use native.Mathlib.Omega.{arith}
+use Rattle.picture.specs.Head.{sliceIn}
+use Rattle.picture.specs.HeadLaws.{bytes-of-parts}
+use borrow.Author.Needs.{needs}
+use Rattle.picture.proofs.front.header.overhead.Statement.{statement}
+use Rattle.picture.proofs.front.header.overhead.Tie as tie
+use Rattle.picture.proofs.front.header.overhead.Reads as reads
+use Rattle.picture.proofs.front.header.overhead.Lts as lts
+use Rattle.picture.proofs.front.header.front_len.Reads as front-len-reads
+use Rattle.picture.proofs.front.header.matrix_len.Reads as matrix-len-reads
+use Rattle.picture.proofs.front.header.slice_parameters_len.Reads as slice-parameters-len-reads
+
+front-len-requires : tie.Need-front-len-requires
+front-len-requires c κs = search needs
+
+slice-parameters-len-requires : tie.Need-slice-parameters-len-requires
+slice-parameters-len-requires c κs = search needs
+
+add-bits : tie.Need-add-bits
+add-bits c = search needs
+
+matrix-len-requires : tie.Need-matrix-len-requires
+matrix-len-requires c κs = search needs
+
+add-bits-2 : tie.Need-add-bits-2
+add-bits-2 c = search needs
+
+cast-result : tie.Need-cast-result
+cast-result c = search needs
+
+add-result : tie.Need-add-result
+add-result c = search needs
+
+add-result-2 : tie.Need-add-result-2
+add-result-2 c = search needs
+
+returns : tie.Need-returns
+returns c =
+    let a = c .before .before .before .before .args in
+    let f = c .before .before .front-len .ensures in
+    let p = c .before .slice-parameters-len .ensures in
+    let m = c .matrix-len .ensures in
+    (omega (arith, bytes-of-parts (a .s) (a .matrix .now) (sliceIn (a .p)), f .0, p .0, m .0), omega (arith, f .1, p .1, m .1))
+
+pub overhead-spec : {M : Type 1} → statement M
+overhead-spec =
+    tie.close
+    (tie.spec
+    front-len-requires
+    slice-parameters-len-requires
+    add-bits
+    matrix-len-requires
+    add-bits-2
+    cast-result
+    add-result
+    add-result-2
+    returns)

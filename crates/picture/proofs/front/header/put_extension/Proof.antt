@@ -1,0 +1,61 @@
+-- `picture::front::header::put_extension` meets its contract.
+use native.Mathlib.Omega.{arith}
+use Rattle.codewords.specs.WriterLaws.{wrote-none, wrote-then}
+use mathlib.Core.Bool.{not}
+use lib.Dec.{eqb}
+use Rattle.unit.specs.Parameters.{flagged}
+use Rattle.picture.specs.HeadLaws.{extension-none, extension-some, room-first, room-rest}
+use borrow.Author.Needs.{needs}
+use Rattle.picture.proofs.front.header.put_extension.Statement.{statement}
+use Rattle.picture.proofs.front.header.put_extension.Tie as tie
+use Rattle.picture.proofs.front.header.put_extension.Reads as reads
+use Rattle.picture.proofs.front.header.put_extension.Lts as lts
+use Rattle.picture.proofs.front.header.major_version.Reads as major-version-reads
+use Rattle.picture.proofs.front.header.put_flagged.Reads as put-flagged-reads
+
+major-version-requires : tie.Need-major-version-requires
+major-version-requires c κs = search needs
+
+returns : tie.Need-returns
+returns c =
+    let st = c .before .before .before in
+    rw (extension-none (st .args .s) (omega (arith, c .if1 .taken, c .before .major-version .ensures))) (wrote-none (st .pre))
+
+put-flagged-requires : tie.Need-put-flagged-requires
+put-flagged-requires c κs =
+    let st = c .before .before .before .before .before in
+    let s = st .args .s in
+    let e = extension-some s (omega (arith, c .before .before .if1 .left, c .before .before .before .major-version .ensures)) in
+    let f = flagged (not (eqb (s .«wavelet_index_ho») (s .«wavelet_index»))) (s .«wavelet_index_ho») in
+    let g = flagged (not (eqb (s .«dwt_depth_ho») 0)) (s .«dwt_depth_ho») in
+    room-first f g (rw e at (st .pre))
+
+put-flagged-requires-2 : tie.Need-put-flagged-requires-2
+put-flagged-requires-2 c κs =
+    let st = c .before .before .before .before .before .before .before .before .before .before in
+    let s = st .args .s in
+    let e = extension-some s (omega (arith, c .before .before .before .before .before .before .before .if1 .left, c .before .before .before .before .before .before .before .before .major-version .ensures)) in
+    let f = flagged (not (eqb (s .«wavelet_index_ho») (s .«wavelet_index»))) (s .«wavelet_index_ho») in
+    let g = flagged (not (eqb (s .«dwt_depth_ho») 0)) (s .«dwt_depth_ho») in
+    room-rest f g (rw e at (st .pre)) (c .before .before .before .before .put-flagged .ensures)
+
+same-length : tie.Need-same-length
+same-length c = search needs
+
+returns-2 : tie.Need-returns-2
+returns-2 c =
+    let st = c .before .before .before .before .before .before .before .before .before .before .before .before .before in
+    let s = st .args .s in
+    let e = extension-some s (omega (arith, c .before .before .before .before .before .before .before .before .before .before .if1 .left, c .before .before .before .before .before .before .before .before .before .before .before .major-version .ensures)) in
+    rw e (wrote-then (st .pre .sound) (c .before .before .before .before .before .before .before .put-flagged .ensures) (c .before .before .put-flagged2 .ensures))
+
+pub put-extension-spec : {M : Type 1} → statement M
+put-extension-spec =
+    tie.close
+    (tie.spec
+    major-version-requires
+    returns
+    put-flagged-requires
+    put-flagged-requires-2
+    same-length
+    returns-2)

@@ -1,0 +1,43 @@
+-- `picture::front::header::put_flagged` meets its contract.
+use native.Mathlib.Omega.{arith}
+use Rattle.codewords.specs.WriterLaws.{wrote-then, room-after}
+use Rattle.codewords.specs.Code.{codeU}
+use lib.ListN.{length}
+use Rattle.picture.specs.HeadLaws.{flagged-on, flagged-off, flagged-pos, room-less}
+use borrow.Author.Needs.{needs}
+use Rattle.picture.proofs.front.header.put_flagged.Statement.{statement}
+use Rattle.picture.proofs.front.header.put_flagged.Tie as tie
+use Rattle.picture.proofs.front.header.put_flagged.Reads as reads
+use Rattle.picture.proofs.front.header.put_flagged.Lts as lts
+use Rattle.codewords.proofs.bitio.put_bit.Reads as put-bit-reads
+use Rattle.codewords.proofs.bitio.put_uint.Reads as put-uint-reads
+
+put-bit-requires : tie.Need-put-bit-requires
+put-bit-requires c κs = room-less 1 (c .before .before .pre) (flagged-pos (c .before .before .args .flag) (c .before .before .args .v))
+
+put-uint-requires : tie.Need-put-uint-requires
+put-uint-requires c κs =
+    let st = c .before .before .before .before .before .before .before in
+    let e = flagged-on (st .args .flag) (st .args .v) (c .before .if1 .taken) in
+    room-after (length (codeU (st .args .v))) (rw e at (st .pre)) (c .before .before .before .before .put-bit .ensures) (omega arith)
+
+same-length : tie.Need-same-length
+same-length c = search needs
+
+returns : tie.Need-returns
+returns c =
+    let st = c .before .before .before .before .before .before .before .before .before .before in
+    rw (flagged-on (st .args .flag) (st .args .v) (c .before .before .before .before .if1 .taken)) (wrote-then (st .pre .sound) (c .before .before .before .before .before .before .before .put-bit .ensures) (c .before .before .put-uint .ensures))
+
+same-length-2 : tie.Need-same-length-2
+same-length-2 c = search needs
+
+returns-2 : tie.Need-returns-2
+returns-2 c =
+    let st = c .before .before .before .before .before .before in
+    rw (flagged-off (st .args .flag) (st .args .v) (c .if1 .left)) (c .before .before .before .put-bit .ensures)
+
+pub put-flagged-spec : {M : Type 1} → statement M
+put-flagged-spec =
+    tie.close
+    (tie.spec put-bit-requires put-uint-requires same-length returns same-length-2 returns-2)

@@ -1,0 +1,51 @@
+-- `picture::front::header::put_front` meets its contract.
+use Rattle.codewords.specs.WriterLaws.{wrote-then}
+use Rattle.codewords.specs.Code.{codeU}
+use mathlib.Core.List.{_++_}
+use Rattle.picture.specs.HeadLaws.{extensionOf, frontOf, room-first, room-rest}
+use borrow.Author.Needs.{needs}
+use Rattle.picture.proofs.front.header.put_front.Statement.{statement}
+use Rattle.picture.proofs.front.header.put_front.Tie as tie
+use Rattle.picture.proofs.front.header.put_front.Reads as reads
+use Rattle.picture.proofs.front.header.put_front.Lts as lts
+use Rattle.picture.proofs.front.header.put_extension.Reads as put-extension-reads
+use Rattle.picture.proofs.front.header.put_pair.Reads as put-pair-reads
+
+put-pair-requires : tie.Need-put-pair-requires
+unfolding frontOf
+put-pair-requires c κs =
+    let st = c .before .before in
+    let s = st .args .s in
+    let x = codeU (s .«wavelet_index») ++ codeU (s .«dwt_depth») in
+    let y = codeU (s .«slices_x») ++ codeU (s .«slices_y») in
+    room-first x (extensionOf s ++ y) (st .pre)
+
+put-extension-requires : tie.Need-put-extension-requires
+unfolding frontOf
+put-extension-requires c κs =
+    let st = c .before .before .before .before .before .before in
+    let s = st .args .s in
+    let x = codeU (s .«wavelet_index») ++ codeU (s .«dwt_depth») in
+    let y = codeU (s .«slices_x») ++ codeU (s .«slices_y») in
+    room-first (extensionOf s) y (room-rest x (extensionOf s ++ y) (st .pre) (c .before .before .before .put-pair .ensures))
+
+put-pair-requires-2 : tie.Need-put-pair-requires-2
+unfolding frontOf
+put-pair-requires-2 c κs =
+    let st = c .before .before .before .before .before .before .before .before .before .before in
+    let s = st .args .s in
+    let x = codeU (s .«wavelet_index») ++ codeU (s .«dwt_depth») in
+    let y = codeU (s .«slices_x») ++ codeU (s .«slices_y») in
+    room-rest (extensionOf s) y (room-rest x (extensionOf s ++ y) (st .pre) (c .before .before .before .before .before .before .before .put-pair .ensures)) (c .before .before .before .put-extension .ensures)
+
+same-length : tie.Need-same-length
+same-length c = search needs
+
+returns : tie.Need-returns
+unfolding frontOf
+returns c = wrote-then (c .before .before .before .before .before .before .before .before .before .before .before .before .before .pre .sound) (c .before .before .before .before .before .before .before .before .before .before .put-pair .ensures) (wrote-then (c .before .before .before .before .before .before .before .before .before .before .put-pair .ensures .sound) (c .before .before .before .before .before .before .put-extension .ensures) (c .before .before .put-pair2 .ensures))
+
+pub put-front-spec : {M : Type 1} → statement M
+put-front-spec =
+    tie.close
+    (tie.spec put-pair-requires put-extension-requires put-pair-requires-2 same-length returns)

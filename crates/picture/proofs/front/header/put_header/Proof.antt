@@ -1,0 +1,91 @@
+-- `picture::front::header::put_header` meets its contract.
+use native.Mathlib.Omega.{arith}
+use Rattle.codewords.specs.WriterLaws.{wrote-then, room-after}
+use mathlib.Core.Path.{_≡_, sym, ap, _∙_}
+use mathlib.Core.List.{_++_}
+use Prim.Native.Nat.{ℕ, _+_, _/_, _≤_}
+use lib.ListN.{length}
+use Rattle.codewords.specs.Bit.{Bits, lit}
+use Rattle.codewords.specs.BitLaws.{length-lit}
+use Rattle.unit.specs.Parameters.{Parameters, parameterBits}
+use Rattle.unit.specs.Unit.{majorVersion, parametersBy}
+use Rattle.picture.specs.Head.{sliceIn}
+use Rattle.codewords.specs.WriterLaws.{start-sound}
+use Rattle.picture.specs.HeadLaws.{infoOf, info-length, head-length, head-parts, parameters-bytes, start-room, align-room, head-end, head-bytes}
+use borrow.Author.Needs.{needs}
+use Rattle.picture.proofs.front.header.put_header.Statement.{statement}
+use Rattle.picture.proofs.front.header.put_header.Tie as tie
+use Rattle.picture.proofs.front.header.put_header.Reads as reads
+use Rattle.picture.proofs.front.header.put_header.Lts as lts
+use Rattle.codewords.proofs.bitio.byte_align.Reads as byte-align-reads
+use Rattle.picture.proofs.front.header.put_word.Reads as put-word-reads
+use Rattle.picture.proofs.front.header.write_parse_info.Reads as write-parse-info-reads
+use Rattle.picture.proofs.front.header.write_transform_parameters.Reads as write-transform-parameters-reads
+
+abbrev parameters : tie.Start → Parameters
+parameters c = parametersBy (c .args .s) (c .args .matrix .now) (sliceIn (c .args .p))
+
+abbrev bits : tie.Start → Bits
+bits c = parameterBits (majorVersion (c .args .s)) (parameters c)
+
+abbrev info : tie.Start → Bits
+info c = infoOf (c .args .s .kind) (c .args .n) (c .args .s .«prev_unit_len»)
+
+abbrev number : tie.Start → Bits
+number c = lit 32 (c .args .s .«picture_number»)
+
+length-info : (c : tie.Start) → length (info c) ≡ 104
+length-info c = info-length (c .args .s .kind) (c .args .n) (c .args .s .«prev_unit_len»)
+
+length-front : (c : tie.Start) → length (info c ++ number c) ≡ 136
+length-front c = head-length (c .args .s .kind) (c .args .n) (c .args .s .«prev_unit_len») (c .args .s .«picture_number»)
+
+fits : (c : tie.Start) → 17 + (length (bits c) + 7) / 8 ≤ length (c .args .out .now)
+fits c = rw (parameters-bytes (majorVersion (c .args .s)) (parameters c)) at (c .pre .1)
+
+write-parse-info-requires : tie.Need-write-parse-info-requires
+write-parse-info-requires c κs =
+    let st = c .before .before .before in
+    start-room (st .args .out .now) (length (info st)) (omega (arith, fits st, length-info st))
+
+put-word-requires : tie.Need-put-word-requires
+put-word-requires c κs =
+    let st = c .before .before .before .before .before .before .before in
+    room-after (length (number st)) (start-room (st .args .out .now) 136 (omega (arith, fits st))) (c .before .before .before .write-parse-info .ensures)
+    (omega (arith, length-info st, length-lit 32 (st .args .s .«picture_number»)))
+
+write-transform-parameters-requires : tie.Need-write-transform-parameters-requires
+write-transform-parameters-requires c κs =
+    let st = c .before .before .before .before .before .before .before .before .before .before .before in
+    room-after (length (bits st)) (start-room (st .args .out .now) (136 + length (bits st)) (omega (arith, fits st)))
+    (wrote-then (start-sound 0) (c .before .before .before .before .before .before .before .write-parse-info .ensures) (c .before .before .before .put-word .ensures)) (omega (arith, length-front st))
+
+byte-align-requires : tie.Need-byte-align-requires
+byte-align-requires c κs =
+    let st = c .before .before .before .before .before .before .before .before .before .before .before .before .before .before .before in
+    align-room (info st ++ number st) (bits st) (length-front st) (fits st)
+    (wrote-then (start-sound 0) (wrote-then (start-sound 0) (c .before .before .before .before .before .before .before .before .before .before .before .write-parse-info .ensures) (c .before .before .before .before .before .before .before .put-word .ensures)) (c .before .before .before .write-transform-parameters .ensures))
+
+same-length : tie.Need-same-length
+same-length c = search needs
+
+returns : tie.Need-returns
+returns c =
+    let st = c .before .before .before .before .before .before .before .before .before .before .before .before .before .before .before .before .before .before in
+    let h = info st ++ number st in
+    let p = wrote-then (start-sound 0) (wrote-then (start-sound 0) (c .before .before .before .before .before .before .before .before .before .before .before .before .before .before .write-parse-info .ensures) (c .before .before .before .before .before .before .before .before .before .before .put-word .ensures)) (c .before .before .before .before .before .before .write-transform-parameters .ensures) in
+    let q = c .before .before .byte-align .ensures in (
+      head-end h (bits st) (length-front st) (fits st) p q ∙ ap (λ (k : ℕ). 17 + k) (sym (parameters-bytes (majorVersion (st .args .s)) (parameters st))),
+      rw (head-parts (st .args .s) (st .args .n) (parameters st)) (head-bytes h (bits st) (length-front st) (fits st) p q),
+    )
+
+pub put-header-spec : {M : Type 1} → statement M
+put-header-spec =
+    tie.close
+    (tie.spec
+    write-parse-info-requires
+    put-word-requires
+    write-transform-parameters-requires
+    byte-align-requires
+    same-length
+    returns)

@@ -1,0 +1,29 @@
+-- `picture::front::header::put_pair` meets its contract.
+use Rattle.codewords.specs.WriterLaws.{wrote-then}
+use Rattle.codewords.specs.Code.{codeU}
+use Rattle.picture.specs.HeadLaws.{room-first, room-rest}
+use borrow.Author.Needs.{needs}
+use Rattle.picture.proofs.front.header.put_pair.Statement.{statement}
+use Rattle.picture.proofs.front.header.put_pair.Tie as tie
+use Rattle.picture.proofs.front.header.put_pair.Reads as reads
+use Rattle.picture.proofs.front.header.put_pair.Lts as lts
+use Rattle.codewords.proofs.bitio.put_uint.Reads as put-uint-reads
+
+put-uint-requires : tie.Need-put-uint-requires
+put-uint-requires c κs =
+    let st = c .before .before in
+    room-first (codeU (st .args .a)) (codeU (st .args .b)) (st .pre)
+
+put-uint-requires-2 : tie.Need-put-uint-requires-2
+put-uint-requires-2 c κs =
+    let st = c .before .before .before .before .before .before in
+    room-rest (codeU (st .args .a)) (codeU (st .args .b)) (st .pre) (c .before .before .before .put-uint .ensures)
+
+same-length : tie.Need-same-length
+same-length c = search needs
+
+returns : tie.Need-returns
+returns c = wrote-then (c .before .before .before .before .before .before .before .before .before .pre .sound) (c .before .before .before .before .before .before .put-uint .ensures) (c .before .before .put-uint2 .ensures)
+
+pub put-pair-spec : {M : Type 1} → statement M
+put-pair-spec = tie.close (tie.spec put-uint-requires put-uint-requires-2 same-length returns)

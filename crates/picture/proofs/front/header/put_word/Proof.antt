@@ -1,0 +1,23 @@
+-- `picture::front::header::put_word` meets its contract.
+use native.Mathlib.Omega.{arith}
+use Rattle.codewords.specs.BitLaws.{length-lit}
+use borrow.Author.Needs.{needs}
+use Rattle.picture.proofs.front.header.put_word.Statement.{statement}
+use Rattle.picture.proofs.front.header.put_word.Tie as tie
+use Rattle.picture.proofs.front.header.put_word.Reads as reads
+use Rattle.picture.proofs.front.header.put_word.Lts as lts
+use Rattle.codewords.proofs.bitio.put_nbits.Reads as put-nbits-reads
+
+put-nbits-requires : tie.Need-put-nbits-requires
+put-nbits-requires c κs =
+    let st = c .before .before in
+    (rw (length-lit 32 (st .args .v)) at (st .pre), omega arith)
+
+same-length : tie.Need-same-length
+same-length c = search needs
+
+returns : tie.Need-returns
+returns c = search needs
+
+pub put-word-spec : {M : Type 1} → statement M
+put-word-spec = tie.close (tie.spec put-nbits-requires same-length returns)

@@ -1,0 +1,66 @@
+-- `high::choice::pack_slice` meets its contract.
+use native.Mathlib.Omega.{arith}
+use Rattle.picture.specs.PackSliceLaws.{run-after, y-ready, c1-ready, c2-ready, slice-chosen, slice-packed}
+use borrow.Author.Needs.{needs}
+use Rattle.picture.proofs.high.choice.pack_slice.Statement.{statement}
+use Rattle.picture.proofs.high.choice.pack_slice.Tie as tie
+use Rattle.picture.proofs.high.choice.pack_slice.Reads as reads
+use Rattle.picture.proofs.high.choice.pack_slice.Lts as lts
+use Rattle.picture.proofs.high.packed.pack_run.Reads as pack-run-reads
+
+pack-run-requires : tie.Need-pack-run-requires
+pack-run-requires c κs =
+    let st = c .before .before .before .before .before in
+    let a = st .args in
+    y-ready (a .p) (a .k) (a .q) (a .from) (st .pre .0) (st .pre .1 .0) (st .pre .1 .1)
+
+pack-run-requires-2 : tie.Need-pack-run-requires-2
+pack-run-requires-2 c κs =
+    let st = c .before .before .before .before .before .before .before .before in
+    let a = st .args in
+    let y = c .before .before .pack-run .ensures in
+    c1-ready (a .p) (a .k) (a .q) (a .from) (st .pre .0) (st .pre .1 .0) (st .pre .1 .1) (y .0) (y .1)
+
+pack-run-requires-3 : tie.Need-pack-run-requires-3
+pack-run-requires-3 c κs =
+    let st = c .before .before .before .before .before .before .before .before .before .before .before in
+    let a = st .args in
+    let y = c .before .before .before .before .before .pack-run .ensures in
+    let c1 = c .before .before .pack-run2 .ensures in
+    c2-ready (a .p) (a .k) (a .q) (a .from) (st .pre .0) (st .pre .1 .0) (st .pre .1 .1) (y .0) (c1 .0) (c1 .1)
+
+sub-t19 : tie.Need-sub-t19
+sub-t19 c = omega (arith, run-after (c .before .before .before .before .before .before .before .before .pack-run .ensures .0))
+
+sub-t21 : tie.Need-sub-t21
+sub-t21 c = omega (arith, run-after (c .before .before .before .before .before .before .before .pack-run2 .ensures .0))
+
+sub-t23 : tie.Need-sub-t23
+sub-t23 c = omega (arith, run-after (c .before .before .before .before .before .before .pack-run3 .ensures .0))
+
+same-length : tie.Need-same-length
+same-length c = search needs
+
+returns : tie.Need-returns
+returns c =
+    let st = c .before .before .before .before .before .before .before .before .before .before .before .before .before .before .before .before .before .before in
+    let a = st .args in
+    let y = c .before .before .before .before .before .before .before .before .before .before .before .before .pack-run .ensures in
+    let c1 = c .before .before .before .before .before .before .before .before .before .pack-run2 .ensures in
+    let c2 = c .before .before .before .before .before .before .pack-run3 .ensures in (
+      slice-chosen (a .p) (a .k) (a .q) (a .from) (st .pre .0) (st .pre .1 .0) (st .pre .1 .1) (y .0) (c1 .0) (c2 .0),
+      (slice-packed (a .p) (a .k) (a .q) (a .from) (st .pre .0) (st .pre .1 .0) (st .pre .1 .1) (y .0) (c1 .0) (c2 .0), c2 .1),
+    )
+
+pub pack-slice-spec : {M : Type 1} → statement M
+pack-slice-spec =
+    tie.close
+    (tie.spec
+    pack-run-requires
+    pack-run-requires-2
+    pack-run-requires-3
+    sub-t19
+    sub-t21
+    sub-t23
+    same-length
+    returns)

@@ -1,0 +1,40 @@
+-- `high::election::trimmed_run` meets its contract.
+use mathlib.Core.Path.{_∙_}
+use mathlib.Core.Bool.{false}
+use native.Mathlib.Omega.{arith}
+use borrow.Author.Needs.{needs}
+use Rattle.picture.specs.TallyLaws.{tally-keeps, tally-trimmed, TallyOf}
+use Rattle.picture.specs.Picture.{runOf}
+use Rattle.picture.specs.LayoutLaws.{run-window, first-addable, tally-whole}
+use Rattle.picture.proofs.high.election.trimmed_run.Statement.{statement}
+use Rattle.picture.proofs.high.election.trimmed_run.Tie as tie
+use Rattle.picture.proofs.high.election.trimmed_run.Reads as reads
+use Rattle.picture.proofs.high.election.trimmed_run.Lts as lts
+use Rattle.picture.proofs.slices.run.first_tally.Reads as first-tally-reads
+
+-- the tally of the whole run
+whole : (c : tie.After-rest-tally) → let a = c .before .before .before .before .args in TallyOf (runOf (a .work .now) (a .p) (a .c) (a .k) (a .q)) (c .rest-tally .result)
+whole c =
+    let a = c .before .before .before .before .args in
+    tally-whole (a .work .now) (a .p .layout) (a .c) (a .c) false (a .k) (a .q) (c .rest-tally .result) (c .before .first-tally .result) (c .before .first-tally .ensures) (c .rest-tally .ensures)
+
+window-at-requires : tie.Need-window-at-requires
+window-at-requires c κs = run-window (c .before .pre .0) 0 (omega arith)
+
+first-tally-requires : tie.Need-first-tally-requires
+first-tally-requires c κs = search needs
+
+rest-tally-requires : tie.Need-rest-tally-requires
+rest-tally-requires c κs =
+    let st = c .before .before .before in
+    let a = st .args in
+    (st .pre .0, (first-addable (a .work .now) (a .p .layout) (a .c) (a .c) false (a .k) (a .q) (st .pre .0) (st .pre .1) (c .first-tally .result) (c .first-tally .ensures), c .before .window-at .ensures))
+
+trimmed-of-requires : tie.Need-trimmed-of-requires
+trimmed-of-requires c κs = tally-keeps (whole c)
+
+returns : tie.Need-returns
+returns c = c .trimmed-of .ensures ∙ tally-trimmed (whole (c .before))
+
+pub trimmed-run-spec : {M : Type 1} → statement M
+trimmed-run-spec = tie.close (tie.spec window-at-requires first-tally-requires rest-tally-requires trimmed-of-requires returns)

@@ -1,0 +1,70 @@
+-- `picture::high::packed::pack_strip` meets its contract. The loop's invariant: the rows above y are packed.
+use mathlib.Core.Path.{_≡_, sym, ap, _∙_}
+use Prim.Native.Nat.{_-_, _≤_}
+use native.Mathlib.Omega.{arith}
+use Rattle.laws.specs.Chunks.{chunks}
+use Rattle.picture.specs.Run.{Small}
+use Rattle.picture.specs.RunLaws.{rows, rows-chunks}
+use Rattle.picture.specs.Packed.{Packs}
+use Rattle.picture.specs.PackedLaws.{packs-same, packs-start, packs-length, single-in, strip-ready, strip-turn}
+use Rattle.picture.proofs.high.packed.pack_strip.Statement.{statement}
+use Rattle.picture.proofs.high.packed.pack_strip.Tie as tie
+
+abbrev Inv-loop : tie.InvT-loop
+Inv-loop work₀ a n s r₀ y₀ work r y =
+    (s .top ≤ y) × ((y ≤ s .bottom) × (Packs work₀ r₀ (chunks (rows work₀ s (s .top)) (y - s .top)) work r × Small a n work))
+
+abbrev μ-loop : tie.MeasureT-loop
+μ-loop work₀ a n s r₀ y₀ work r y = s .bottom - y
+
+loop-holds : tie.Need-loop-holds Inv-loop μ-loop
+loop-holds c =
+    let a = c .args in
+    let h = c .pre .0 .plain in
+    (omega arith, (h .within .rows, (packs-start (rows (a .work .now) (a .s) (a .s .top)) (a .work .now) (a .t) (a .s .top), h .small)))
+
+pack-row-requires : tie.Need-pack-row-requires Inv-loop μ-loop
+pack-row-requires c κs =
+    let st = c .before .before .before .before in
+    let l = c .before .before .before .loop in
+    let d = c .before .if1 .taken in
+    (single-in (st .pre .0) (l .inv .1 .1 .1), (l .inv .0, (d, strip-ready (st .pre .0) (l .y) (l .inv .0) d (st .pre .1) (l .inv .1 .1 .0))))
+
+add-y : tie.Need-add-y Inv-loop μ-loop
+add-y c = omega arith
+
+loop-less : tie.Need-loop-less Inv-loop μ-loop
+loop-less c = omega arith
+
+loop-again : tie.Need-loop-again Inv-loop μ-loop
+loop-again c =
+    let st = c .before .before .before .before .before .before in
+    let l = c .before .before .before .before .before .loop in
+    let d = c .before .before .before .if1 .taken in
+    let e = c .before .pack-row .ensures in
+    (omega (arith, l .inv .0), (omega (arith, d), (strip-turn (st .pre .0) (l .y) (l .inv .0) d (st .pre .1) (l .inv .1 .1 .0) (e .0), e .1)))
+
+same-length : tie.Need-same-length Inv-loop μ-loop
+same-length c = packs-length (c .before .before .loop .inv .1 .1 .0)
+
+returns : tie.Need-returns Inv-loop μ-loop
+returns c =
+    let a = c .before .before .before .args in
+    let l = c .before .before .loop in
+    let e : l .y - a .s .top ≡ a .s .bottom - a .s .top = omega (arith, l .inv .1 .0, c .if1 .left) in
+    let F = rows (a .work .now) (a .s) (a .s .top) in
+    (packs-same (ap (chunks F) e ∙ sym (rows-chunks (a .work .now) (a .s) (a .s .top) (a .s .bottom - a .s .top))) (l .inv .1 .1 .0), l .inv .1 .1 .1)
+
+pub pack-strip-spec : {M : Type 1} → statement M
+pack-strip-spec =
+    tie.close
+    (tie.spec
+    Inv-loop
+    μ-loop
+    loop-holds
+    pack-row-requires
+    add-y
+    loop-less
+    loop-again
+    same-length
+    returns)

@@ -1,0 +1,96 @@
+-- `low::bracket::bracket_at` meets its contract. The invariant: the runs at hand are known, and what the candidates left
+-- in the work slice is rebuilt as if none had been tried.
+use mathlib.Core.Logic.{⊎-elim}
+use Prim.Native.Nat.{_≤_}
+use Rattle.picture.specs.Low.{Tried}
+use Rattle.picture.specs.LowRest.{Known}
+use Rattle.picture.specs.AgainLaws.{tried-none, tried-more, tried-then}
+use Rattle.picture.specs.LowRestLaws.{slice-at, known-is, known-rebuilt}
+use native.Mathlib.Omega.{arith}
+use Rattle.picture.proofs.low.bracket.bracket_at.Statement.{statement}
+use Rattle.picture.proofs.low.bracket.bracket_at.Tie as tie
+
+abbrev Inv-loop : tie.InvT-loop
+Inv-loop work₀ p room k g v down low₀ high₀ q₀ step₀ left₀ work low high q step left =
+    Tried p k work₀ work × ((Known work p k low × Known work p k high) × ((q ≤ 127) × ((1 ≤ step) × (step ≤ 256))))
+
+abbrev μ-loop : tie.MeasureT-loop
+μ-loop work₀ p room k g v down low₀ high₀ q₀ step₀ left₀ work low high q step left = left
+
+probe-at-requires : tie.Need-probe-at-requires Inv-loop μ-loop
+probe-at-requires c κs = let h = c .before .pre in (slice-at (c .before .args .work .now) (c .before .args .g) (h .0) (h .0 .small) (omega (arith, h .1 .0)), h .1 .1)
+
+loop-holds : tie.Need-loop-holds Inv-loop μ-loop
+loop-holds c =
+    let st = c .before .before .before .before .before in
+    let t = c .before .before .before .probe-at in
+    let d = t .ensures .1 in
+    (tried-none (st .args .p) (st .args .k) (t .last .0) (d .0), ((d .1, d .1), (st .pre .1 .0, (omega arith, omega arith))))
+
+moved-requires : tie.Need-moved-requires Inv-loop μ-loop
+moved-requires c κs = let v = c .before .loop .inv .1 .1 in (v .0, v .1 .1)
+
+probe-at-requires-2 : tie.Need-probe-at-requires-2 Inv-loop μ-loop
+probe-at-requires-2 c κs =
+    let v = c .before .before .before .loop in
+    let m = c .before .moved in
+    let h = c .before .before .before .before .before .before .before .before .before .pre in
+    (slice-at (v .work) (m .result) (h .0) (v .inv .0 .small) (omega (arith, m .ensures)), h .1 .1)
+
+turns-left-requires : tie.Need-turns-left-requires Inv-loop μ-loop
+turns-left-requires c κs = c .before .before .before .before .before .before .before .loop-test .taken
+
+widened-requires : tie.Need-widened-requires Inv-loop μ-loop
+widened-requires c κs = c .before .before .before .before .before .before .before .before .before .loop .inv .1 .1 .1
+
+loop-less : tie.Need-loop-less Inv-loop μ-loop
+loop-less c = omega arith
+
+loop-again : tie.Need-loop-again Inv-loop μ-loop
+loop-again c =
+    let st = c .before .before .before .before .before .before .before .before .before .before .before .before .before .before .before .before in
+    let a = st .args in
+    let v = c .before .before .before .before .before .before .before .before .before .before .loop in
+    let m = c .before .before .before .before .before .before .before .before .moved in
+    let t = c .before .before .before .before .before .before .probe-at2 in
+    let e = t .ensures in
+    let w = c .before .before .before .before .before .before .before .before .before .before .before .before .before .before .probe-at .last .0 in
+    let i = slice-at (v .work) 0 (st .pre .0) (v .inv .0 .small) (omega arith) in
+    let low = known-rebuilt (t .last .0) (m .result) i (e .0) (v .inv .1 .0 .0) in
+    let high = known-rebuilt (t .last .0) (m .result) i (e .0) (v .inv .1 .0 .1) in
+    let here = e .1 .1 in (
+      tried-more (a .p) (a .k) w (v .work) (t .last .0) (m .result) (st .pre .0 .arranged) (st .pre .0 .slice) (v .inv .0) (e .0) (e .1 .0),
+      (⊎-elim (λ x. (known-is (x .1) low, known-is (x .2) here)) (λ x. (known-is (x .1) here, known-is (x .2) high)) (c .before .before .before .if1 .came), (m .ensures, c .widened .ensures)),
+    )
+
+returns : tie.Need-returns Inv-loop μ-loop
+returns c =
+    let st = c .before .before .before .before .before .before .before in
+    let a = st .args in
+    let t = c .before .before .before .before .before .probe-at in
+    let v = c .before .loop in (
+      tried-then (a .p) (a .k) (a .work .now) (t .last .0) (v .work)
+          (tried-more (a .p) (a .k) (a .work .now) (a .work .now) (t .last .0) (a .g) (st .pre .0 .arranged) (st .pre .0 .slice) (tried-none (a .p) (a .k) (a .work .now) (st .pre .0 .small)) (t .ensures .0) (t .ensures .1 .0))
+          (v .inv .0),
+      v .inv .1 .0,
+    )
+
+same-length : tie.Need-same-length Inv-loop μ-loop
+same-length c = returns c .0 .size
+
+pub bracket-at-spec : {M : Type 1} → statement M
+bracket-at-spec =
+    tie.close
+    (tie.spec
+    Inv-loop
+    μ-loop
+    probe-at-requires
+    loop-holds
+    moved-requires
+    probe-at-requires-2
+    turns-left-requires
+    widened-requires
+    loop-less
+    loop-again
+    same-length
+    returns)

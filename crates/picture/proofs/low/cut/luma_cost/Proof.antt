@@ -1,0 +1,23 @@
+-- `low::cut::luma_cost` meets its contract.
+use mathlib.Core.Path.{ap, _∙_}
+use Rattle.picture.specs.declared.slices.cost.Cost.{Cost}
+use Rattle.picture.specs.Cost.{addAll}
+use Rattle.picture.specs.Low.{lumaIn}
+use Rattle.picture.specs.LowIndexLaws.{luma-ready}
+use borrow.Author.Needs.{needs}
+use Rattle.picture.proofs.low.cut.luma_cost.Statement.{statement}
+use Rattle.picture.proofs.low.cut.luma_cost.Tie as tie
+
+no-cost-requires : tie.Need-no-cost-requires
+no-cost-requires c κs = search needs
+
+cost-run-requires : tie.Need-cost-run-requires
+cost-run-requires c κs = let st = c .before .before .before in rw (c .before .before .no-cost .ensures) (luma-ready (st .args .room) (st .pre))
+
+returns : tie.Need-returns
+returns c =
+    let a = c .before .before .before .before .args in
+    c .cost-run .ensures ∙ ap (λ (t : Cost). addAll t (lumaIn (a .work .now) (a .p) (a .k) (a .q))) (c .before .before .before .no-cost .ensures)
+
+pub luma-cost-spec : {M : Type 1} → statement M
+luma-cost-spec = tie.close (tie.spec no-cost-requires cost-run-requires returns)

@@ -1,0 +1,101 @@
+-- `low::election::elect_qindex` meets its contract. The invariant: the search in the range ends where the whole one does,
+-- what the candidates left in the work slice is rebuilt as if none had been tried, and the runs at hand are known.
+use mathlib.Core.Path.{ap, _∙_}
+use mathlib.Core.Bool.{Bool}
+use Prim.Native.Nat.{ℕ, _-_}
+use Rattle.unit.specs.Elect.{elect}
+use Rattle.picture.specs.Low.{lowFitsIn, Tried}
+use Rattle.picture.specs.LowRest.{Known}
+use Rattle.picture.specs.ElectLoopLaws.{Halving, halving-start, halving-middle, halving-less, halving-turn, halving-end, halving-low}
+use Rattle.picture.specs.AgainLaws.{tried-none, tried-more, tried-then, tried-fits}
+use Rattle.picture.specs.LowRestLaws.{slice-at}
+use native.Mathlib.Omega.{arith}
+use Rattle.picture.proofs.low.election.elect_qindex.Statement.{statement}
+use Rattle.picture.proofs.low.election.elect_qindex.Tie as tie
+
+abbrev Inv-loop : tie.InvT-loop
+Inv-loop work₀ p room k g v low₀ high₀ r₀ work low high r =
+    Halving (lowFitsIn work₀ p room k) 127 r × (Tried p k work₀ work × (Known work p k low × Known work p k high))
+
+abbrev μ-loop : tie.MeasureT-loop
+μ-loop work₀ p room k g v low₀ high₀ r₀ work low high r = r .hi - r .lo
+
+bracket-at-requires : tie.Need-bracket-at-requires Inv-loop μ-loop
+bracket-at-requires c κs = c .before .pre
+
+loop-holds : tie.Need-loop-holds Inv-loop μ-loop
+loop-holds c =
+    let a = c .before .before .before .before .before .args in
+    let b = c .before .before .before .bracket-at in
+    (halving-start (lowFitsIn (b .last .0) (a .p) (a .room) (a .k)) 127, (tried-none (a .p) (a .k) (b .last .0) (b .ensures .0 .small), b .ensures .1))
+
+middle-requires : tie.Need-middle-requires Inv-loop μ-loop
+middle-requires c κs =
+    let v = c .before .before .loop .inv .0 in
+    (omega (arith, v .order, v .most), omega (arith, v .most))
+
+fits-requires : tie.Need-fits-requires Inv-loop μ-loop
+fits-requires c κs =
+    let v = c .before .before .before .before .loop in
+    let m = c .before .middle in
+    let h = c .before .before .before .before .before .before .before .before .before .before .pre in
+    (slice-at (v .work) (m .result) (h .0) (v .inv .1 .0 .small) (omega (arith, halving-middle (v .inv .0) (m .result) (m .ensures))), (v .inv .1 .1, h .1 .1))
+
+narrowed-requires : tie.Need-narrowed-requires Inv-loop μ-loop
+narrowed-requires c κs =
+    let v = c .before .before .before .before .before .before .before .before .loop in
+    let m = c .before .before .before .before .before .middle in
+    omega (arith, halving-middle (v .inv .0) (m .result) (m .ensures))
+
+loop-less : tie.Need-loop-less Inv-loop μ-loop
+loop-less c =
+    let v = c .before .before .before .before .before .before .before .before .before .loop in
+    let m = c .before .before .before .before .before .before .middle in
+    halving-less (v .r) (m .result) (c .before .before .before .before .before .before .before .if1 .taken) (m .ensures) (c .before .before .before .before .fits2 .result .fits) (c .narrowed .result) (c .narrowed .ensures)
+
+loop-again : tie.Need-loop-again Inv-loop μ-loop
+loop-again c =
+    let st = c .before .before .before .before .before .before .before .before .before .before .before .before .before .before .before in
+    let a = st .args in
+    let w = c .before .before .before .before .before .before .before .before .before .before .before .before .before .bracket-at .last .0 in
+    let v = c .before .before .before .before .before .before .before .before .before .loop in
+    let m = c .before .before .before .before .before .before .middle in
+    let f = c .before .before .before .before .fits2 in
+    let e = f .ensures in (
+      halving-turn (v .r) (m .result) (c .before .before .before .before .before .before .before .if1 .taken) (m .ensures) (v .inv .0) (f .result .fits) (c .narrowed .result)
+          (e .0 ∙ ap (λ (g : ℕ → Bool). g (m .result)) (tried-fits (a .p) (a .k) w (v .work) (a .room) (v .inv .1 .0)))
+          (c .narrowed .ensures),
+      (
+        tried-more (a .p) (a .k) w (v .work) (f .last .0) (m .result) (st .pre .0 .arranged) (st .pre .0 .slice) (v .inv .1 .0) (e .1 .0) (e .1 .1 .0),
+        e .1 .1 .1,
+      ),
+    )
+
+returns : tie.Need-returns Inv-loop μ-loop
+returns c =
+    let a = c .before .before .before .before .before .before .before .before .args in
+    let b = c .before .before .before .before .before .before .bracket-at in
+    let v = c .before .before .loop in
+    let t = b .ensures .0 in (
+      halving-end (v .inv .0) (omega (arith, c .if1 .left)) ∙ ap (elect 0 127) (tried-fits (a .p) (a .k) (a .work .now) (b .last .0) (a .room) t),
+      (halving-low (v .inv .0), (tried-then (a .p) (a .k) (a .work .now) (b .last .0) (v .work) t (v .inv .1 .0), v .inv .1 .1 .1)),
+    )
+
+same-length : tie.Need-same-length Inv-loop μ-loop
+same-length c = returns c .1 .1 .0 .size
+
+pub elect-qindex-spec : {M : Type 1} → statement M
+elect-qindex-spec =
+    tie.close
+    (tie.spec
+    Inv-loop
+    μ-loop
+    bracket-at-requires
+    loop-holds
+    middle-requires
+    fits-requires
+    narrowed-requires
+    loop-less
+    loop-again
+    same-length
+    returns)

@@ -1,0 +1,31 @@
+-- `picture::low::put::put_number` meets its contract.
+use native.Mathlib.Omega.{arith}
+use mir.Syntax.{w64}
+use mir.Facts.{toZ-ofZ}
+use mathlib.Core.List.{[], _∷_}
+use Rattle.picture.specs.PutLaws.{puts-past, puts-one, room-one}
+use borrow.Author.Needs.{needs}
+use Rattle.picture.proofs.low.put.put_number.Statement.{statement}
+use Rattle.picture.proofs.low.put.put_number.Tie as tie
+
+returns : tie.Need-returns
+returns c = let st = c .before .before .before in puts-past (st .args .z ∷ []) (st .pre) (c .if1 .taken)
+
+put-sint-requires : tie.Need-put-sint-requires
+put-sint-requires c κs =
+    let st = c .before .before .before .before .before in
+    rw (toZ-ofZ {w = w64} (st .fits .z)) (room-one (st .args .p) (st .args .z) (omega (arith, c .before .before .if1 .left)) (st .pre))
+
+sub-t9 : tie.Need-sub-t9
+sub-t9 c = search needs
+
+same-length : tie.Need-same-length
+same-length c = search needs
+
+returns-2 : tie.Need-returns-2
+returns-2 c =
+    let st = c .before .before .before .before .before .before .before .before .before in
+    puts-one (st .args .z) (omega (arith, c .before .before .before .before .before .before .if1 .left)) (rw (toZ-ofZ {w = w64} (st .fits .z)) at (c .before .before .before .put-sint .ensures))
+
+pub put-number-spec : {M : Type 1} → statement M
+put-number-spec = tie.close (tie.spec returns put-sint-requires sub-t9 same-length returns-2)

@@ -1,0 +1,33 @@
+-- `picture::low::put::put_row` meets its contract.
+use borrow.Author.Needs.{needs}
+use Prim.Native.Nat.{_-_}
+use Rattle.picture.specs.Run.{rowNumbers}
+use Rattle.picture.specs.PutLaws.{puts-past}
+use Rattle.picture.proofs.low.put.put_row.Statement.{statement}
+use Rattle.picture.proofs.low.put.put_row.Tie as tie
+
+returns : tie.Need-returns
+returns c = let st = c .before .before .before in let a = st .args in puts-past (rowNumbers (a .work .now) (a .s) (a .y) (a .s .left) (a .s .right - a .s .left)) (st .pre .0) (c .if1 .taken)
+
+put-places-requires : tie.Need-put-places-requires
+put-places-requires c κs = search needs
+
+same-length : tie.Need-same-length
+same-length c = search needs
+
+returns-2 : tie.Need-returns-2
+returns-2 c = search needs
+
+put-plain-places-requires : tie.Need-put-plain-places-requires
+put-plain-places-requires c κs =
+    let h = c .before .before .before .before .before .pre in
+    (h .0, (record { small = h .1 .0; within = h .1 .1 .0; plain = c .before .if2 .left }, h .1 .1 .1))
+
+same-length-2 : tie.Need-same-length-2
+same-length-2 c = search needs
+
+returns-3 : tie.Need-returns-3
+returns-3 c = search needs
+
+pub put-row-spec : {M : Type 1} → statement M
+put-row-spec = tie.close (tie.spec returns put-places-requires same-length returns-2 put-plain-places-requires same-length-2 returns-3)

@@ -1,0 +1,39 @@
+-- `low::slice::put_runs` meets its contract.
+use lib.ListN.{take}
+use Rattle.codewords.specs.Bit.{Bits}
+use Rattle.codewords.specs.Code.{codes}
+use Rattle.codewords.specs.WriterLaws.{wrote-then}
+use Rattle.picture.specs.HeadLaws.{room-first, room-rest}
+use Rattle.picture.specs.Low.{lumaIn, colourIn}
+use Rattle.picture.specs.PictureLaws.{run-y, run-pair}
+use borrow.Author.Needs.{needs}
+use Rattle.picture.proofs.low.slice.put_runs.Statement.{statement}
+use Rattle.picture.proofs.low.slice.put_runs.Tie as tie
+use Rattle.picture.proofs.low.slice.put_runs.Reads as reads
+use Rattle.picture.proofs.low.slice.put_runs.Lts as lts
+use Rattle.picture.proofs.low.put.put_run.Reads as put-run-reads
+
+abbrev lumaBits : tie.Start → Bits
+lumaBits c = codes (take (c .args .r .luma) (lumaIn (c .args .work .now) (c .args .p) (c .args .k) (c .args .q)))
+
+abbrev colourBits : tie.Start → Bits
+colourBits c = codes (take (c .args .r .colour) (colourIn (c .args .work .now) (c .args .p) (c .args .k) (c .args .q)))
+
+put-run-requires : tie.Need-put-run-requires
+put-run-requires c κs =
+    let st = c .before .before .before .before .before .before in
+    (run-y (st .pre .0), room-first (lumaBits st) (colourBits st) (st .pre .1))
+
+put-run-requires-2 : tie.Need-put-run-requires-2
+put-run-requires-2 c κs =
+    let st = c .before .before .before .before .before .before .before .before .before .before .before in
+    (run-pair (st .pre .0), room-rest (lumaBits st) (colourBits st) (st .pre .1) (c .before .before .before .before .put-run .ensures .wrote))
+
+same-length : tie.Need-same-length
+same-length c = search needs
+
+returns : tie.Need-returns
+returns c = wrote-then (c .before .before .before .before .before .before .before .before .before .before .before .before .before .before .before .pre .1 .sound) (c .before .before .before .before .before .before .before .before .put-run .ensures .wrote) (c .before .before .before .put-run2 .ensures .wrote)
+
+pub put-runs-spec : {M : Type 1} → statement M
+put-runs-spec = tie.close (tie.spec put-run-requires put-run-requires-2 same-length returns)

@@ -1,0 +1,32 @@
+-- `low::trial::bits_with` meets its contract.
+use mathlib.Core.Path.{ap₂}
+use Prim.Native.Nat.{_+_}
+use Rattle.picture.specs.declared.slices.tally.Trimmed.{Trimmed}
+use Rattle.picture.specs.LowRestLaws.{joined-few}
+use native.Mathlib.Omega.{arith}
+use borrow.Author.Needs.{needs}
+use Rattle.picture.proofs.low.trial.bits_with.Statement.{statement}
+use Rattle.picture.proofs.low.trial.bits_with.Tie as tie
+use Rattle.picture.proofs.low.trial.bits_with.Reads as reads
+use Rattle.picture.proofs.low.trial.bits_with.Lts as lts
+use Rattle.picture.proofs.low.trial.joined.Reads as joined-reads
+
+joined-requires : tie.Need-joined-requires
+joined-requires c κs = search needs
+
+joined-requires-2 : tie.Need-joined-requires-2
+joined-requires-2 c κs = search needs
+
+add-result : tie.Need-add-result
+add-result c =
+    let st = c .before .before .before .before .before .before .before .before in
+    let a = st .args in
+    let y = c .before .before .before .joined in
+    let d = c .before .before .joined2 in
+    omega (arith, joined-few (a .f .luma) (a .r .luma) (y .result) (st .pre .0) (y .ensures), joined-few (a .f .colour) (a .r .colour) (d .result) (st .pre .1) (d .ensures))
+
+returns : tie.Need-returns
+returns c = ap₂ (λ (y d : Trimmed). y .bits + d .bits) (c .before .before .before .joined .ensures) (c .before .before .joined2 .ensures)
+
+pub bits-with-spec : {M : Type 1} → statement M
+bits-with-spec = tie.close (tie.spec joined-requires joined-requires-2 add-result returns)

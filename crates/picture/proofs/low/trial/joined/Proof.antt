@@ -1,0 +1,27 @@
+-- `low::trial::joined` meets its contract.
+use mathlib.Core.Path.{_∙_}
+use Rattle.picture.specs.LowRestLaws.{joined-none, joined-some}
+use borrow.Author.Needs.{needs}
+use Rattle.picture.proofs.low.trial.joined.Statement.{statement}
+use Rattle.picture.proofs.low.trial.joined.Tie as tie
+use Rattle.picture.proofs.low.trial.joined.Reads as reads
+use Rattle.picture.proofs.low.trial.joined.Lts as lts
+use Rattle.picture.proofs.slices.tally.trimmed_of.Reads as trimmed-of-reads
+
+trimmed-of-requires : tie.Need-trimmed-of-requires
+trimmed-of-requires c κs = search needs
+
+add-t5 : tie.Need-add-t5
+add-t5 c = search needs
+
+add-t6 : tie.Need-add-t6
+add-t6 c = search needs
+
+returns : tie.Need-returns
+returns c = let a = c .before .before .before .args in c .trimmed-of .ensures ∙ joined-none (a .t) (a .r) (c .before .if1 .taken)
+
+returns-2 : tie.Need-returns-2
+returns-2 c = let a = c .before .before .before .before .before .before .args in joined-some (a .t) (a .r) (c .before .before .before .before .if1 .left)
+
+pub joined-spec : {M : Type 1} → statement M
+joined-spec = tie.close (tie.spec trimmed-of-requires add-t5 add-t6 returns returns-2)

@@ -1,0 +1,71 @@
+-- `picture::slices::rebuild::rebuild_strip` meets its contract. The loop's invariant: the rows above y are rebuilt.
+use mathlib.Core.Path.{_≡_, ap, _∙_}
+use Prim.Native.Nat.{_-_, _≤_}
+use lib.ListN.{length}
+use Rattle.picture.specs.Run.{rebuiltRows, Small}
+use Rattle.picture.specs.RunLaws.{rebuilt-rows-none, rebuilt-rows-turn, rebuilt-rows-length}
+use native.Mathlib.Omega.{arith}
+use Rattle.picture.proofs.slices.rebuild.rebuild_strip.Statement.{statement}
+use Rattle.picture.proofs.slices.rebuild.rebuild_strip.Tie as tie
+
+abbrev Inv-loop : tie.InvT-loop
+Inv-loop work₀ a n s y₀ work y = (s .top ≤ y) × ((y ≤ s .bottom) × ((work ≡ rebuiltRows work₀ s (s .top) (y - s .top)) × Small a n work))
+
+abbrev μ-loop : tie.MeasureT-loop
+μ-loop work₀ a n s y₀ work y = s .bottom - y
+
+loop-holds : tie.Need-loop-holds Inv-loop μ-loop
+loop-holds c =
+    let a = c .args in
+    (omega arith, (c .pre .1 .rows, (rebuilt-rows-none (a .work .now) (a .s) (a .s .top), c .pre .0)))
+
+rebuild-row-requires : tie.Need-rebuild-row-requires Inv-loop μ-loop
+rebuild-row-requires c κs =
+    let h = c .before .before .before .before .pre in
+    let l = c .before .before .before .loop in
+    (l .inv .1 .1 .1, (h .1, (l .inv .0, c .before .if1 .taken)))
+
+add-y : tie.Need-add-y Inv-loop μ-loop
+add-y c = omega arith
+
+loop-less : tie.Need-loop-less Inv-loop μ-loop
+loop-less c = omega arith
+
+loop-again : tie.Need-loop-again Inv-loop μ-loop
+loop-again c =
+    let a = c .before .before .before .before .before .before .args in
+    let l = c .before .before .before .before .before .loop in
+    let e = c .before .rebuild-row .ensures in (
+      omega (arith, l .inv .0),
+      (
+        omega (arith, c .before .before .before .if1 .taken),
+        (e .0 ∙ rebuilt-rows-turn (a .work .now) (a .s) (a .s .top) (l .y) (l .work) (l .inv .0) (l .inv .1 .1 .0), e .1),
+      ),
+    )
+
+same-length : tie.Need-same-length Inv-loop μ-loop
+same-length c =
+    let a = c .before .before .before .args in
+    let l = c .before .before .loop in
+    ap length (l .inv .1 .1 .0) ∙ rebuilt-rows-length (a .work .now) (a .s) (a .s .top) (l .y - a .s .top)
+
+returns : tie.Need-returns Inv-loop μ-loop
+returns c =
+    let a = c .before .before .before .args in
+    let l = c .before .before .loop in
+    let e : l .y - a .s .top ≡ a .s .bottom - a .s .top = omega (arith, l .inv .1 .0, c .if1 .left) in
+    (l .inv .1 .1 .0 ∙ ap (rebuiltRows (a .work .now) (a .s) (a .s .top)) e, l .inv .1 .1 .1)
+
+pub rebuild-strip-spec : {M : Type 1} → statement M
+rebuild-strip-spec =
+    tie.close
+    (tie.spec
+    Inv-loop
+    μ-loop
+    loop-holds
+    rebuild-row-requires
+    add-y
+    loop-less
+    loop-again
+    same-length
+    returns)

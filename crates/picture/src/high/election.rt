@@ -1,0 +1,105 @@
+// The index of a high-quality slice by its size, its share and the election.
+use crate::high::size::Terms;
+use crate::slices::layout::Component;
+use crate::slices::layout::Picture;
+use crate::slices::search::Range;
+use crate::slices::tally::Trimmed;
+use unit::RateControl;
+ghost use mathlib.Core.Path.{_≡_};
+ghost use Prim.Native.Nat.{_*_, _≤_, _<_};
+ghost use Rattle.unit.specs.Elect.{elect};
+ghost use Rattle.picture.specs.Layout.{RunIn};
+ghost use Rattle.picture.specs.Picture.{slicesIn, runOf, numbersIn, SliceIn};
+ghost use Rattle.picture.specs.Tally.{trimmedOf};
+ghost use Rattle.picture.specs.High.{fitsBy, indexIn, TermsIn, PlanIn};
+
+// The run of a component of slice k at index q, without its trailing zeros.
+fn trimmed_run(work: &[i64], p: Picture, c: Component, k: u32, q: u32) -> Trimmed
+    requires { ⌜ RunIn (p .layout) c c (p .front) (p .end) k q (now work) × (c .width * c .height ≤ 67108864) ⌝ }
+    ensures { λ r. ⌜ r ≡ trimmedOf (runOf (now (work .entry)) p c k q) ⌝ }
+{
+    let l = p.layout;
+    let v = crate::slices::layout::window_at(l, c, 0, k);
+    let first = crate::slices::run::first_tally(work, p.front, p.end, l, c, c, false, k, q, v);
+    let t = crate::slices::run::rest_tally(work, p.front, p.end, l, c, c, false, k, q, v, first);
+    crate::slices::tally::trimmed_of(t)
+}
+
+// Whether slice k fits its share at index q, where y is luma's run.
+fn fits_with(work: &[i64], p: Picture, t: Terms, share: u64, k: u32, q: u32, y: Trimmed) -> bool
+    requires { ⌜ SliceIn p (now work) k q × (TermsIn t × (y ≡ trimmedOf (runOf (now work) p (p .y) k q))) ⌝ }
+    ensures { λ r. ⌜ r ≡ fitsBy (t .prefix) (t .scaler) share (numbersIn (now (work .entry)) p k) q ⌝ }
+{
+    let first = p.c1;
+    let second = p.c2;
+    let c1 = trimmed_run(work, p, first, k, q);
+    let c2 = trimmed_run(work, p, second, k, q);
+    crate::high::size::slice_size(crate::high::size::needs_of(y.bits, c1.bits, c2.bits), t) <= share
+}
+
+// Whether slice k fits its share at index q. Where luma alone does not fit, the colours are not looked at.
+fn fits(work: &[i64], p: Picture, t: Terms, share: u64, k: u32, q: u32) -> bool
+    requires { ⌜ SliceIn p (now work) k q × TermsIn t ⌝ }
+    ensures { λ r. ⌜ r ≡ fitsBy (t .prefix) (t .scaler) share (numbersIn (now (work .entry)) p k) q ⌝ }
+{
+    let luma = p.y;
+    let y = trimmed_run(work, p, luma, k, q);
+    if crate::high::size::slice_size(crate::high::size::needs_of(y.bits, 0, 0), t) > share {
+        return false;
+    }
+    fits_with(work, p, t, share, k, q, y)
+}
+
+// An index from lo to below hi: g at first, then in widening steps from the end that was moved, and the middle once
+// both were. Any index of this range leads the search to the same end.
+fn next_index(lo: u32, hi: u32, g: u32, step: u32) -> u32
+    requires { ⌜ (lo < hi) × ((hi ≤ 255) × ((1 ≤ step) × (step ≤ 256))) ⌝ }
+    ensures { λ r. ⌜ (lo ≤ r) × (r < hi) ⌝ }
+{
+    if lo == 0 {
+        if hi == 255 {
+            return if g < hi { g } else { hi - 1 };
+        }
+        return if step < hi { hi - step } else { 0 };
+    }
+    if hi == 255 {
+        return if lo + step < hi { lo + step } else { hi - 1 };
+    }
+    (lo + hi) / 2
+}
+
+// The election from 0 to 255, from the guess g on. What fits at an index fits at every larger one, so that the least
+// index that fits is elected, or 255.
+fn elect_qindex(work: &[i64], p: Picture, t: Terms, share: u64, k: u32, g: u32) -> u32
+    requires { ⌜ PlanIn p t (now work) × (k < slicesIn p) ⌝ }
+    ensures { λ r. ⌜ r ≡ elect 0 255 (fitsBy (t .prefix) (t .scaler) share (numbersIn (now (work .entry)) p k)) ⌝ }
+{
+    let mut r = Range { lo: 0, hi: 255 };
+    let mut step = 1;
+    while r.lo < r.hi {
+        let q = next_index(r.lo, r.hi, g, step);
+        r = crate::slices::search::narrowed(r, q, fits(work, p, t, share, k, q));
+        step = crate::slices::search::wider(step);
+    }
+    r.hi
+}
+
+// The index of slice k: lossless is index 0. The guess g says where an election begins.
+pub(crate) fn index_of(work: &[i64], p: Picture, t: Terms, k: u32, g: u32) -> u32
+    requires { ⌜ PlanIn p t (now work) × (k < slicesIn p) ⌝ }
+    ensures { λ r. ⌜ (r ≡ indexIn (now (work .entry)) p t k) × (r ≤ 255) ⌝ }
+{
+    let rate = t.rate;
+    match rate {
+        RateControl::Lossless => 0,
+        RateControl::FixedQuantIndex(q) => q,
+        RateControl::PictureBytes(_) => {
+            let share = crate::high::size::share_of(
+                t.bytes,
+                crate::slices::layout::slice_count(p),
+                k,
+            );
+            elect_qindex(work, p, t, share, k, g)
+        }
+    }
+}
