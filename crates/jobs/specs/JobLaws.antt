@@ -19,8 +19,7 @@ use Rattle.unit.specs.Refusal.{anyAbove, refusalOf}
 use Rattle.unit.specs.TestLaws.{or-none}
 use Rattle.unit.specs.Words.{known, settingsOf}
 use Rattle.unit.specs.Outcome.{tells, lengthIn, codedOf, tooLong, codedIf, coded, Outcome, outcomeIf, outcomeOf}
-use Rattle.picture.specs.Sides.{planes}
-use Rattle.picture.specs.Encoded.{Encodes}
+use Rattle.picture.specs.Encoded.{planes, Encodes}
 use Rattle.jobs.specs.declared.parse.Ends.{Ends}
 use Rattle.jobs.specs.Job.{wordsOf, contentOf, partsOf, inOrder, lineOf, bytesFrom, unitIn, textOf, jobText, outcomeIn, printed}
 use Rattle.jobs.specs.Steps.{endsOf, Called, printedBy}

@@ -7,8 +7,7 @@ ghost use mathlib.Core.Bool.{true};
 ghost use Prim.Native.Nat.{_*_, _-_, _≤_};
 ghost use lib.ListN.{length, take, drop};
 ghost use Rattle.laws.specs.Laid.{Lays};
-ghost use Rattle.picture.specs.Sides.{planes};
-ghost use Rattle.picture.specs.Encoded.{Encodes};
+ghost use Rattle.picture.specs.Encoded.{planes, Encodes};
 ghost use Rattle.jobs.specs.Job.{inOrder, printed};
 ghost use Rattle.jobs.specs.Steps.{endsOf, Called, printedBy};
 

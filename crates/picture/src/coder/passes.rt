@@ -6,9 +6,11 @@ ghost use mathlib.Core.Path.{_≡_};
 ghost use Prim.Native.Nat.{_+_, _^_, _≤_, _<_};
 ghost use lib.ListN.{length};
 ghost use Rattle.laws.specs.Laid.{Lays};
-ghost use Rattle.picture.specs.Picture.{slicesIn};
-ghost use Rattle.picture.specs.High.{PlanIn, PlansTo, Notes, highRuns};
-ghost use Rattle.picture.specs.Low.{lowRuns, workAt, cutsIn, LowIn};
+ghost use Rattle.picture.specs.Code.Picture.{slicesIn};
+ghost use Rattle.picture.specs.Code.Choice.{PlanIn, highRuns};
+ghost use Rattle.picture.specs.Code.Passes.{PlansTo};
+ghost use Rattle.picture.specs.Code.Notes.{Notes};
+ghost use Rattle.picture.specs.Code.Low.{lowRuns, workAt, cutsIn, LowIn};
 
 // Plans all slices from place at on, packs their words and notes their choices.
 pub(crate) fn plan_slices(work: &mut [i64], p: Picture, t: Terms, at: usize) -> SliceCoder

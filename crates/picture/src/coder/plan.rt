@@ -9,9 +9,11 @@ ghost use mathlib.Core.Path.{_≡_};
 ghost use Prim.Native.Nat.{_+_, _^_, _≤_};
 ghost use Rattle.unit.specs.Parameters.{parameterBytes};
 ghost use Rattle.unit.specs.Unit.{majorVersion, highParameters};
-ghost use Rattle.picture.specs.Head.{CanCarry};
-ghost use Rattle.picture.specs.Picture.{slicesIn};
-ghost use Rattle.picture.specs.High.{termsOf, isTarget, PlansTo, HighIn, Settles, Notes, Standing};
+ghost use Rattle.picture.specs.Code.Head.{CanCarry};
+ghost use Rattle.picture.specs.Code.Picture.{slicesIn};
+ghost use Rattle.picture.specs.Code.Choice.{termsOf, isTarget};
+ghost use Rattle.picture.specs.Code.Passes.{PlansTo, HighIn, Settles};
+ghost use Rattle.picture.specs.Code.Notes.{Notes, Standing};
 
 // The final scaler, and where the unit ends.
 pub(crate) struct Settled {

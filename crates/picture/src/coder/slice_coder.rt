@@ -7,10 +7,12 @@ ghost use Prim.Native.Nat.{_+_, _*_, _^_, _≤_, _<_};
 ghost use lib.ListN.{length};
 ghost use Rattle.laws.specs.Laid.{laid, Lays};
 ghost use Rattle.codewords.specs.Bytes.{toBytes};
-ghost use Rattle.picture.specs.Run.{Small};
-ghost use Rattle.picture.specs.Picture.{slicesIn};
-ghost use Rattle.picture.specs.High.{planIn, choiceIn, wordsIn, wordsTo, sliceNumberCount, noteIn, plannedBy, FewBits, TermsIn, PlanIn, PlansOn, Notes};
-ghost use Rattle.picture.specs.Low.{lowBitsIn, lowCutIn, lowWorkIn, LowIn};
+ghost use Rattle.picture.specs.Code.Strip.{Small};
+ghost use Rattle.picture.specs.Code.Picture.{slicesIn};
+ghost use Rattle.picture.specs.Code.Choice.{planIn, choiceIn, wordsIn, wordsTo, sliceNumberCount, FewBits, TermsIn, PlanIn};
+ghost use Rattle.picture.specs.Code.Notes.{noteIn, Notes};
+ghost use Rattle.picture.specs.Code.Passes.{plannedBy, PlansOn};
+ghost use Rattle.picture.specs.Code.Low.{lowBitsIn, lowCutIn, lowWorkIn, LowIn};
 
 // Where the next slice goes in the output, how many low-delay slices are cut, the largest need of a component, the
 // index of the slice before, from which the search in high quality and the bracket in low delay begin, and where the

@@ -18,8 +18,8 @@ ghost use Rattle.unit.specs.Sizes.{area, lumaSize, colourSize};
 ghost use Rattle.unit.specs.Subbands.{subbandCount};
 ghost use Rattle.unit.specs.Matrix.{defaultOf};
 ghost use Rattle.unit.specs.Refusal.{outside, noTarget, badIndex, badTarget, anyAbove, isNone, paddedArea, workNeeded, refusalOf};
-ghost use Rattle.picture.specs.Sides.{sizeIn, planes};
-ghost use Rattle.picture.specs.SidesLaws.{Measured, Within};
+ghost use Rattle.picture.specs.Code.Sides.{sizeIn, Measured, Within};
+ghost use Rattle.picture.specs.Encoded.{planes};
 
 // The number of the first rule that is broken, 0 where none is. Each rule is a function below.
 pub(crate) fn refusal(

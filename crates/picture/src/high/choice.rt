@@ -6,9 +6,9 @@ ghost use mathlib.Core.Path.{_≡_};
 ghost use mathlib.Core.Bool.{false};
 ghost use Prim.Native.Nat.{_+_, _^_, _≤_, _<_};
 ghost use Rattle.laws.specs.Laid.{laid};
-ghost use Rattle.picture.specs.Run.{Small};
-ghost use Rattle.picture.specs.Picture.{slicesIn, numbersIn, SliceIn};
-ghost use Rattle.picture.specs.High.{choiceBy, choiceIn, sliceWords, wordsIn, sliceNumberCount, wordsOf, FewBits, PlanIn};
+ghost use Rattle.picture.specs.Code.Strip.{Small};
+ghost use Rattle.picture.specs.Code.Picture.{slicesIn, numbersIn, SliceIn};
+ghost use Rattle.picture.specs.Code.Choice.{choiceBy, choiceIn, sliceWords, wordsIn, sliceNumberCount, wordsOf, FewBits, PlanIn};
 
 // A slice's index, and the runs of its components there, whose words stand one after the other.
 pub(crate) struct Choice {

@@ -8,10 +8,10 @@ use unit::RateControl;
 ghost use mathlib.Core.Path.{_≡_};
 ghost use Prim.Native.Nat.{_*_, _≤_, _<_};
 ghost use Rattle.unit.specs.Elect.{elect};
-ghost use Rattle.picture.specs.Layout.{RunIn};
-ghost use Rattle.picture.specs.Picture.{slicesIn, runOf, numbersIn, SliceIn};
-ghost use Rattle.picture.specs.Tally.{trimmedOf};
-ghost use Rattle.picture.specs.High.{fitsBy, indexIn, TermsIn, PlanIn};
+ghost use Rattle.picture.specs.Code.Layout.{RunIn};
+ghost use Rattle.picture.specs.Code.Picture.{slicesIn, runOf, numbersIn, SliceIn};
+ghost use Rattle.picture.specs.Code.Tally.{trimmedOf};
+ghost use Rattle.picture.specs.Code.Choice.{fitsBy, indexIn, TermsIn, PlanIn};
 
 // The run of a component of slice k at index q, without its trailing zeros.
 fn trimmed_run(work: &[i64], p: Picture, c: Component, k: u32, q: u32) -> Trimmed

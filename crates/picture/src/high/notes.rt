@@ -8,8 +8,9 @@ ghost use Prim.Native.Nat.{_+_, _^_, _<_};
 ghost use lib.IntN.{pos};
 ghost use lib.ListN.{length, set};
 ghost use Rattle.laws.specs.Rows.{at};
-ghost use Rattle.picture.specs.Picture.{slicesIn};
-ghost use Rattle.picture.specs.High.{choiceIn, wordsTo, noteRun, noteIn, RunAt, FewBits, PlanIn, Notes};
+ghost use Rattle.picture.specs.Code.Picture.{slicesIn};
+ghost use Rattle.picture.specs.Code.Choice.{choiceIn, wordsTo, FewBits, PlanIn};
+ghost use Rattle.picture.specs.Code.Notes.{noteRun, noteIn, RunAt, Notes};
 
 // Notes a number at place i, where the work slice reaches so far.
 fn note(work: &mut [i64], i: usize, v: u64)

@@ -14,10 +14,10 @@ ghost use Rattle.laws.specs.Laid.{Lays};
 ghost use Rattle.codewords.specs.Code.{codes};
 ghost use Rattle.codewords.specs.Writer.{Room, Wrote};
 ghost use Rattle.unit.specs.Trim.{isZero, bitsOf};
-ghost use Rattle.picture.specs.Run.{placeNumbers, rowNumbers, stripNumbers, Small, Inside};
-ghost use Rattle.picture.specs.Layout.{bandCount, runNumbers, RunIn};
-ghost use Rattle.picture.specs.Counts.{countOf};
-ghost use Rattle.picture.specs.Packed.{zerosWord, wordNumbers, unpacked, wordsAt, Single, Packable, Packs};
+ghost use Rattle.picture.specs.Code.Strip.{placeNumbers, rowNumbers, stripNumbers, Small, Inside};
+ghost use Rattle.picture.specs.Code.Layout.{bandCount, runNumbers, RunIn};
+ghost use Rattle.picture.specs.Code.Counts.{countOf};
+ghost use Rattle.picture.specs.Code.Packed.{zerosWord, wordNumbers, unpacked, wordsAt, Single, Packable, Packs};
 
 // Where the next word goes, the zeros that have none yet, and the bits of the words so far.
 pub(crate) struct Packing {

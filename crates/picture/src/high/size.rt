@@ -4,7 +4,7 @@ ghost use mathlib.Core.Path.{_≡_};
 ghost use Prim.Native.Nat.{_+_, _*_, _^_, _≤_, max};
 ghost use Rattle.laws.specs.Ceiling.{ceiling};
 ghost use Rattle.unit.specs.HighQuality.{shareOf};
-ghost use Rattle.picture.specs.High.{needsBy, TermsIn};
+ghost use Rattle.picture.specs.Code.Choice.{needsBy, TermsIn};
 
 // The bytes that the components of a slice need.
 pub(crate) struct Needs {

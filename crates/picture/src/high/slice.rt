@@ -10,7 +10,8 @@ ghost use Rattle.codewords.specs.Bit.{zeroBits};
 ghost use Rattle.codewords.specs.Bytes.{toBytes};
 ghost use Rattle.codewords.specs.Writer.{Room, Wrote};
 ghost use Rattle.unit.specs.HighQuality.{componentBits, highBits};
-ghost use Rattle.picture.specs.High.{threeBits, runAt, numbersAt, TermsIn, Held, HeldSlice};
+ghost use Rattle.picture.specs.Code.Choice.{threeBits, TermsIn};
+ghost use Rattle.picture.specs.Code.Notes.{runAt, numbersAt, Held, HeldSlice};
 
 // Puts a component whose run is t, with its words from place from on: a byte that counts scalers, its numbers, and
 // ones.

@@ -4,10 +4,10 @@ use crate::low::trial::Windows;
 use crate::slices::layout::Picture;
 ghost use mathlib.Core.Path.{_≡_};
 ghost use Prim.Native.Nat.{_≤_, _<_, min};
-ghost use Rattle.picture.specs.Run.{Small};
-ghost use Rattle.picture.specs.Picture.{SliceIn};
-ghost use Rattle.picture.specs.Low.{rebuiltIn, Tried};
-ghost use Rattle.picture.specs.LowRest.{windowsOf, Known};
+ghost use Rattle.picture.specs.Code.Strip.{Small};
+ghost use Rattle.picture.specs.Code.Picture.{SliceIn};
+ghost use Rattle.picture.specs.Code.Low.{rebuiltIn, Tried};
+ghost use Rattle.picture.specs.Code.LowRest.{windowsOf, Known};
 
 // Whether a slice fits at an index, and its runs there.
 pub(crate) struct Probe {

@@ -4,10 +4,10 @@ use crate::low::trial::Windows;
 use crate::slices::cost::Cost;
 use crate::slices::layout::Picture;
 ghost use mathlib.Core.Path.{_≡_};
-ghost use Rattle.picture.specs.Cost.{noCost, addAll};
-ghost use Rattle.picture.specs.Picture.{SliceIn};
-ghost use Rattle.picture.specs.Low.{lumaIn, colourIn, KeptOf, Shorter, CutIn};
-ghost use Rattle.picture.specs.LowRest.{windowsOf, Known};
+ghost use Rattle.picture.specs.Code.Cost.{noCost, addAll};
+ghost use Rattle.picture.specs.Code.Picture.{SliceIn};
+ghost use Rattle.picture.specs.Code.Low.{lumaIn, colourIn, KeptOf, Shorter, CutIn};
+ghost use Rattle.picture.specs.Code.LowRest.{windowsOf, Known};
 
 // The runs that are written: how many numbers of luma and of the colours, and their bits; cut is 1 where a number that
 // is not 0 is left out, else 0.

@@ -6,9 +6,9 @@ use crate::slices::search::Range;
 ghost use mathlib.Core.Path.{_≡_};
 ghost use Prim.Native.Nat.{_≤_};
 ghost use Rattle.unit.specs.Elect.{elect};
-ghost use Rattle.picture.specs.Picture.{SliceIn};
-ghost use Rattle.picture.specs.Low.{lowFitsIn, Tried};
-ghost use Rattle.picture.specs.LowRest.{windowsOf, Known};
+ghost use Rattle.picture.specs.Code.Picture.{SliceIn};
+ghost use Rattle.picture.specs.Code.Low.{lowFitsIn, Tried};
+ghost use Rattle.picture.specs.Code.LowRest.{windowsOf, Known};
 
 // The elected index, and the slice's runs at an index.
 pub(crate) struct Elected {

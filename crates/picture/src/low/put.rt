@@ -6,9 +6,9 @@ use codewords::writer::BitWriter;
 ghost use mathlib.Core.List.{[], _∷_};
 ghost use Prim.Native.Nat.{_+_, _*_, _-_, _≤_, _<_, _^_};
 ghost use Rattle.quantiser.specs.Quant.{forwardBy};
-ghost use Rattle.picture.specs.Run.{planeFrom, secondNumber, placeNumbers, rowNumbers, stripNumbers, Readable, Small, Within, Inside, Plain};
-ghost use Rattle.picture.specs.Put.{RoomFor, Puts};
-ghost use Rattle.picture.specs.Layout.{bandCount, runNumbers, RunIn};
+ghost use Rattle.picture.specs.Code.Strip.{planeFrom, secondNumber, placeNumbers, rowNumbers, stripNumbers, Readable, Small, Within, Inside, Plain};
+ghost use Rattle.picture.specs.Code.Put.{RoomFor, Puts};
+ghost use Rattle.picture.specs.Code.Layout.{bandCount, runNumbers, RunIn};
 
 // The bit writer, and how many numbers are still to be kept.
 pub(crate) struct Put {

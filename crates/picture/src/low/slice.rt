@@ -11,9 +11,9 @@ ghost use lib.ListN.{length};
 ghost use Rattle.laws.specs.Laid.{Lays};
 ghost use Rattle.codewords.specs.Bytes.{toBytes};
 ghost use Rattle.codewords.specs.Writer.{Room, Wrote};
-ghost use Rattle.picture.specs.Picture.{SliceIn};
-ghost use Rattle.picture.specs.LowRest.{windowsOf, Known};
-ghost use Rattle.picture.specs.Low.{runBits, lowBitsBy, lowCutBy};
+ghost use Rattle.picture.specs.Code.Picture.{SliceIn};
+ghost use Rattle.picture.specs.Code.LowRest.{windowsOf, Known};
+ghost use Rattle.picture.specs.Code.Low.{runBits, lowBitsBy, lowCutBy};
 
 // A coded slice: the place where it ends, and 1 where it is cut, else 0.
 pub(crate) struct CodedSlice {

@@ -8,12 +8,12 @@ ghost use mathlib.Core.Path.{_≡_};
 ghost use mathlib.Core.Bool.{_&&_};
 ghost use Prim.Native.Nat.{_*_, _-_, _≤_, _<_};
 ghost use lib.Dec.{leb, ltb};
-ghost use Rattle.picture.specs.Run.{Small};
-ghost use Rattle.picture.specs.Layout.{bandCount, windowOf, restNumbers, RunIn};
-ghost use Rattle.picture.specs.Picture.{slicesIn, SliceIn, Arranged};
-ghost use Rattle.picture.specs.Tally.{trimmedOf};
-ghost use Rattle.picture.specs.Low.{rebuiltIn, lowFitsIn};
-ghost use Rattle.picture.specs.LowRest.{windowsOf, joinedOf, bitsWith, FirstOf, Known, Joins};
+ghost use Rattle.picture.specs.Code.Strip.{Small};
+ghost use Rattle.picture.specs.Code.Layout.{bandCount, windowOf, restNumbers, RunIn};
+ghost use Rattle.picture.specs.Code.Picture.{slicesIn, SliceIn, Arranged};
+ghost use Rattle.picture.specs.Code.Tally.{trimmedOf};
+ghost use Rattle.picture.specs.Code.Low.{rebuiltIn, lowFitsIn};
+ghost use Rattle.picture.specs.Code.LowRest.{windowsOf, joinedOf, bitsWith, FirstOf, Known, Joins};
 
 // What a slice has of level 0: of luma, and of each colour.
 pub(crate) struct Windows {

@@ -2,8 +2,8 @@
 use crate::slices::strip::Strip;
 ghost use mathlib.Core.Path.{_≡_};
 ghost use Prim.Native.Nat.{_+_, _*_, _-_, _≤_, _<_, _^_};
-ghost use Rattle.picture.specs.Run.{secondNumber, placeNumbers, rowNumbers, stripNumbers, Small, Within, Inside};
-ghost use Rattle.picture.specs.Cost.{noCost, fitted, addLen, addAll, Countable, Kept};
+ghost use Rattle.picture.specs.Code.Strip.{secondNumber, placeNumbers, rowNumbers, stripNumbers, Small, Within, Inside};
+ghost use Rattle.picture.specs.Code.Cost.{noCost, fitted, addLen, addAll, Countable, Kept};
 
 // The bits and the count of the numbers so far, the same up to the last number that is not 0, and of the longest run
 // from the start that takes at most room bits.

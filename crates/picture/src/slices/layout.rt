@@ -9,9 +9,9 @@ ghost use lib.Dec.{eqb, leb};
 ghost use Rattle.quantiser.specs.Quant.{bandIndex};
 ghost use Rattle.wavelet.specs.Depth.{deepest};
 ghost use Rattle.unit.specs.Slices.{bound};
-ghost use Rattle.picture.specs.Sides.{sizeIn};
-ghost use Rattle.picture.specs.Layout.{levelOf, bandSize, windowOf, stripOf, LayoutIn, WindowIn, StripIn};
-ghost use Rattle.picture.specs.Picture.{slicesIn, Arranged};
+ghost use Rattle.picture.specs.Code.Sides.{sizeIn};
+ghost use Rattle.picture.specs.Code.Layout.{levelOf, bandSize, windowOf, stripOf, LayoutIn, WindowIn, StripIn};
+ghost use Rattle.picture.specs.Code.Picture.{slicesIn, Arranged};
 
 // A component: where its coefficients begin, where its rebuilt level-0 plane begins, and its padded sides.
 pub(crate) struct Component {

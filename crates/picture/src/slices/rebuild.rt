@@ -4,7 +4,7 @@ ghost use mathlib.Core.Path.{_≡_};
 ghost use Prim.Native.Nat.{_+_, _*_, _-_, _≤_, _<_};
 ghost use lib.IntN.{natAbs};
 ghost use lib.ListN.{length, set};
-ghost use Rattle.picture.specs.Run.{reach, valueIn, rebuiltRow, rebuiltStrip, Small, Within, Inside};
+ghost use Rattle.picture.specs.Code.Strip.{reach, valueIn, rebuiltRow, rebuiltStrip, Small, Within, Inside};
 
 // The rebuilt value of a place.
 fn value_at(work: &[i64], a: usize, n: usize, s: Strip, y: usize, x: usize) -> i64

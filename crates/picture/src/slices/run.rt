@@ -7,10 +7,10 @@ use crate::slices::tally::Tally;
 ghost use mathlib.Core.Path.{_≡_};
 ghost use mathlib.Core.Bool.{false};
 ghost use Prim.Native.Nat.{_*_, _-_, _≤_};
-ghost use Rattle.picture.specs.Run.{stripNumbers, rebuiltStrip, Small};
-ghost use Rattle.picture.specs.Cost.{addAll, Countable};
-ghost use Rattle.picture.specs.Tally.{noTally, tallyAll, Addable};
-ghost use Rattle.picture.specs.Layout.{bandCount, windowOf, stripOf, runNumbers, restNumbers, RunIn};
+ghost use Rattle.picture.specs.Code.Strip.{stripNumbers, rebuiltStrip, Small};
+ghost use Rattle.picture.specs.Code.Cost.{addAll, Countable};
+ghost use Rattle.picture.specs.Code.Tally.{noTally, tallyAll, Addable};
+ghost use Rattle.picture.specs.Code.Layout.{bandCount, windowOf, stripOf, runNumbers, restNumbers, RunIn};
 
 // The cost t with a slice's numbers of all subbands added.
 pub(crate) fn cost_run(

@@ -1,7 +1,7 @@
 // The range of indices that an election still has, and its steps.
 ghost use mathlib.Core.Path.{_≡_};
 ghost use Prim.Native.Nat.{_+_, _*_, _/_, _≤_, min};
-ghost use Rattle.picture.specs.High.{halfOf};
+ghost use Rattle.picture.specs.Code.Search.{halfOf};
 
 // A range of indices.
 pub(crate) struct Range {

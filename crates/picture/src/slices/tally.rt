@@ -5,8 +5,8 @@ use crate::slices::strip::Strip;
 ghost use mathlib.Core.Path.{_≡_};
 ghost use Prim.Native.Nat.{_+_, _*_, _-_, _≤_, _<_, _^_};
 ghost use Rattle.quantiser.specs.Quant.{forwardBy};
-ghost use Rattle.picture.specs.Run.{planeFrom, secondNumber, placeNumbers, rowNumbers, stripNumbers, Readable, Inside, Plain};
-ghost use Rattle.picture.specs.Tally.{tally1, tallyLen, tallyAll, tallyOf, trimmedBy, Addable};
+ghost use Rattle.picture.specs.Code.Strip.{planeFrom, secondNumber, placeNumbers, rowNumbers, stripNumbers, Readable, Inside, Plain};
+ghost use Rattle.picture.specs.Code.Tally.{tally1, tallyLen, tallyAll, tallyOf, trimmedBy, Addable};
 
 // The bits and the count of the numbers so far, and the count up to the last number that is not 0.
 pub(crate) struct Tally {

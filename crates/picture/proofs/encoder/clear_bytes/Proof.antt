@@ -3,7 +3,7 @@ use mathlib.Core.Path.{_≡_, refl, _∙_}
 use mathlib.Core.List.{_++_}
 use Prim.Native.Nat.{_-_, _≤_}
 use lib.ListN.{length, drop, replicate, length-set}
-use Rattle.picture.specs.EncodedLaws.{zeros-turn, zeros-all}
+use Rattle.picture.specs.Laws.Encoded.{zeros-turn, zeros-all}
 use native.Mathlib.Omega.{arith}
 use Rattle.picture.proofs.encoder.clear_bytes.Statement.{statement}
 use Rattle.picture.proofs.encoder.clear_bytes.Tie as tie

@@ -1,5 +1,5 @@
 -- `encoder::clear_refused` meets its contract.
-use Rattle.picture.specs.EncodedLaws.{cleared-refused}
+use Rattle.picture.specs.Laws.Encoded.{cleared-refused}
 use borrow.Author.Needs.{needs}
 use Rattle.picture.proofs.encoder.clear_refused.Statement.{statement}
 use Rattle.picture.proofs.encoder.clear_refused.Tie as tie

@@ -7,8 +7,8 @@ use lib.ListN.{length}
 use Rattle.picture.proofs.encoder.code_high.Statement.{statement}
 use Rattle.picture.proofs.encoder.code_high.Tie as tie
 use Rattle.unit.specs.Outcome.{tooLong}
-use Rattle.picture.specs.AnalysedLaws.{called-carry}
-use Rattle.picture.specs.HighLinkLaws.{high-in, end-fits, head-room, slices-noted, noted-laid, high-refused, high-written}
+use Rattle.picture.specs.Laws.Analysed.{called-carry}
+use Rattle.picture.specs.Laws.HighLink.{high-in, end-fits, head-room, slices-noted, noted-laid, high-refused, high-written}
 
 -- the unit is not too long
 fits : (c : tie.After-put-header-arg)

@@ -4,9 +4,8 @@ use mathlib.Core.Bool.{false}
 use Prim.Native.Nat.{ℕ, _+_, _≤_}
 use native.Mathlib.Omega.{arith}
 use lib.ListN.{length}
-use Rattle.picture.specs.AnalysedLaws.{called-arranged, called-carry}
-use Rattle.picture.specs.AnalysedLaws.{not-long}
-use Rattle.picture.specs.LowLinkLaws.{Worked, low-refused, low-ready, low-written}
+use Rattle.picture.specs.Laws.Analysed.{called-arranged, called-carry, not-long}
+use Rattle.picture.specs.Laws.LowLink.{Worked, low-refused, low-ready, low-written}
 use borrow.Author.Needs.{needs}
 use Rattle.picture.proofs.encoder.code_low.Statement.{statement}
 use Rattle.picture.proofs.encoder.code_low.Tie as tie

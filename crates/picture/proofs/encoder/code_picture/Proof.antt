@@ -1,7 +1,7 @@
 -- `encoder::code_picture` meets its contract.
 use mathlib.Core.Path.{_∙_}
-use Rattle.picture.specs.Sides.{planes}
-use Rattle.picture.specs.AnalysedLaws.{called, ready}
+use Rattle.picture.specs.Encoded.{planes}
+use Rattle.picture.specs.Laws.Analysed.{called, ready}
 use borrow.Author.Needs.{needs}
 use Rattle.picture.proofs.encoder.code_picture.Statement.{statement}
 use Rattle.picture.proofs.encoder.code_picture.Tie as tie

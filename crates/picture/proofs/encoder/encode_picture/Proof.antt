@@ -3,8 +3,8 @@ use mathlib.Core.Path.{_≡_, sym, _∙_}
 use native.Mathlib.Omega.{arith}
 use Rattle.unit.specs.ValidLaws.{valid}
 use Rattle.unit.specs.DemandLaws.{Typed}
-use Rattle.picture.specs.Sides.{planes}
-use Rattle.picture.specs.EncodedLaws.{typed-by, encodes-refused, encodes-coded}
+use Rattle.picture.specs.Encoded.{planes}
+use Rattle.picture.specs.Laws.Encoded.{typed-by, encodes-refused, encodes-coded}
 use borrow.Author.Needs.{needs}
 use Rattle.picture.proofs.encoder.encode_picture.Statement.{statement}
 use Rattle.picture.proofs.encoder.encode_picture.Tie as tie

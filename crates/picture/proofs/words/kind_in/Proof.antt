@@ -1,5 +1,5 @@
 -- `words::kind_in` meets its contract.
-use Rattle.picture.specs.WordsLaws.{kind-high}
+use Rattle.picture.specs.Laws.Words.{kind-high}
 use borrow.Author.Needs.{needs}
 use Rattle.picture.proofs.words.kind_in.Statement.{statement}
 use Rattle.picture.proofs.words.kind_in.Tie as tie

@@ -1,5 +1,5 @@
 -- `words::known` meets its contract.
-use Rattle.picture.specs.WordsLaws.{known-short, known-by}
+use Rattle.picture.specs.Laws.Words.{known-short, known-by}
 use borrow.Author.Needs.{needs}
 use Rattle.picture.proofs.words.known.Statement.{statement}
 use Rattle.picture.proofs.words.known.Tie as tie

@@ -1,5 +1,5 @@
 -- `words::rate_in` meets its contract.
-use Rattle.picture.specs.WordsLaws.{rate-bytes}
+use Rattle.picture.specs.Laws.Words.{rate-bytes}
 use borrow.Author.Needs.{needs}
 use Rattle.picture.proofs.words.rate_in.Statement.{statement}
 use Rattle.picture.proofs.words.rate_in.Tie as tie

@@ -3,7 +3,7 @@ use mathlib.Core.Path.{_≡_}
 use lib.ListN.{length}
 use native.Mathlib.Omega.{arith}
 use Rattle.unit.specs.Words.{settingsOf}
-use Rattle.picture.specs.WordsLaws.{known-long}
+use Rattle.picture.specs.Laws.Words.{known-long}
 use borrow.Author.Needs.{needs}
 use Rattle.picture.proofs.words.settings_of.Statement.{statement}
 use Rattle.picture.proofs.words.settings_of.Tie as tie

@@ -6,7 +6,7 @@ use lib.IntN.{pos}
 use lib.ListN.{length, drop, length-set}
 use Rattle.laws.specs.Rows.{row}
 use Rattle.laws.specs.Chunks.{fill-turn, fill-all}
-use Rattle.picture.specs.AnalysisLaws.{zeros-row}
+use Rattle.picture.specs.Laws.Analysis.{zeros-row}
 use native.Mathlib.Omega.{arith}
 use Rattle.picture.proofs.coder.analysis.clear.Statement.{statement}
 use Rattle.picture.proofs.coder.analysis.clear.Tie as tie

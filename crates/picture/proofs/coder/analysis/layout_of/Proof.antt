@@ -1,6 +1,6 @@
 -- `coder::analysis::layout_of` meets its contract.
 use mathlib.Core.Path.{refl}
-use Rattle.picture.specs.Analysed.{layoutOf}
+use Rattle.picture.specs.Code.Analysed.{layoutOf}
 use borrow.Author.Needs.{needs}
 use Rattle.picture.proofs.coder.analysis.layout_of.Statement.{statement}
 use Rattle.picture.proofs.coder.analysis.layout_of.Tie as tie

@@ -1,6 +1,6 @@
 -- `coder::analysis::offset_of` meets its contract.
 use Rattle.unit.specs.Valid.{Between}
-use Rattle.picture.specs.AnalysisLaws.{depth-of, offset-of}
+use Rattle.picture.specs.Laws.Analysis.{depth-of, offset-of}
 use native.Mathlib.Omega.{arith}
 use borrow.Author.Needs.{needs}
 use Rattle.picture.proofs.coder.analysis.offset_of.Statement.{statement}

@@ -1,6 +1,6 @@
 -- `coder::analysis::picture_of` meets its contract.
 use Rattle.unit.specs.Sizes.{lumaSize, colourSize}
-use Rattle.picture.specs.AnalysisLaws.{padded-asks, Measures, measures-of, picture-is}
+use Rattle.picture.specs.Laws.Analysis.{padded-asks, Measures, measures-of, picture-is}
 use native.Mathlib.Omega.{arith}
 use borrow.Author.Needs.{needs}
 use Rattle.picture.proofs.coder.analysis.picture_of.Statement.{statement}

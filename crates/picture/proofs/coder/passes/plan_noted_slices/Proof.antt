@@ -6,9 +6,11 @@ use Prim.Native.Nat.{ℕ, _-_, _^_, _≤_, _<_}
 use native.Mathlib.Omega.{arith}
 use lib.IntN.{ℤ}
 use lib.ListN.{length}
-use Rattle.picture.specs.Picture.{slicesIn}
-use Rattle.picture.specs.High.{planIn, wordsTo, PlanIn, PlansOn, PlansTo, Notes}
-use Rattle.picture.specs.HighPlanLaws.{plans-none, plans-more}
+use Rattle.picture.specs.Code.Picture.{slicesIn}
+use Rattle.picture.specs.Code.Choice.{planIn, wordsTo, PlanIn}
+use Rattle.picture.specs.Code.Passes.{PlansOn, PlansTo}
+use Rattle.picture.specs.Code.Notes.{Notes}
+use Rattle.picture.specs.Laws.HighPlan.{plans-none, plans-more}
 use Rattle.picture.proofs.coder.passes.plan_noted_slices.Statement.{statement}
 use Rattle.picture.proofs.coder.passes.plan_noted_slices.Tie as tie
 use Rattle.picture.proofs.coder.passes.plan_noted_slices.Reads as reads

@@ -2,10 +2,11 @@
 -- packed and their choices noted.
 use mathlib.Core.Path.{_≡_, subst}
 use Prim.Native.Nat.{ℕ, _-_, _≤_, _<_}
-use Rattle.picture.specs.Picture.{slicesIn}
-use Rattle.picture.specs.High.{PlansTo, Notes}
-use Rattle.picture.specs.HighPlanLaws.{plans-none, plans-more}
-use Rattle.picture.specs.NotedLaws.{words-room, notes-none, notes-plan, notes-more, plans-noted}
+use Rattle.picture.specs.Code.Picture.{slicesIn}
+use Rattle.picture.specs.Code.Passes.{PlansTo}
+use Rattle.picture.specs.Code.Notes.{Notes}
+use Rattle.picture.specs.Laws.HighPlan.{plans-none, plans-more}
+use Rattle.picture.specs.Laws.Noted.{words-room, notes-none, notes-plan, notes-more, plans-noted}
 use native.Mathlib.Omega.{arith}
 use Rattle.picture.proofs.coder.passes.plan_slices.Statement.{statement}
 use Rattle.picture.proofs.coder.passes.plan_slices.Tie as tie

@@ -1,5 +1,5 @@
--- `coder::passes::put_hq_slices` meets its contract. The loop's invariant: k slices are written, and the work slice is as
--- it was.
+-- `coder::passes::put_hq_slices` meets its contract. The loop's invariant: k slices are written, and the work slice is
+-- as it was.
 use mathlib.Core.Path.{_≡_, refl, sym, ap, _∙_, subst}
 use mathlib.Core.List.{List}
 use Prim.Native.Nat.{_+_, _-_, _≤_, _<_}
@@ -9,9 +9,10 @@ use lib.ListN.{length, length-append}
 use Rattle.laws.specs.Chunks.{chunks-none, chunks-more}
 use Rattle.laws.specs.Laid.{Lays}
 use Rattle.codewords.specs.Bytes.{toBytes}
-use Rattle.picture.specs.Picture.{slicesIn}
-use Rattle.picture.specs.High.{planIn, highRuns, wordsIn, wordsTo, PlanIn, Notes}
-use Rattle.picture.specs.HighSliceLaws.{slices-none, slices-room, slices-next, slices-all}
+use Rattle.picture.specs.Code.Picture.{slicesIn}
+use Rattle.picture.specs.Code.Choice.{planIn, highRuns, wordsIn, wordsTo, PlanIn}
+use Rattle.picture.specs.Code.Notes.{Notes}
+use Rattle.picture.specs.Laws.HighSlice.{slices-none, slices-room, slices-next, slices-all}
 use Rattle.picture.proofs.coder.passes.put_hq_slices.Statement.{statement}
 use Rattle.picture.proofs.coder.passes.put_hq_slices.Tie as tie
 use Rattle.picture.proofs.coder.passes.put_hq_slices.Reads as reads

@@ -2,8 +2,8 @@
 use mathlib.Core.Path.{_≡_, ap, _∙_}
 use Prim.Native.Nat.{_-_, _<_}
 use lib.ListN.{length}
-use Rattle.picture.specs.Picture.{slicesIn}
-use Rattle.picture.specs.LowSliceLaws.{Coded, coded-none, coded-in, coded-room, coded-more, work-size}
+use Rattle.picture.specs.Code.Picture.{slicesIn}
+use Rattle.picture.specs.Laws.LowSlice.{Coded, coded-none, coded-in, coded-room, coded-more, work-size}
 use native.Mathlib.Omega.{arith}
 use Rattle.picture.proofs.coder.passes.put_ld_slices.Statement.{statement}
 use Rattle.picture.proofs.coder.passes.put_ld_slices.Tie as tie

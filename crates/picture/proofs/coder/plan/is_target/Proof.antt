@@ -1,5 +1,5 @@
 -- `coder::plan::is_target` meets its contract.
-use Rattle.picture.specs.HighPlanLaws.{target-lossless, target-fixed, target-bytes}
+use Rattle.picture.specs.Laws.HighPlan.{target-lossless, target-fixed, target-bytes}
 use borrow.Author.Needs.{needs}
 use Rattle.picture.proofs.coder.plan.is_target.Statement.{statement}
 use Rattle.picture.proofs.coder.plan.is_target.Tie as tie

@@ -3,9 +3,10 @@ use mathlib.Core.Path.{refl, sym, ap, _∙_, subst}
 use mathlib.Core.List.{List}
 use lib.IntN.{ℤ}
 use Rattle.picture.specs.declared.high.size.Terms.{Terms}
-use Rattle.picture.specs.Picture.{slicesIn}
-use Rattle.picture.specs.High.{termsOf, Notes}
-use Rattle.picture.specs.HighPlanLaws.{plan-in, plans-same, slicesFrom}
+use Rattle.picture.specs.Code.Picture.{slicesIn}
+use Rattle.picture.specs.Code.Choice.{termsOf}
+use Rattle.picture.specs.Code.Notes.{Notes}
+use Rattle.picture.specs.Laws.HighPlan.{plan-in, plans-same, slicesFrom}
 use borrow.Author.Needs.{needs}
 use Rattle.picture.proofs.coder.plan.plan_again.Statement.{statement}
 use Rattle.picture.proofs.coder.plan.plan_again.Tie as tie

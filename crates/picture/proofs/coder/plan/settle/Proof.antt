@@ -1,11 +1,12 @@
--- `coder::plan::settle` meets its contract. The invariant: r is the plan with scaler c, whose choices are noted, and the
--- turns from c end where those from the first scaler do.
+-- `coder::plan::settle` meets its contract. The invariant: r is the plan with scaler c, whose choices are noted, and
+-- the turns from c end where those from the first scaler do.
 use mathlib.Core.Path.{refl, _∙_}
 use Prim.Native.Nat.{_-_, _^_}
-use Rattle.picture.specs.Picture.{slicesIn}
-use Rattle.picture.specs.High.{termsOf, Notes}
-use Rattle.picture.specs.HighPlanLaws.{Settling, settling-first, settling-turn, settling-ends}
-use Rattle.picture.specs.NotedLaws.{high-work, notes-high, notes-own, notes-stand, notes-after, plans-after, plans-before, settles-after}
+use Rattle.picture.specs.Code.Picture.{slicesIn}
+use Rattle.picture.specs.Code.Choice.{termsOf}
+use Rattle.picture.specs.Code.Notes.{Notes}
+use Rattle.picture.specs.Laws.HighPlan.{Settling, settling-first, settling-turn, settling-ends}
+use Rattle.picture.specs.Laws.Noted.{high-work, notes-high, notes-own, notes-stand, notes-after, plans-after, plans-before, settles-after}
 use native.Mathlib.Omega.{arith}
 use Rattle.picture.proofs.coder.plan.settle.Statement.{statement}
 use Rattle.picture.proofs.coder.plan.settle.Tie as tie

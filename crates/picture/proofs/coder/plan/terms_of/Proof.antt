@@ -1,5 +1,5 @@
 -- `coder::plan::terms_of` meets its contract.
-use Rattle.picture.specs.HighPlanLaws.{terms-are}
+use Rattle.picture.specs.Laws.HighPlan.{terms-are}
 use borrow.Author.Needs.{needs}
 use Rattle.picture.proofs.coder.plan.terms_of.Statement.{statement}
 use Rattle.picture.proofs.coder.plan.terms_of.Tie as tie

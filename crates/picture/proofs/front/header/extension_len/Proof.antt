@@ -2,7 +2,7 @@
 use native.Mathlib.Omega.{arith}
 use mathlib.Core.Path.{ap}
 use lib.ListN.{length, length-append}
-use Rattle.picture.specs.HeadLaws.{extension-none, extension-some}
+use Rattle.picture.specs.Laws.Head.{extension-none, extension-some}
 use borrow.Author.Needs.{needs}
 use Rattle.picture.proofs.front.header.extension_len.Statement.{statement}
 use Rattle.picture.proofs.front.header.extension_len.Tie as tie

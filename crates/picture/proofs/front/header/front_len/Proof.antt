@@ -1,6 +1,6 @@
 -- `picture::front::header::front_len` meets its contract.
 use native.Mathlib.Omega.{arith}
-use Rattle.picture.specs.HeadLaws.{front-length}
+use Rattle.picture.specs.Laws.Head.{front-length}
 use borrow.Author.Needs.{needs}
 use Rattle.picture.proofs.front.header.front_len.Statement.{statement}
 use Rattle.picture.proofs.front.header.front_len.Tie as tie

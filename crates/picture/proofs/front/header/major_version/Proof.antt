@@ -1,7 +1,7 @@
 -- `picture::front::header::major_version` meets its contract.
 use mathlib.Core.Logic.{inl, inr, ⊎-elim}
 use Rattle.unit.specs.declared.PictureKind.the-variants.{LowDelay, HighQuality}
-use Rattle.picture.specs.HeadLaws.{major-three, major-plain}
+use Rattle.picture.specs.Laws.Head.{major-three, major-plain}
 use borrow.Author.Needs.{needs}
 use Rattle.picture.proofs.front.header.major_version.Statement.{statement}
 use Rattle.picture.proofs.front.header.major_version.Tie as tie

@@ -2,7 +2,7 @@
 use native.Mathlib.Omega.{arith}
 use mathlib.Core.Path.{ap}
 use lib.ListN.{length}
-use Rattle.picture.specs.HeadLaws.{carried-some, carried-none}
+use Rattle.picture.specs.Laws.Head.{carried-some, carried-none}
 use borrow.Author.Needs.{needs}
 use Rattle.picture.proofs.front.header.matrix_len.Statement.{statement}
 use Rattle.picture.proofs.front.header.matrix_len.Tie as tie

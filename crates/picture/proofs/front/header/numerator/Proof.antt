@@ -1,6 +1,7 @@
 -- `picture::front::header::numerator` meets its contract.
 use mathlib.Core.Path.{sym, ap, _∙_}
-use Rattle.picture.specs.HeadLaws.{numeratorAfter, numerator-twice}
+use Rattle.picture.specs.Code.Head.{numeratorAfter}
+use Rattle.picture.specs.Laws.Head.{numerator-twice}
 use borrow.Author.Needs.{needs}
 use Rattle.picture.proofs.front.header.numerator.Statement.{statement}
 use Rattle.picture.proofs.front.header.numerator.Tie as tie

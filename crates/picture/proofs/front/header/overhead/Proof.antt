@@ -1,7 +1,7 @@
 -- `picture::front::header::overhead` meets its contract.
 use native.Mathlib.Omega.{arith}
-use Rattle.picture.specs.Head.{sliceIn}
-use Rattle.picture.specs.HeadLaws.{bytes-of-parts}
+use Rattle.picture.specs.Code.Head.{sliceIn}
+use Rattle.picture.specs.Laws.Head.{bytes-of-parts}
 use borrow.Author.Needs.{needs}
 use Rattle.picture.proofs.front.header.overhead.Statement.{statement}
 use Rattle.picture.proofs.front.header.overhead.Tie as tie

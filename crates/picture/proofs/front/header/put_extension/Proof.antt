@@ -4,7 +4,7 @@ use Rattle.codewords.specs.WriterLaws.{wrote-none, wrote-then}
 use mathlib.Core.Bool.{not}
 use lib.Dec.{eqb}
 use Rattle.unit.specs.Parameters.{flagged}
-use Rattle.picture.specs.HeadLaws.{extension-none, extension-some, room-first, room-rest}
+use Rattle.picture.specs.Laws.Head.{extension-none, extension-some, room-first, room-rest}
 use borrow.Author.Needs.{needs}
 use Rattle.picture.proofs.front.header.put_extension.Statement.{statement}
 use Rattle.picture.proofs.front.header.put_extension.Tie as tie

@@ -3,7 +3,7 @@ use native.Mathlib.Omega.{arith}
 use Rattle.codewords.specs.WriterLaws.{wrote-then, room-after}
 use Rattle.codewords.specs.Code.{codeU}
 use lib.ListN.{length}
-use Rattle.picture.specs.HeadLaws.{flagged-on, flagged-off, flagged-pos, room-less}
+use Rattle.picture.specs.Laws.Head.{flagged-on, flagged-off, flagged-pos, room-less}
 use borrow.Author.Needs.{needs}
 use Rattle.picture.proofs.front.header.put_flagged.Statement.{statement}
 use Rattle.picture.proofs.front.header.put_flagged.Tie as tie

@@ -2,7 +2,8 @@
 use Rattle.codewords.specs.WriterLaws.{wrote-then}
 use Rattle.codewords.specs.Code.{codeU}
 use mathlib.Core.List.{_++_}
-use Rattle.picture.specs.HeadLaws.{extensionOf, frontOf, room-first, room-rest}
+use Rattle.picture.specs.Code.Head.{extensionOf, frontOf}
+use Rattle.picture.specs.Laws.Head.{room-first, room-rest}
 use borrow.Author.Needs.{needs}
 use Rattle.picture.proofs.front.header.put_front.Statement.{statement}
 use Rattle.picture.proofs.front.header.put_front.Tie as tie

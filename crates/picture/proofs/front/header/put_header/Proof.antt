@@ -9,9 +9,9 @@ use Rattle.codewords.specs.Bit.{Bits, lit}
 use Rattle.codewords.specs.BitLaws.{length-lit}
 use Rattle.unit.specs.Parameters.{Parameters, parameterBits}
 use Rattle.unit.specs.Unit.{majorVersion, parametersBy}
-use Rattle.picture.specs.Head.{sliceIn}
+use Rattle.picture.specs.Code.Head.{sliceIn, infoOf}
 use Rattle.codewords.specs.WriterLaws.{start-sound}
-use Rattle.picture.specs.HeadLaws.{infoOf, info-length, head-length, head-parts, parameters-bytes, start-room, align-room, head-end, head-bytes}
+use Rattle.picture.specs.Laws.Head.{info-length, head-length, head-parts, parameters-bytes, start-room, align-room, head-end, head-bytes}
 use borrow.Author.Needs.{needs}
 use Rattle.picture.proofs.front.header.put_header.Statement.{statement}
 use Rattle.picture.proofs.front.header.put_header.Tie as tie

@@ -4,7 +4,7 @@ use Rattle.codewords.specs.WriterLaws.{wrote-then, room-after}
 use lib.ListN.{length}
 use Rattle.unit.specs.Parameters.{codesU}
 use Rattle.unit.specs.Matrix.{carriedMatrix}
-use Rattle.picture.specs.HeadLaws.{carried-some, carried-none, matrix-pos, room-less}
+use Rattle.picture.specs.Laws.Head.{carried-some, carried-none, matrix-pos, room-less}
 use borrow.Author.Needs.{needs}
 use Rattle.picture.proofs.front.header.put_matrix.Statement.{statement}
 use Rattle.picture.proofs.front.header.put_matrix.Tie as tie

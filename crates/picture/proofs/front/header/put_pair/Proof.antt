@@ -1,7 +1,7 @@
 -- `picture::front::header::put_pair` meets its contract.
 use Rattle.codewords.specs.WriterLaws.{wrote-then}
 use Rattle.codewords.specs.Code.{codeU}
-use Rattle.picture.specs.HeadLaws.{room-first, room-rest}
+use Rattle.picture.specs.Laws.Head.{room-first, room-rest}
 use borrow.Author.Needs.{needs}
 use Rattle.picture.proofs.front.header.put_pair.Statement.{statement}
 use Rattle.picture.proofs.front.header.put_pair.Tie as tie

@@ -7,7 +7,7 @@ use lib.ListN.{length, take, getD}
 use lib.Seq.{take-all}
 use Rattle.codewords.specs.Writer.{Wrote}
 use Rattle.unit.specs.Parameters.{codesU}
-use Rattle.picture.specs.HeadLaws.{codesU-none, codesU-take, codesU-part}
+use Rattle.picture.specs.Laws.Head.{codesU-none, codesU-take, codesU-part}
 use native.Mathlib.Omega.{arith}
 use Rattle.picture.proofs.front.header.put_values.Statement.{statement}
 use Rattle.picture.proofs.front.header.put_values.Tie as tie

@@ -1,6 +1,6 @@
 -- `picture::front::header::uint_len` meets its contract.
 use native.Mathlib.Omega.{arith}
-use Rattle.picture.specs.HeadLaws.{codeU-short}
+use Rattle.picture.specs.Laws.Head.{codeU-short}
 use borrow.Author.Needs.{needs}
 use Rattle.picture.proofs.front.header.uint_len.Statement.{statement}
 use Rattle.picture.proofs.front.header.uint_len.Tie as tie

@@ -1,5 +1,5 @@
--- `picture::front::header::values_len` meets its contract. The loop's invariant: bits counts the bits of the values before
--- place i.
+-- `picture::front::header::values_len` meets its contract. The loop's invariant: bits counts the bits of the values
+-- before place i.
 use mathlib.Core.Path.{_≡_, sym, ap, _∙_}
 use mathlib.Core.List.{List}
 use Prim.Native.Nat.{ℕ, _*_, _-_, _≤_}
@@ -8,7 +8,7 @@ use lib.ListN.{length, take, getD, length-append}
 use lib.Seq.{take-all}
 use Rattle.codewords.specs.Code.{codeU}
 use Rattle.unit.specs.Parameters.{codesU}
-use Rattle.picture.specs.HeadLaws.{codesU-none, codesU-take}
+use Rattle.picture.specs.Laws.Head.{codesU-none, codesU-take}
 use native.Mathlib.Omega.{arith}
 use Rattle.picture.proofs.front.header.values_len.Statement.{statement}
 use Rattle.picture.proofs.front.header.values_len.Tie as tie

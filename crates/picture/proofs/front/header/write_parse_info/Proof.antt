@@ -3,7 +3,8 @@ use Rattle.codewords.specs.WriterLaws.{wrote-then}
 use mathlib.Core.List.{_++_}
 use Rattle.codewords.specs.Bit.{lit}
 use Rattle.unit.specs.Unit.{parseCode}
-use Rattle.picture.specs.HeadLaws.{infoOf, room-first, room-rest}
+use Rattle.picture.specs.Code.Head.{infoOf}
+use Rattle.picture.specs.Laws.Head.{room-first, room-rest}
 use borrow.Author.Needs.{needs}
 use Rattle.picture.proofs.front.header.write_parse_info.Statement.{statement}
 use Rattle.picture.proofs.front.header.write_parse_info.Tie as tie

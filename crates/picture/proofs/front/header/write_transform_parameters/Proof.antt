@@ -3,8 +3,8 @@ use Rattle.codewords.specs.WriterLaws.{wrote-then}
 use mathlib.Core.List.{_++_}
 use Rattle.unit.specs.Parameters.{sliceParameterBits, matrixBits}
 use Rattle.unit.specs.Matrix.{carriedMatrix}
-use Rattle.picture.specs.Head.{sliceIn}
-use Rattle.picture.specs.HeadLaws.{frontOf, parameters-parts, room-first, room-rest}
+use Rattle.picture.specs.Code.Head.{sliceIn, frontOf}
+use Rattle.picture.specs.Laws.Head.{parameters-parts, room-first, room-rest}
 use borrow.Author.Needs.{needs}
 use Rattle.picture.proofs.front.header.write_transform_parameters.Statement.{statement}
 use Rattle.picture.proofs.front.header.write_transform_parameters.Tie as tie

@@ -2,7 +2,7 @@
 use mathlib.Core.Path.{_≡_, refl}
 use Prim.Native.Nat.{_-_, _≤_}
 use lib.ListN.{length}
-use Rattle.picture.specs.SidesLaws.{filledTo, filled-next, filled-places}
+use Rattle.picture.specs.Laws.Sides.{filledTo, filled-next, filled-places}
 use native.Mathlib.Omega.{arith}
 use Rattle.picture.proofs.front.matrix.in_places.Statement.{statement}
 use Rattle.picture.proofs.front.matrix.in_places.Tie as tie

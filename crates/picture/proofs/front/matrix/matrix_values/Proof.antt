@@ -1,7 +1,7 @@
 -- `front::matrix::matrix_values` meets its contract.
 use mathlib.Core.Path.{sym, ap, _∙_}
 use Rattle.quantiser.specs.Default.{places}
-use Rattle.picture.specs.SidesLaws.{custom-few, custom-values, by-default, default-values}
+use Rattle.picture.specs.Laws.Sides.{custom-few, custom-values, by-default, default-values}
 use borrow.Author.Needs.{needs}
 use Rattle.picture.proofs.front.matrix.matrix_values.Statement.{statement}
 use Rattle.picture.proofs.front.matrix.matrix_values.Tie as tie

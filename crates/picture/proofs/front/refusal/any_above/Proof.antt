@@ -1,10 +1,10 @@
--- `front::refusal::any_above` meets its contract. The invariant: what is asked of all values is asked of those from place i
--- on.
+-- `front::refusal::any_above` meets its contract. The invariant: what is asked of all values is asked of those from
+-- place i on.
 use mathlib.Core.Path.{_≡_, refl, _∙_}
 use Prim.Native.Nat.{_-_, _≤_}
 use lib.ListN.{length, drop}
 use Rattle.unit.specs.Refusal.{anyAbove}
-use Rattle.picture.specs.RefusalLaws.{above-here, above-next, above-none}
+use Rattle.picture.specs.Laws.Refusal.{above-here, above-next, above-none}
 use native.Mathlib.Omega.{arith}
 use Rattle.picture.proofs.front.refusal.any_above.Statement.{statement}
 use Rattle.picture.proofs.front.refusal.any_above.Tie as tie

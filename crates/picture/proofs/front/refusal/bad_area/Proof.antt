@@ -4,8 +4,8 @@ use lib.Dec.{ltb}
 use Prim.Native.Nat.{ℕ}
 use Rattle.unit.specs.Sizes.{Size}
 use Rattle.unit.specs.Refusal.{paddedArea}
-use Rattle.picture.specs.Sides.{sizeIn}
-use Rattle.picture.specs.SidesLaws.{luma-within}
+use Rattle.picture.specs.Code.Sides.{sizeIn}
+use Rattle.picture.specs.Laws.Sides.{luma-within}
 use borrow.Author.Needs.{needs}
 use Rattle.picture.proofs.front.refusal.bad_area.Statement.{statement}
 use Rattle.picture.proofs.front.refusal.bad_area.Tie as tie

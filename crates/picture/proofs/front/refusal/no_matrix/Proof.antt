@@ -1,5 +1,5 @@
 -- `front::refusal::no_matrix` meets its contract.
-use Rattle.picture.specs.SidesLaws.{default-missing}
+use Rattle.picture.specs.Laws.Sides.{default-missing}
 use borrow.Author.Needs.{needs}
 use Rattle.picture.proofs.front.refusal.no_matrix.Statement.{statement}
 use Rattle.picture.proofs.front.refusal.no_matrix.Tie as tie

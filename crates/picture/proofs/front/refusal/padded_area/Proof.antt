@@ -2,8 +2,8 @@
 use mathlib.Core.Path.{_≡_, ap, _∙_}
 use Rattle.unit.specs.Sizes.{Size, area}
 use Rattle.unit.specs.Refusal.{paddedArea}
-use Rattle.picture.specs.Sides.{sizeIn}
-use Rattle.picture.specs.SidesLaws.{padded-area-few}
+use Rattle.picture.specs.Code.Sides.{sizeIn}
+use Rattle.picture.specs.Laws.Sides.{padded-area-few}
 use borrow.Author.Needs.{needs}
 use Rattle.picture.proofs.front.refusal.padded_area.Statement.{statement}
 use Rattle.picture.proofs.front.refusal.padded_area.Tie as tie

@@ -4,9 +4,9 @@ use mathlib.Core.Bool.{Bool}
 use mathlib.Core.List.{List}
 use lib.ListN.{drop}
 use Rattle.unit.specs.Refusal.{broken, refusalOf}
-use Rattle.picture.specs.Sides.{planes}
-use Rattle.picture.specs.SidesLaws.{Measured}
-use Rattle.picture.specs.RefusalLaws.{Passed, stops, goes-on, measured}
+use Rattle.picture.specs.Encoded.{planes}
+use Rattle.picture.specs.Code.Sides.{Measured}
+use Rattle.picture.specs.Laws.Refusal.{Passed, stops, goes-on, measured}
 use borrow.Author.Needs.{needs}
 use Rattle.picture.proofs.front.refusal.refusal.Statement.{statement}
 use Rattle.picture.proofs.front.refusal.refusal.Tie as tie

@@ -2,8 +2,8 @@
 use mathlib.Core.Path.{_≡_, refl, ap, _∙_}
 use Rattle.unit.specs.Sizes.{Size, lumaSize, colourSize}
 use Rattle.unit.specs.Refusal.{paddedArea, workNeeded}
-use Rattle.picture.specs.Sides.{sizeIn}
-use Rattle.picture.specs.SidesLaws.{luma-within, colour-within}
+use Rattle.picture.specs.Code.Sides.{sizeIn}
+use Rattle.picture.specs.Laws.Sides.{luma-within, colour-within}
 use borrow.Author.Needs.{needs}
 use Rattle.picture.proofs.front.refusal.short_work.Statement.{statement}
 use Rattle.picture.proofs.front.refusal.short_work.Tie as tie

@@ -4,7 +4,7 @@ use Prim.Native.Nat.{_-_, _^_, _≤_, _<_}
 use native.Mathlib.Nat.{pow-suc}
 use native.Mathlib.Numerals.{add-one}
 use Rattle.unit.specs.Sizes.{intlog2}
-use Rattle.picture.specs.SidesLaws.{log-more, log-few, log-is}
+use Rattle.picture.specs.Laws.Sides.{log-more, log-few, log-is}
 use native.Mathlib.Omega.{arith}
 use Rattle.picture.proofs.front.sizes.intlog2.Statement.{statement}
 use Rattle.picture.proofs.front.sizes.intlog2.Tie as tie

@@ -2,9 +2,9 @@
 use mathlib.Core.Path.{ap, _∙_}
 use Prim.Native.Nat.{ℕ}
 use Rattle.laws.specs.Laid.{laid}
-use Rattle.picture.specs.Picture.{numbersIn}
-use Rattle.picture.specs.High.{choiceBy, sliceWords}
-use Rattle.picture.specs.HighIndexLaws.{plan-slice}
+use Rattle.picture.specs.Code.Picture.{numbersIn}
+use Rattle.picture.specs.Code.Choice.{choiceBy, sliceWords}
+use Rattle.picture.specs.Laws.HighIndex.{plan-slice}
 use borrow.Author.Needs.{needs}
 use Rattle.picture.proofs.high.choice.choice_of.Statement.{statement}
 use Rattle.picture.proofs.high.choice.choice_of.Tie as tie

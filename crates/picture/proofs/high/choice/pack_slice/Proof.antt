@@ -1,6 +1,6 @@
 -- `high::choice::pack_slice` meets its contract.
 use native.Mathlib.Omega.{arith}
-use Rattle.picture.specs.PackSliceLaws.{run-after, y-ready, c1-ready, c2-ready, slice-chosen, slice-packed}
+use Rattle.picture.specs.Laws.PackSlice.{run-after, y-ready, c1-ready, c2-ready, slice-chosen, slice-packed}
 use borrow.Author.Needs.{needs}
 use Rattle.picture.proofs.high.choice.pack_slice.Statement.{statement}
 use Rattle.picture.proofs.high.choice.pack_slice.Tie as tie

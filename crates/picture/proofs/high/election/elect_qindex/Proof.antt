@@ -1,11 +1,11 @@
 -- `high::election::elect_qindex` meets its contract. The invariant: the least index that fits lies in the range.
 use Prim.Native.Nat.{_-_, _≤_}
 use native.Mathlib.Omega.{arith}
-use Rattle.picture.specs.Picture.{numbersIn}
-use Rattle.picture.specs.High.{fitsBy}
-use Rattle.picture.specs.HighIndexLaws.{plan-slice}
-use Rattle.picture.specs.RisesLaws.{fits-rises}
-use Rattle.picture.specs.SearchLaws.{Searches, search-start, search-turn, search-less, search-end}
+use Rattle.picture.specs.Code.Picture.{numbersIn}
+use Rattle.picture.specs.Code.Choice.{fitsBy}
+use Rattle.picture.specs.Laws.HighIndex.{plan-slice}
+use Rattle.picture.specs.Laws.Rises.{fits-rises}
+use Rattle.picture.specs.Laws.Search.{Searches, search-start, search-turn, search-less, search-end}
 use Rattle.picture.proofs.high.election.elect_qindex.Statement.{statement}
 use Rattle.picture.proofs.high.election.elect_qindex.Tie as tie
 use Rattle.picture.proofs.high.election.elect_qindex.Reads as reads

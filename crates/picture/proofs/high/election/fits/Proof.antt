@@ -1,6 +1,6 @@
 -- `high::election::fits` meets its contract.
 use native.Mathlib.Omega.{arith}
-use Rattle.picture.specs.HighIndexLaws.{run-bits, alone-not}
+use Rattle.picture.specs.Laws.HighIndex.{run-bits, alone-not}
 use borrow.Author.Needs.{needs}
 use Rattle.picture.proofs.high.election.fits.Statement.{statement}
 use Rattle.picture.proofs.high.election.fits.Tie as tie

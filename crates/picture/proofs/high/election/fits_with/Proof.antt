@@ -1,5 +1,5 @@
 -- `high::election::fits_with` meets its contract.
-use Rattle.picture.specs.HighIndexLaws.{bits-few, fits-by}
+use Rattle.picture.specs.Laws.HighIndex.{bits-few, fits-by}
 use borrow.Author.Needs.{needs}
 use Rattle.picture.proofs.high.election.fits_with.Statement.{statement}
 use Rattle.picture.proofs.high.election.fits_with.Tie as tie

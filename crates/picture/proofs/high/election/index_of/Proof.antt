@@ -1,6 +1,6 @@
 -- `high::election::index_of` meets its contract.
 use native.Mathlib.Omega.{arith}
-use Rattle.picture.specs.HighIndexLaws.{index-lossless, index-fixed, index-elected, index-most}
+use Rattle.picture.specs.Laws.HighIndex.{index-lossless, index-fixed, index-elected, index-most}
 use borrow.Author.Needs.{needs}
 use Rattle.picture.proofs.high.election.index_of.Statement.{statement}
 use Rattle.picture.proofs.high.election.index_of.Tie as tie

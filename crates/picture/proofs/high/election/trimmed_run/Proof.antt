@@ -3,9 +3,9 @@ use mathlib.Core.Path.{_∙_}
 use mathlib.Core.Bool.{false}
 use native.Mathlib.Omega.{arith}
 use borrow.Author.Needs.{needs}
-use Rattle.picture.specs.TallyLaws.{tally-keeps, tally-trimmed, TallyOf}
-use Rattle.picture.specs.Picture.{runOf}
-use Rattle.picture.specs.LayoutLaws.{run-window, first-addable, tally-whole}
+use Rattle.picture.specs.Laws.Tally.{tally-keeps, tally-trimmed, TallyOf}
+use Rattle.picture.specs.Code.Picture.{runOf}
+use Rattle.picture.specs.Laws.Layout.{run-window, first-addable, tally-whole}
 use Rattle.picture.proofs.high.election.trimmed_run.Statement.{statement}
 use Rattle.picture.proofs.high.election.trimmed_run.Tie as tie
 use Rattle.picture.proofs.high.election.trimmed_run.Reads as reads

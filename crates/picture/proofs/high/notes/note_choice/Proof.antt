@@ -3,7 +3,7 @@ use mathlib.Core.Path.{ap, _∙_}
 use mathlib.Core.List.{List}
 use Prim.Native.Nat.{_+_}
 use lib.IntN.{ℤ}
-use Rattle.picture.specs.High.{noteRun}
+use Rattle.picture.specs.Code.Notes.{noteRun}
 use borrow.Author.Needs.{needs}
 use Rattle.picture.proofs.high.notes.note_choice.Statement.{statement}
 use Rattle.picture.proofs.high.notes.note_choice.Tie as tie

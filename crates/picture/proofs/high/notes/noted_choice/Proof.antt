@@ -9,11 +9,12 @@ use mir.Facts.{toZ-ofZ}
 use native.Mathlib.Omega.{arith}
 use Rattle.laws.specs.Rows.{at}
 use Rattle.laws.specs.Machine.{fit}
-use Rattle.picture.specs.Packed.{wordsAt}
-use Rattle.picture.specs.Picture.{slicesIn}
-use Rattle.picture.specs.High.{indexIn, choiceIn, wordsIn, FewBits, ChoiceAt}
-use Rattle.picture.specs.HighIndexLaws.{index-most, own-few}
-use Rattle.picture.specs.NotedLaws.{words-room, words-end, laid-again, words-stand, noted-y, noted-c1, noted-c2, noted-is}
+use Rattle.picture.specs.Code.Packed.{wordsAt}
+use Rattle.picture.specs.Code.Picture.{slicesIn}
+use Rattle.picture.specs.Code.Choice.{indexIn, choiceIn, wordsIn, FewBits}
+use Rattle.picture.specs.Code.Notes.{ChoiceAt}
+use Rattle.picture.specs.Laws.HighIndex.{index-most, own-few}
+use Rattle.picture.specs.Laws.Noted.{words-room, words-end, laid-again, words-stand, noted-y, noted-c1, noted-c2, noted-is}
 use borrow.Author.Needs.{needs}
 use Rattle.picture.proofs.high.notes.noted_choice.Statement.{statement}
 use Rattle.picture.proofs.high.notes.noted_choice.Tie as tie

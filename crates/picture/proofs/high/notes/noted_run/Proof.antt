@@ -1,7 +1,7 @@
 -- `high::notes::noted_run` meets its contract.
 use Prim.Native.Nat.{_+_}
 use native.Mathlib.Omega.{arith}
-use Rattle.picture.specs.NotedLaws.{read-plain}
+use Rattle.picture.specs.Laws.Noted.{read-plain}
 use borrow.Author.Needs.{needs}
 use Rattle.picture.proofs.high.notes.noted_run.Statement.{statement}
 use Rattle.picture.proofs.high.notes.noted_run.Tie as tie

@@ -8,10 +8,10 @@ use lib.ListN.{length, set}
 use mir.Facts.{toZ-ofZ}
 use Rattle.laws.specs.Laid.{laid-one}
 use Rattle.codewords.specs.Code.{codeS}
-use Rattle.picture.specs.Packed.{zerosWord}
+use Rattle.picture.specs.Code.Packed.{zerosWord}
 use borrow.Author.Needs.{needs}
-use Rattle.picture.specs.UnpackedLaws.{zeros-due}
-use Rattle.picture.specs.PackedLaws.{packs-one}
+use Rattle.picture.specs.Laws.Unpacked.{zeros-due}
+use Rattle.picture.specs.Laws.Packed.{packs-one}
 use Rattle.picture.proofs.high.packed.pack_number.Statement.{statement}
 use Rattle.picture.proofs.high.packed.pack_number.Tie as tie
 

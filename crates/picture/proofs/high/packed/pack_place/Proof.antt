@@ -7,9 +7,9 @@ use mir.Syntax.{w64}
 use mir.Facts.{toZ-ofZ}
 use borrow.Author.Needs.{needs, sfits-of}
 use Rattle.quantiser.specs.Quant.{forwardBy}
-use Rattle.picture.specs.Run.{planeFrom}
-use Rattle.picture.specs.RunLaws.{numbered}
-use Rattle.picture.specs.PackedLaws.{packs-same, packable-less, zero-bits, some-bits, place-zero, place-some}
+use Rattle.picture.specs.Code.Strip.{planeFrom}
+use Rattle.picture.specs.Laws.Strip.{numbered}
+use Rattle.picture.specs.Laws.Packed.{packs-same, packable-less, zero-bits, some-bits, place-zero, place-some}
 use Rattle.picture.proofs.high.packed.pack_place.Statement.{statement}
 use Rattle.picture.proofs.high.packed.pack_place.Tie as tie
 

@@ -3,10 +3,10 @@ use mathlib.Core.Path.{_≡_, sym, ap, _∙_}
 use Prim.Native.Nat.{_-_, _≤_}
 use native.Mathlib.Omega.{arith}
 use Rattle.laws.specs.Chunks.{chunks}
-use Rattle.picture.specs.Run.{Small, Inside}
-use Rattle.picture.specs.RunLaws.{places, row-chunks}
-use Rattle.picture.specs.Packed.{Packs}
-use Rattle.picture.specs.PackedLaws.{packs-same, packs-start, packs-length, single-in, row-ready, row-turn}
+use Rattle.picture.specs.Code.Strip.{Small, Inside}
+use Rattle.picture.specs.Laws.Strip.{places, row-chunks}
+use Rattle.picture.specs.Code.Packed.{Packs}
+use Rattle.picture.specs.Laws.Packed.{packs-same, packs-start, packs-length, single-in, row-ready, row-turn}
 use Rattle.picture.proofs.high.packed.pack_row.Statement.{statement}
 use Rattle.picture.proofs.high.packed.pack_row.Tie as tie
 

@@ -1,14 +1,14 @@
--- `picture::high::packed::pack_run` meets its contract. The invariant: the bands before the n-th are packed, start is their
--- area, and v is the window of the band before.
+-- `picture::high::packed::pack_run` meets its contract. The invariant: the bands before the n-th are packed, start is
+-- their area, and v is the window of the band before.
 use mathlib.Core.Path.{_≡_, sym, ap}
 use mathlib.Core.Bool.{false}
 use Prim.Native.Nat.{_-_, _≤_}
 use native.Mathlib.Omega.{arith}
-use Rattle.picture.specs.Run.{Small}
-use Rattle.picture.specs.Layout.{bandCount, startOf, windowOf, runNumbers}
-use Rattle.picture.specs.LayoutLaws.{start-first, strip-in, strip-from, start-turn, start-small, run-window, window-first, window-turn}
-use Rattle.picture.specs.Packed.{Packs}
-use Rattle.picture.specs.PackedLaws.{packs-same, packs-length, packs-run-none, run-packable, band-ready, band-turn}
+use Rattle.picture.specs.Code.Strip.{Small}
+use Rattle.picture.specs.Code.Layout.{bandCount, startOf, windowOf, runNumbers}
+use Rattle.picture.specs.Laws.Layout.{start-first, strip-in, strip-from, start-turn, start-small, run-window, window-first, window-turn}
+use Rattle.picture.specs.Code.Packed.{Packs}
+use Rattle.picture.specs.Laws.Packed.{packs-same, packs-length, packs-run-none, run-packable, band-ready, band-turn}
 use Rattle.picture.proofs.high.packed.pack_run.Statement.{statement}
 use Rattle.picture.proofs.high.packed.pack_run.Tie as tie
 

@@ -7,8 +7,8 @@ use mir.Syntax.{w64}
 use mir.Val.{SFits, toZ, ofZ}
 use mir.Facts.{toZ-ofZ, toZ-pos}
 use Rattle.laws.specs.Integer.{up, parts}
-use Rattle.picture.specs.Packed.{mark}
-use Rattle.picture.specs.PutWordsLaws.{over-mark, under-mark, less-mark, zeros-word, number-word, zeros-room}
+use Rattle.picture.specs.Code.Packed.{mark}
+use Rattle.picture.specs.Laws.PutWords.{over-mark, under-mark, less-mark, zeros-word, number-word, zeros-room}
 use borrow.Author.Needs.{needs}
 use Rattle.picture.proofs.high.packed.put_word.Statement.{statement}
 use Rattle.picture.proofs.high.packed.put_word.Tie as tie

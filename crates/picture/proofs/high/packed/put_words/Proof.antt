@@ -9,8 +9,8 @@ use borrow.Author.Needs.{needs, sfits-of}
 use Rattle.laws.specs.Rows.{at}
 use Rattle.codewords.specs.Code.{codes}
 use Rattle.codewords.specs.Writer.{Wrote}
-use Rattle.picture.specs.Packed.{unpacked, wordsAt}
-use Rattle.picture.specs.PutWordsLaws.{words-none, word-room, word-turn, words-all}
+use Rattle.picture.specs.Code.Packed.{unpacked, wordsAt}
+use Rattle.picture.specs.Laws.PutWords.{words-none, word-room, word-turn, words-all}
 use Rattle.picture.proofs.high.packed.put_words.Statement.{statement}
 use Rattle.picture.proofs.high.packed.put_words.Tie as tie
 use Rattle.picture.proofs.high.packed.put_words.Reads as reads

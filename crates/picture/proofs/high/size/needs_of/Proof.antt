@@ -1,5 +1,5 @@
 -- `high::size::needs_of` meets its contract.
-use Rattle.picture.specs.HighIndexLaws.{needs-by}
+use Rattle.picture.specs.Laws.HighIndex.{needs-by}
 use borrow.Author.Needs.{needs}
 use Rattle.picture.proofs.high.size.needs_of.Statement.{statement}
 use Rattle.picture.proofs.high.size.needs_of.Tie as tie

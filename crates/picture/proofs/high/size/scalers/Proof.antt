@@ -1,6 +1,6 @@
 -- `high::size::scalers` meets its contract.
 use mathlib.Core.Path.{refl}
-use Rattle.picture.specs.HighIndexLaws.{ceiling-near}
+use Rattle.picture.specs.Laws.HighIndex.{ceiling-near}
 use borrow.Author.Needs.{needs}
 use Rattle.picture.proofs.high.size.scalers.Statement.{statement}
 use Rattle.picture.proofs.high.size.scalers.Tie as tie

@@ -1,6 +1,6 @@
 -- `high::size::share_of` meets its contract.
 use native.Mathlib.Nat.{div-le-self}
-use Rattle.picture.specs.HighIndexLaws.{share-more, share-plain}
+use Rattle.picture.specs.Laws.HighIndex.{share-more, share-plain}
 use native.Mathlib.Omega.{arith}
 use borrow.Author.Needs.{needs}
 use Rattle.picture.proofs.high.size.share_of.Statement.{statement}

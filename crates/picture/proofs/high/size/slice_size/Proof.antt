@@ -1,5 +1,5 @@
 -- `high::size::slice_size` meets its contract.
-use Rattle.picture.specs.HighIndexLaws.{size-is}
+use Rattle.picture.specs.Laws.HighIndex.{size-is}
 use borrow.Author.Needs.{needs}
 use Rattle.picture.proofs.high.size.slice_size.Statement.{statement}
 use Rattle.picture.proofs.high.size.slice_size.Tie as tie

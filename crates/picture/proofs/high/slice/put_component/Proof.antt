@@ -4,8 +4,8 @@ use Prim.Native.Nat.{ℕ}
 use native.Mathlib.Omega.{arith}
 use borrow.Author.Needs.{needs}
 use Rattle.laws.specs.Ceiling.{ceiling}
-use Rattle.picture.specs.High.{runAt}
-use Rattle.picture.specs.HighSliceLaws.{Counted, kept-held, byte-room, kept-room, ones-room, component-wrote}
+use Rattle.picture.specs.Code.Notes.{runAt}
+use Rattle.picture.specs.Laws.HighSlice.{Counted, kept-held, byte-room, kept-room, ones-room, component-wrote}
 use Rattle.picture.proofs.high.slice.put_component.Statement.{statement}
 use Rattle.picture.proofs.high.slice.put_component.Tie as tie
 

@@ -1,7 +1,7 @@
 -- `high::slice::put_components` meets its contract.
 use borrow.Author.Needs.{needs}
-use Rattle.picture.specs.High.{numbersAt}
-use Rattle.picture.specs.HighSliceLaws.{y-room, c1-room, c2-room, three-wrote}
+use Rattle.picture.specs.Code.Notes.{numbersAt}
+use Rattle.picture.specs.Laws.HighSlice.{y-room, c1-room, c2-room, three-wrote}
 use Rattle.picture.proofs.high.slice.put_components.Statement.{statement}
 use Rattle.picture.proofs.high.slice.put_components.Tie as tie
 

@@ -1,8 +1,8 @@
 -- `high::slice::put_hq_slice` meets its contract.
 use native.Mathlib.Omega.{arith}
 use borrow.Author.Needs.{needs}
-use Rattle.picture.specs.High.{numbersAt}
-use Rattle.picture.specs.HighSliceLaws.{prefix-room, index-room, components-room, flush-room, slice-laid}
+use Rattle.picture.specs.Code.Notes.{numbersAt}
+use Rattle.picture.specs.Laws.HighSlice.{prefix-room, index-room, components-room, flush-room, slice-laid}
 use Rattle.picture.proofs.high.slice.put_hq_slice.Statement.{statement}
 use Rattle.picture.proofs.high.slice.put_hq_slice.Tie as tie
 

@@ -4,7 +4,7 @@ use native.Mathlib.Omega.{arith}
 use Rattle.codewords.specs.Bit.{zeroBits}
 use Rattle.codewords.specs.Writer.{Wrote}
 use Rattle.codewords.specs.WriterLaws.{wrote-none}
-use Rattle.picture.specs.HighSliceLaws.{prefix-next, prefix-turn, prefix-all}
+use Rattle.picture.specs.Laws.HighSlice.{prefix-next, prefix-turn, prefix-all}
 use Rattle.picture.proofs.high.slice.put_prefix.Statement.{statement}
 use Rattle.picture.proofs.high.slice.put_prefix.Tie as tie
 

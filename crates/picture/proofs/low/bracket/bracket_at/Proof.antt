@@ -1,11 +1,11 @@
--- `low::bracket::bracket_at` meets its contract. The invariant: the runs at hand are known, and what the candidates left
--- in the work slice is rebuilt as if none had been tried.
+-- `low::bracket::bracket_at` meets its contract. The invariant: the runs at hand are known, and what the candidates
+-- left in the work slice is rebuilt as if none had been tried.
 use mathlib.Core.Logic.{⊎-elim}
 use Prim.Native.Nat.{_≤_}
-use Rattle.picture.specs.Low.{Tried}
-use Rattle.picture.specs.LowRest.{Known}
-use Rattle.picture.specs.AgainLaws.{tried-none, tried-more, tried-then}
-use Rattle.picture.specs.LowRestLaws.{slice-at, known-is, known-rebuilt}
+use Rattle.picture.specs.Code.Low.{Tried}
+use Rattle.picture.specs.Code.LowRest.{Known}
+use Rattle.picture.specs.Laws.Again.{tried-none, tried-more, tried-then}
+use Rattle.picture.specs.Laws.LowRest.{slice-at, known-is, known-rebuilt}
 use native.Mathlib.Omega.{arith}
 use Rattle.picture.proofs.low.bracket.bracket_at.Statement.{statement}
 use Rattle.picture.proofs.low.bracket.bracket_at.Tie as tie

@@ -1,5 +1,5 @@
 -- `low::bracket::probe_at` meets its contract.
-use Rattle.picture.specs.LowRestLaws.{joins-both}
+use Rattle.picture.specs.Laws.LowRest.{joins-both}
 use borrow.Author.Needs.{needs}
 use Rattle.picture.proofs.low.bracket.probe_at.Statement.{statement}
 use Rattle.picture.proofs.low.bracket.probe_at.Tie as tie

@@ -1,9 +1,9 @@
 -- `low::cut::colour_cost` meets its contract.
 use mathlib.Core.Path.{ap, _∙_}
 use Rattle.picture.specs.declared.slices.cost.Cost.{Cost}
-use Rattle.picture.specs.Cost.{addAll}
-use Rattle.picture.specs.Low.{colourIn}
-use Rattle.picture.specs.LowIndexLaws.{colour-ready}
+use Rattle.picture.specs.Code.Cost.{addAll}
+use Rattle.picture.specs.Code.Low.{colourIn}
+use Rattle.picture.specs.Laws.LowIndex.{colour-ready}
 use borrow.Author.Needs.{needs}
 use Rattle.picture.proofs.low.cut.colour_cost.Statement.{statement}
 use Rattle.picture.proofs.low.cut.colour_cost.Tie as tie

@@ -1,6 +1,6 @@
 -- `low::cut::cut` meets its contract.
-use Rattle.picture.specs.Low.{lumaIn, colourIn}
-use Rattle.picture.specs.LowSliceLaws.{cut-fits, kept-cut}
+use Rattle.picture.specs.Code.Low.{lumaIn, colourIn}
+use Rattle.picture.specs.Laws.LowSlice.{cut-fits, kept-cut}
 use borrow.Author.Needs.{needs}
 use Rattle.picture.proofs.low.cut.cut.Statement.{statement}
 use Rattle.picture.proofs.low.cut.cut.Tie as tie

@@ -1,8 +1,8 @@
 -- `low::cut::kept_runs` meets its contract.
 use mathlib.Core.Path.{_∙_}
-use Rattle.picture.specs.Low.{lumaIn, colourIn}
-use Rattle.picture.specs.LowRestLaws.{joins-both, joined-few, luma-whole, colour-whole}
-use Rattle.picture.specs.LowSliceLaws.{kept-whole, not-whole}
+use Rattle.picture.specs.Code.Low.{lumaIn, colourIn}
+use Rattle.picture.specs.Laws.LowRest.{joins-both, joined-few, luma-whole, colour-whole}
+use Rattle.picture.specs.Laws.LowSlice.{kept-whole, not-whole}
 use native.Mathlib.Omega.{arith}
 use borrow.Author.Needs.{needs}
 use Rattle.picture.proofs.low.cut.kept_runs.Statement.{statement}

@@ -1,9 +1,9 @@
 -- `low::cut::luma_cost` meets its contract.
 use mathlib.Core.Path.{ap, _∙_}
 use Rattle.picture.specs.declared.slices.cost.Cost.{Cost}
-use Rattle.picture.specs.Cost.{addAll}
-use Rattle.picture.specs.Low.{lumaIn}
-use Rattle.picture.specs.LowIndexLaws.{luma-ready}
+use Rattle.picture.specs.Code.Cost.{addAll}
+use Rattle.picture.specs.Code.Low.{lumaIn}
+use Rattle.picture.specs.Laws.LowIndex.{luma-ready}
 use borrow.Author.Needs.{needs}
 use Rattle.picture.proofs.low.cut.luma_cost.Statement.{statement}
 use Rattle.picture.proofs.low.cut.luma_cost.Tie as tie

@@ -1,14 +1,15 @@
--- `low::election::elect_qindex` meets its contract. The invariant: the search in the range ends where the whole one does,
--- what the candidates left in the work slice is rebuilt as if none had been tried, and the runs at hand are known.
+-- `low::election::elect_qindex` meets its contract. The invariant: the search in the range ends where the whole one
+-- does, what the candidates left in the work slice is rebuilt as if none had been tried, and the runs at hand are
+-- known.
 use mathlib.Core.Path.{ap, _∙_}
 use mathlib.Core.Bool.{Bool}
 use Prim.Native.Nat.{ℕ, _-_}
 use Rattle.unit.specs.Elect.{elect}
-use Rattle.picture.specs.Low.{lowFitsIn, Tried}
-use Rattle.picture.specs.LowRest.{Known}
-use Rattle.picture.specs.ElectLoopLaws.{Halving, halving-start, halving-middle, halving-less, halving-turn, halving-end, halving-low}
-use Rattle.picture.specs.AgainLaws.{tried-none, tried-more, tried-then, tried-fits}
-use Rattle.picture.specs.LowRestLaws.{slice-at}
+use Rattle.picture.specs.Code.Low.{lowFitsIn, Tried}
+use Rattle.picture.specs.Code.LowRest.{Known}
+use Rattle.picture.specs.Laws.ElectLoop.{Halving, halving-start, halving-middle, halving-less, halving-turn, halving-end, halving-low}
+use Rattle.picture.specs.Laws.Again.{tried-none, tried-more, tried-then, tried-fits}
+use Rattle.picture.specs.Laws.LowRest.{slice-at}
 use native.Mathlib.Omega.{arith}
 use Rattle.picture.proofs.low.election.elect_qindex.Statement.{statement}
 use Rattle.picture.proofs.low.election.elect_qindex.Tie as tie

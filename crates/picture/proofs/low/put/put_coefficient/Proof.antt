@@ -10,8 +10,8 @@ use mir.Facts.{toZ-ofZ}
 use borrow.Author.Needs.{needs, sfits-of}
 use Rattle.codewords.specs.Code.{codeS, codeM}
 use Rattle.quantiser.specs.Quant.{forwardBy}
-use Rattle.picture.specs.Run.{planeFrom}
-use Rattle.picture.specs.PutLaws.{forward-word, puts-past, puts-one, room-one}
+use Rattle.picture.specs.Code.Strip.{planeFrom}
+use Rattle.picture.specs.Laws.Put.{forward-word, puts-past, puts-one, room-one}
 use borrow.Author.Needs.{needs}
 use Rattle.picture.proofs.low.put.put_coefficient.Statement.{statement}
 use Rattle.picture.proofs.low.put.put_coefficient.Tie as tie

@@ -3,7 +3,7 @@ use native.Mathlib.Omega.{arith}
 use mir.Syntax.{w64}
 use mir.Facts.{toZ-ofZ}
 use mathlib.Core.List.{[], _∷_}
-use Rattle.picture.specs.PutLaws.{puts-past, puts-one, room-one}
+use Rattle.picture.specs.Laws.Put.{puts-past, puts-one, room-one}
 use borrow.Author.Needs.{needs}
 use Rattle.picture.proofs.low.put.put_number.Statement.{statement}
 use Rattle.picture.proofs.low.put.put_number.Tie as tie

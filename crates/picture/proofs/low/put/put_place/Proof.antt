@@ -5,9 +5,9 @@ use mir.Val.{toZ, ofZ}
 use mir.Facts.{toZ-ofZ}
 use borrow.Author.Needs.{sfits-of, needs}
 use mathlib.Core.List.{[], _∷_, _++_}
-use Rattle.picture.specs.Run.{secondNumber, placeNumbers}
-use Rattle.picture.specs.RunLaws.{numbered, place-is}
-use Rattle.picture.specs.PutLaws.{puts-then, puts-same, room-same, room-first, room-next}
+use Rattle.picture.specs.Code.Strip.{secondNumber, placeNumbers}
+use Rattle.picture.specs.Laws.Strip.{numbered, place-is}
+use Rattle.picture.specs.Laws.Put.{puts-then, puts-same, room-same, room-first, room-next}
 use Rattle.picture.proofs.low.put.put_place.Statement.{statement}
 use Rattle.picture.proofs.low.put.put_place.Tie as tie
 

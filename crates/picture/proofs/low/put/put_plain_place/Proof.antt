@@ -2,11 +2,11 @@
 use mathlib.Core.Path.{sym}
 use mathlib.Core.List.{[], _∷_, _++_}
 use Rattle.quantiser.specs.Quant.{forwardBy}
-use Rattle.picture.specs.Run.{planeFrom, secondNumber, placeNumbers}
-use Rattle.picture.specs.RunLaws.{numbered}
-use Rattle.picture.specs.TallyLaws.{place-plain}
-use Rattle.picture.specs.Put.{RoomFor}
-use Rattle.picture.specs.PutLaws.{puts-then, puts-same, room-same, room-first, room-next}
+use Rattle.picture.specs.Code.Strip.{planeFrom, secondNumber, placeNumbers}
+use Rattle.picture.specs.Laws.Strip.{numbered}
+use Rattle.picture.specs.Laws.Tally.{place-plain}
+use Rattle.picture.specs.Code.Put.{RoomFor}
+use Rattle.picture.specs.Laws.Put.{puts-then, puts-same, room-same, room-first, room-next}
 use borrow.Author.Needs.{needs}
 use Rattle.picture.proofs.low.put.put_plain_place.Statement.{statement}
 use Rattle.picture.proofs.low.put.put_plain_place.Tie as tie

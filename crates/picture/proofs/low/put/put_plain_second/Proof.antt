@@ -1,9 +1,9 @@
 -- `low::put::put_plain_second` meets its contract.
 use mathlib.Core.Path.{sym}
-use Rattle.picture.specs.Run.{secondNumber}
-use Rattle.picture.specs.RunLaws.{numbered-second, second-none}
-use Rattle.picture.specs.TallyLaws.{second-plain}
-use Rattle.picture.specs.PutLaws.{puts-none, puts-same, room-same}
+use Rattle.picture.specs.Code.Strip.{secondNumber}
+use Rattle.picture.specs.Laws.Strip.{numbered-second, second-none}
+use Rattle.picture.specs.Laws.Tally.{second-plain}
+use Rattle.picture.specs.Laws.Put.{puts-none, puts-same, room-same}
 use borrow.Author.Needs.{needs}
 use Rattle.picture.proofs.low.put.put_plain_second.Statement.{statement}
 use Rattle.picture.proofs.low.put.put_plain_second.Tie as tie

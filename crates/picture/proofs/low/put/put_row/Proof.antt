@@ -1,8 +1,8 @@
 -- `picture::low::put::put_row` meets its contract.
 use borrow.Author.Needs.{needs}
 use Prim.Native.Nat.{_-_}
-use Rattle.picture.specs.Run.{rowNumbers}
-use Rattle.picture.specs.PutLaws.{puts-past}
+use Rattle.picture.specs.Code.Strip.{rowNumbers}
+use Rattle.picture.specs.Laws.Put.{puts-past}
 use Rattle.picture.proofs.low.put.put_row.Statement.{statement}
 use Rattle.picture.proofs.low.put.put_row.Tie as tie
 

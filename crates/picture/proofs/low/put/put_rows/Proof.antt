@@ -2,10 +2,10 @@
 use mathlib.Core.Path.{_≡_, sym, ap, _∙_}
 use Prim.Native.Nat.{_+_, _-_, _≤_}
 use Rattle.laws.specs.Chunks.{chunks}
-use Rattle.picture.specs.Run.{stripNumbers}
-use Rattle.picture.specs.RunLaws.{rowAt, rows, rows-chunks}
-use Rattle.picture.specs.PutLaws.{puts-same, room-same, part-room, part-turn, parts-none}
-use Rattle.picture.specs.Put.{Puts}
+use Rattle.picture.specs.Code.Strip.{stripNumbers}
+use Rattle.picture.specs.Laws.Strip.{rowAt, rows, rows-chunks}
+use Rattle.picture.specs.Laws.Put.{puts-same, room-same, part-room, part-turn, parts-none}
+use Rattle.picture.specs.Code.Put.{Puts}
 use native.Mathlib.Omega.{arith}
 use Rattle.picture.proofs.low.put.put_rows.Statement.{statement}
 use Rattle.picture.proofs.low.put.put_rows.Tie as tie

@@ -1,11 +1,11 @@
--- `low::put::put_run` meets its contract. The invariant: the bands before the n-th are written, start is their area, and v
--- is the window of the band before.
+-- `low::put::put_run` meets its contract. The invariant: the bands before the n-th are written, start is their area,
+-- and v is the window of the band before.
 use mathlib.Core.Path.{_≡_, sym, ap}
 use Prim.Native.Nat.{_-_, _≤_}
-use Rattle.picture.specs.Put.{Puts}
-use Rattle.picture.specs.PutLaws.{puts-same}
-use Rattle.picture.specs.Layout.{bandCount, startOf, windowOf, runNumbers}
-use Rattle.picture.specs.LayoutLaws.{start-first, strip-in, strip-from, start-turn, start-small, run-window, window-first, window-turn, put-none, put-turn, put-ready}
+use Rattle.picture.specs.Code.Put.{Puts}
+use Rattle.picture.specs.Laws.Put.{puts-same}
+use Rattle.picture.specs.Code.Layout.{bandCount, startOf, windowOf, runNumbers}
+use Rattle.picture.specs.Laws.Layout.{start-first, strip-in, strip-from, start-turn, start-small, run-window, window-first, window-turn, put-none, put-turn, put-ready}
 use native.Mathlib.Omega.{arith}
 use Rattle.picture.proofs.low.put.put_run.Statement.{statement}
 use Rattle.picture.proofs.low.put.put_run.Tie as tie

@@ -5,9 +5,9 @@ use mir.Val.{toZ, ofZ}
 use mir.Facts.{toZ-ofZ}
 use borrow.Author.Needs.{sfits-of, needs}
 use mathlib.Core.List.{[], _∷_}
-use Rattle.picture.specs.Run.{secondNumber}
-use Rattle.picture.specs.RunLaws.{numbered-second, second-one, second-none}
-use Rattle.picture.specs.PutLaws.{puts-none, puts-same, room-same}
+use Rattle.picture.specs.Code.Strip.{secondNumber}
+use Rattle.picture.specs.Laws.Strip.{numbered-second, second-one, second-none}
+use Rattle.picture.specs.Laws.Put.{puts-none, puts-same, room-same}
 use Rattle.picture.proofs.low.put.put_second.Statement.{statement}
 use Rattle.picture.proofs.low.put.put_second.Tie as tie
 

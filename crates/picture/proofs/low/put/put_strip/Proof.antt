@@ -1,7 +1,7 @@
 -- `picture::low::put::put_strip` meets its contract.
 use borrow.Author.Needs.{needs}
-use Rattle.picture.specs.Run.{stripNumbers}
-use Rattle.picture.specs.PutLaws.{puts-past}
+use Rattle.picture.specs.Code.Strip.{stripNumbers}
+use Rattle.picture.specs.Laws.Put.{puts-past}
 use Rattle.picture.proofs.low.put.put_strip.Statement.{statement}
 use Rattle.picture.proofs.low.put.put_strip.Tie as tie
 

@@ -1,6 +1,6 @@
 -- `low::size::length_bits` meets its contract.
 use native.Mathlib.Omega.{arith}
-use Rattle.picture.specs.LowIndexLaws.{length-few}
+use Rattle.picture.specs.Laws.LowIndex.{length-few}
 use borrow.Author.Needs.{needs}
 use Rattle.picture.proofs.low.size.length_bits.Statement.{statement}
 use Rattle.picture.proofs.low.size.length_bits.Tie as tie

@@ -1,6 +1,6 @@
 -- `low::size::room_of` meets its contract.
 use native.Mathlib.Omega.{arith}
-use Rattle.picture.specs.LowIndexLaws.{length-most}
+use Rattle.picture.specs.Laws.LowIndex.{length-most}
 use borrow.Author.Needs.{needs}
 use Rattle.picture.proofs.low.size.room_of.Statement.{statement}
 use Rattle.picture.proofs.low.size.room_of.Tie as tie

@@ -2,7 +2,7 @@
 use Prim.Native.Nat.{_+_}
 use native.Mathlib.Omega.{arith}
 use Rattle.laws.specs.Machine.{product-fits}
-use Rattle.picture.specs.LowIndexLaws.{bytes-rise, bytes-are}
+use Rattle.picture.specs.Laws.LowIndex.{bytes-rise, bytes-are}
 use borrow.Author.Needs.{needs}
 use Rattle.picture.proofs.low.size.slice_bytes.Statement.{statement}
 use Rattle.picture.proofs.low.size.slice_bytes.Tie as tie

@@ -1,6 +1,6 @@
 -- `low::slice::put_ld_slice` meets its contract.
 use native.Mathlib.Omega.{arith}
-use Rattle.picture.specs.LowSliceLaws.{length-room, runs-room, ones-room, flush-room, slice-laid}
+use Rattle.picture.specs.Laws.LowSlice.{length-room, runs-room, ones-room, flush-room, slice-laid}
 use borrow.Author.Needs.{needs}
 use Rattle.picture.proofs.low.slice.put_ld_slice.Statement.{statement}
 use Rattle.picture.proofs.low.slice.put_ld_slice.Tie as tie

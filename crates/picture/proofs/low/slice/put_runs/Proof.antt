@@ -3,9 +3,9 @@ use lib.ListN.{take}
 use Rattle.codewords.specs.Bit.{Bits}
 use Rattle.codewords.specs.Code.{codes}
 use Rattle.codewords.specs.WriterLaws.{wrote-then}
-use Rattle.picture.specs.HeadLaws.{room-first, room-rest}
-use Rattle.picture.specs.Low.{lumaIn, colourIn}
-use Rattle.picture.specs.PictureLaws.{run-y, run-pair}
+use Rattle.picture.specs.Laws.Head.{room-first, room-rest}
+use Rattle.picture.specs.Code.Low.{lumaIn, colourIn}
+use Rattle.picture.specs.Laws.Picture.{run-y, run-pair}
 use borrow.Author.Needs.{needs}
 use Rattle.picture.proofs.low.slice.put_runs.Statement.{statement}
 use Rattle.picture.proofs.low.slice.put_runs.Tie as tie

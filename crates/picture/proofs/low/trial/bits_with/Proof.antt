@@ -2,7 +2,7 @@
 use mathlib.Core.Path.{ap₂}
 use Prim.Native.Nat.{_+_}
 use Rattle.picture.specs.declared.slices.tally.Trimmed.{Trimmed}
-use Rattle.picture.specs.LowRestLaws.{joined-few}
+use Rattle.picture.specs.Laws.LowRest.{joined-few}
 use native.Mathlib.Omega.{arith}
 use borrow.Author.Needs.{needs}
 use Rattle.picture.proofs.low.trial.bits_with.Statement.{statement}

@@ -1,7 +1,7 @@
 -- `low::trial::first_tallies` meets its contract.
 use mathlib.Core.Path.{ap}
 use Rattle.picture.specs.declared.low.trial.Windows.{Windows}
-use Rattle.picture.specs.PictureLaws.{run-y, run-pair}
+use Rattle.picture.specs.Laws.Picture.{run-y, run-pair}
 use borrow.Author.Needs.{needs}
 use Rattle.picture.proofs.low.trial.first_tallies.Statement.{statement}
 use Rattle.picture.proofs.low.trial.first_tallies.Tie as tie

@@ -1,7 +1,7 @@
 -- `low::trial::fits` meets its contract.
-use Rattle.picture.specs.Picture.{Arranged}
-use Rattle.picture.specs.LowRest.{Known}
-use Rattle.picture.specs.LowRestLaws.{known-rebuilt, joins-both, surely-either, never-either, fits-low, fits-high}
+use Rattle.picture.specs.Code.Picture.{Arranged}
+use Rattle.picture.specs.Code.LowRest.{Known}
+use Rattle.picture.specs.Laws.LowRest.{known-rebuilt, joins-both, surely-either, never-either, fits-low, fits-high}
 use native.Mathlib.Omega.{arith}
 use borrow.Author.Needs.{needs}
 use Rattle.picture.proofs.low.trial.fits.Statement.{statement}

@@ -1,6 +1,6 @@
 -- `low::trial::joined` meets its contract.
 use mathlib.Core.Path.{_∙_}
-use Rattle.picture.specs.LowRestLaws.{joined-none, joined-some}
+use Rattle.picture.specs.Laws.LowRest.{joined-none, joined-some}
 use borrow.Author.Needs.{needs}
 use Rattle.picture.proofs.low.trial.joined.Statement.{statement}
 use Rattle.picture.proofs.low.trial.joined.Tie as tie

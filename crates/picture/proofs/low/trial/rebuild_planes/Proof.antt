@@ -1,9 +1,9 @@
 -- `low::trial::rebuild_planes` meets its contract.
 use mathlib.Core.Path.{ap, _∙_}
 use Rattle.picture.specs.declared.low.trial.Windows.{Windows}
-use Rattle.picture.specs.PictureLaws.{run-y, run-c1, run-c2}
-use Rattle.picture.specs.LowIndexLaws.{planes-rebuilt}
-use Rattle.picture.specs.LowRestLaws.{window-c2}
+use Rattle.picture.specs.Laws.Picture.{run-y, run-c1, run-c2}
+use Rattle.picture.specs.Laws.LowIndex.{planes-rebuilt}
+use Rattle.picture.specs.Laws.LowRest.{window-c2}
 use borrow.Author.Needs.{needs}
 use Rattle.picture.proofs.low.trial.rebuild_planes.Statement.{statement}
 use Rattle.picture.proofs.low.trial.rebuild_planes.Tie as tie

@@ -1,8 +1,8 @@
 -- `low::trial::rest_run` meets its contract.
 use mathlib.Core.Path.{_∙_}
 use Prim.Native.Nat.{_-_}
-use Rattle.picture.specs.Layout.{restNumbers, bandCount}
-use Rattle.picture.specs.TallyLaws.{TallyOf, tally-of, tally-keeps, tally-trimmed}
+use Rattle.picture.specs.Code.Layout.{restNumbers, bandCount}
+use Rattle.picture.specs.Laws.Tally.{TallyOf, tally-of, tally-keeps, tally-trimmed}
 use native.Mathlib.Omega.{arith}
 use Rattle.picture.proofs.low.trial.rest_run.Statement.{statement}
 use Rattle.picture.proofs.low.trial.rest_run.Tie as tie

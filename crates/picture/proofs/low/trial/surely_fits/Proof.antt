@@ -2,8 +2,8 @@
 use mathlib.Core.Path.{ap}
 use Prim.Native.Nat.{ℕ}
 use lib.Dec.{leb}
-use Rattle.picture.specs.LowRest.{bitsWith}
-use Rattle.picture.specs.LowRestLaws.{over-no, within-is}
+use Rattle.picture.specs.Code.LowRest.{bitsWith}
+use Rattle.picture.specs.Laws.LowRest.{over-no, within-is}
 use borrow.Author.Needs.{needs}
 use Rattle.picture.proofs.low.trial.surely_fits.Statement.{statement}
 use Rattle.picture.proofs.low.trial.surely_fits.Tie as tie

@@ -1,6 +1,6 @@
 -- `picture::slices::cost::add_len` meets its contract.
 use mathlib.Core.Path.{ap, _∙_}
-use Rattle.picture.specs.Cost.{fitted}
+use Rattle.picture.specs.Code.Cost.{fitted}
 use borrow.Author.Needs.{needs}
 use Rattle.picture.proofs.slices.cost.add_len.Statement.{statement}
 use Rattle.picture.proofs.slices.cost.add_len.Tie as tie

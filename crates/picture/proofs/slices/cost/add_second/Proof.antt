@@ -1,13 +1,13 @@
 -- `picture::slices::cost::add_second` meets its contract.
 use mathlib.Core.Path.{refl}
 use borrow.Author.Needs.{needs}
-use Rattle.picture.specs.Run.{numberIn}
-use Rattle.picture.specs.RunLaws.{numbered-second}
-use Rattle.picture.specs.AddedLaws.{second-yes, second-no}
-use Rattle.picture.specs.CostLaws.{added-len}
+use Rattle.picture.specs.Code.Strip.{numberIn}
+use Rattle.picture.specs.Laws.Strip.{numbered-second}
+use Rattle.picture.specs.Laws.Added.{second-yes, second-no}
+use Rattle.picture.specs.Laws.Cost.{added-len}
 use Rattle.picture.proofs.slices.cost.add_second.Statement.{statement}
 use Rattle.picture.proofs.slices.cost.add_second.Tie as tie
-use Rattle.picture.specs.Cost.{add1}
+use Rattle.picture.specs.Code.Cost.{add1}
 
 number-len-requires : tie.Need-number-len-requires
 number-len-requires c κs = let h = c .before .pre in numbered-second (h .0) (h .1 .0) (h .1 .1 .0)

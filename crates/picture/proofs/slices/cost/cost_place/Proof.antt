@@ -2,11 +2,11 @@
 use mathlib.Core.Path.{_≡_, refl}
 use lib.IntN.{ℤ}
 use borrow.Author.Needs.{needs}
-use Rattle.picture.specs.Run.{numberIn}
-use Rattle.picture.specs.RunLaws.{numbered, number-size}
-use Rattle.picture.specs.Cost.{add1}
-use Rattle.picture.specs.AddedLaws.{place-added}
-use Rattle.picture.specs.CostLaws.{added-len, countable-one}
+use Rattle.picture.specs.Code.Strip.{numberIn}
+use Rattle.picture.specs.Laws.Strip.{numbered, number-size}
+use Rattle.picture.specs.Code.Cost.{add1}
+use Rattle.picture.specs.Laws.Added.{place-added}
+use Rattle.picture.specs.Laws.Cost.{added-len, countable-one}
 use Rattle.picture.proofs.slices.cost.cost_place.Statement.{statement}
 use Rattle.picture.proofs.slices.cost.cost_place.Tie as tie
 

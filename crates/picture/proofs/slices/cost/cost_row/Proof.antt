@@ -2,11 +2,11 @@
 use mathlib.Core.Path.{_≡_}
 use Prim.Native.Nat.{ℕ, _+_, _-_, _≤_}
 use Rattle.laws.specs.Chunks.{chunks}
-use Rattle.picture.specs.Run.{Inside}
-use Rattle.picture.specs.Cost.{add1, addAll}
-use Rattle.picture.specs.RunLaws.{places, place-small, place-length, row-chunks, chunks-small, chunks-length}
-use Rattle.picture.specs.AddedLaws.{added-chunks-none, added-turn, added-all}
-use Rattle.picture.specs.CostLaws.{countable-after}
+use Rattle.picture.specs.Code.Strip.{Inside}
+use Rattle.picture.specs.Code.Cost.{add1, addAll}
+use Rattle.picture.specs.Laws.Strip.{places, place-small, place-length, row-chunks, chunks-small, chunks-length}
+use Rattle.picture.specs.Laws.Added.{added-chunks-none, added-turn, added-all}
+use Rattle.picture.specs.Laws.Cost.{countable-after}
 use native.Mathlib.Omega.{arith}
 use Rattle.picture.proofs.slices.cost.cost_row.Statement.{statement}
 use Rattle.picture.proofs.slices.cost.cost_row.Tie as tie

@@ -2,10 +2,10 @@
 use mathlib.Core.Path.{_≡_}
 use Prim.Native.Nat.{ℕ, _+_, _*_, _-_, _≤_}
 use Rattle.laws.specs.Chunks.{chunks}
-use Rattle.picture.specs.Cost.{add1, addAll}
-use Rattle.picture.specs.RunLaws.{rows, row-small, row-length, rows-chunks, chunks-small, chunks-length}
-use Rattle.picture.specs.AddedLaws.{added-chunks-none, added-turn, added-all}
-use Rattle.picture.specs.CostLaws.{countable-after, strip-room}
+use Rattle.picture.specs.Code.Cost.{add1, addAll}
+use Rattle.picture.specs.Laws.Strip.{rows, row-small, row-length, rows-chunks, chunks-small, chunks-length}
+use Rattle.picture.specs.Laws.Added.{added-chunks-none, added-turn, added-all}
+use Rattle.picture.specs.Laws.Cost.{countable-after, strip-room}
 use native.Mathlib.Omega.{arith}
 use Rattle.picture.proofs.slices.cost.cost_strip.Statement.{statement}
 use Rattle.picture.proofs.slices.cost.cost_strip.Tie as tie

@@ -1,6 +1,6 @@
 -- `picture::slices::cost::fit_to` meets its contract.
 use native.Mathlib.Omega.{arith}
-use Rattle.picture.specs.CostLaws.{fitted-yes, fitted-no}
+use Rattle.picture.specs.Laws.Cost.{fitted-yes, fitted-no}
 use Rattle.picture.proofs.slices.cost.fit_to.Statement.{statement}
 use Rattle.picture.proofs.slices.cost.fit_to.Tie as tie
 

@@ -1,5 +1,5 @@
 -- `picture::slices::cost::keep_to` meets its contract.
-use Rattle.picture.specs.CostLaws.{kept-yes, kept-no}
+use Rattle.picture.specs.Laws.Cost.{kept-yes, kept-no}
 use borrow.Author.Needs.{needs}
 use Rattle.picture.proofs.slices.cost.keep_to.Statement.{statement}
 use Rattle.picture.proofs.slices.cost.keep_to.Tie as tie

@@ -1,8 +1,8 @@
 -- `slices::layout::band_size` meets its contract.
 use native.Mathlib.Omega.{arith}
 use mathlib.Core.Path.{refl}
-use Rattle.picture.specs.LayoutLaws.{level-most}
-use Rattle.picture.specs.Layout.{bandSize}
+use Rattle.picture.specs.Laws.Layout.{level-most}
+use Rattle.picture.specs.Code.Layout.{bandSize}
 use borrow.Author.Needs.{needs}
 use Rattle.picture.proofs.slices.layout.band_size.Statement.{statement}
 use Rattle.picture.proofs.slices.layout.band_size.Tie as tie

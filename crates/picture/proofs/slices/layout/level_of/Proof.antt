@@ -1,6 +1,6 @@
 -- `slices::layout::level_of` meets its contract.
 use mathlib.Core.Path.{sym}
-use Rattle.picture.specs.LayoutLaws.{level-low, level-high}
+use Rattle.picture.specs.Laws.Layout.{level-low, level-high}
 use borrow.Author.Needs.{needs}
 use Rattle.picture.proofs.slices.layout.level_of.Statement.{statement}
 use Rattle.picture.proofs.slices.layout.level_of.Tie as tie

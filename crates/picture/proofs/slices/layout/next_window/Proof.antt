@@ -1,6 +1,6 @@
 -- `slices::layout::next_window` meets its contract.
 use mathlib.Core.Path.{_∙_}
-use Rattle.picture.specs.LayoutLaws.{window-same}
+use Rattle.picture.specs.Laws.Layout.{window-same}
 use borrow.Author.Needs.{needs}
 use Rattle.picture.proofs.slices.layout.next_window.Statement.{statement}
 use Rattle.picture.proofs.slices.layout.next_window.Tie as tie

@@ -2,8 +2,8 @@
 use mathlib.Core.Path.{ap}
 use native.Mathlib.Omega.{arith}
 use Rattle.unit.specs.Sizes.{Size}
-use Rattle.picture.specs.Sides.{sizeIn}
-use Rattle.picture.specs.LayoutLaws.{band-narrow, band-low, row-of, column-of, window-is, strip-by}
+use Rattle.picture.specs.Code.Sides.{sizeIn}
+use Rattle.picture.specs.Laws.Layout.{band-narrow, band-low, row-of, column-of, window-is, strip-by}
 use borrow.Author.Needs.{needs}
 use Rattle.picture.proofs.slices.layout.strip_at.Statement.{statement}
 use Rattle.picture.proofs.slices.layout.strip_at.Tie as tie

@@ -1,5 +1,5 @@
 -- `slices::layout::strip_in` meets its contract.
-use Rattle.picture.specs.LayoutLaws.{strip-by}
+use Rattle.picture.specs.Laws.Layout.{strip-by}
 use borrow.Author.Needs.{needs}
 use Rattle.picture.proofs.slices.layout.strip_in.Statement.{statement}
 use Rattle.picture.proofs.slices.layout.strip_in.Tie as tie

@@ -10,7 +10,7 @@ use lib.IntN.{ℤ}
 use lib.ListN.{set, take, drop}
 use Rattle.laws.specs.Window.{length-lent}
 use Rattle.laws.specs.Window.{set-lent}
-use Rattle.picture.specs.RunLaws.{place-lt}
+use Rattle.picture.specs.Laws.Strip.{place-lt}
 use native.Mathlib.Omega.{arith}
 use Rattle.picture.proofs.slices.rebuild.rebuild_place.Statement.{statement}
 use Rattle.picture.proofs.slices.rebuild.rebuild_place.Tie as tie

@@ -2,8 +2,8 @@
 use mathlib.Core.Path.{_≡_, ap, _∙_}
 use Prim.Native.Nat.{_-_, _≤_}
 use lib.ListN.{length}
-use Rattle.picture.specs.Run.{rebuiltRow, Small, Inside}
-use Rattle.picture.specs.RunLaws.{rebuilt-none, rebuilt-length, rebuilt-turn, place-lt, value-reach, small-set}
+use Rattle.picture.specs.Code.Strip.{rebuiltRow, Small, Inside}
+use Rattle.picture.specs.Laws.Strip.{rebuilt-none, rebuilt-length, rebuilt-turn, place-lt, value-reach, small-set}
 use native.Mathlib.Omega.{arith}
 use Rattle.picture.proofs.slices.rebuild.rebuild_row.Statement.{statement}
 use Rattle.picture.proofs.slices.rebuild.rebuild_row.Tie as tie

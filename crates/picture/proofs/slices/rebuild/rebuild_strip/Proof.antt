@@ -2,8 +2,8 @@
 use mathlib.Core.Path.{_≡_, ap, _∙_}
 use Prim.Native.Nat.{_-_, _≤_}
 use lib.ListN.{length}
-use Rattle.picture.specs.Run.{rebuiltRows, Small}
-use Rattle.picture.specs.RunLaws.{rebuilt-rows-none, rebuilt-rows-turn, rebuilt-rows-length}
+use Rattle.picture.specs.Code.Strip.{rebuiltRows, Small}
+use Rattle.picture.specs.Laws.Strip.{rebuilt-rows-none, rebuilt-rows-turn, rebuilt-rows-length}
 use native.Mathlib.Omega.{arith}
 use Rattle.picture.proofs.slices.rebuild.rebuild_strip.Statement.{statement}
 use Rattle.picture.proofs.slices.rebuild.rebuild_strip.Tie as tie

@@ -8,8 +8,8 @@ use borrow.Author.Needs.{sfits-of}
 use Rattle.laws.specs.Machine.{fit}
 use Rattle.quantiser.specs.Quant.{inverseBy}
 use Rattle.quantiser.specs.QuantLaws.{quantOffset-lt}
-use Rattle.picture.specs.Run.{valueIn}
-use Rattle.picture.specs.RunLaws.{numbered, value-reach}
+use Rattle.picture.specs.Code.Strip.{valueIn}
+use Rattle.picture.specs.Laws.Strip.{numbered, value-reach}
 use native.Mathlib.Omega.{arith}
 use Rattle.picture.proofs.slices.rebuild.value_at.Statement.{statement}
 use Rattle.picture.proofs.slices.rebuild.value_at.Tie as tie

@@ -1,9 +1,10 @@
--- `slices::run::cost_run` meets its contract. The invariant: the bands before the n-th are added, and start is their area.
+-- `slices::run::cost_run` meets its contract. The invariant: the bands before the n-th are added, and start is their
+-- area.
 use mathlib.Core.Path.{_≡_, sym, ap, _∙_}
 use Prim.Native.Nat.{_-_, _≤_}
-use Rattle.picture.specs.Cost.{addAll}
-use Rattle.picture.specs.Layout.{bandCount, startOf, runNumbers}
-use Rattle.picture.specs.LayoutLaws.{start-first, strip-in, strip-from, start-turn, start-small, cost-none, cost-turn, cost-ready}
+use Rattle.picture.specs.Code.Cost.{addAll}
+use Rattle.picture.specs.Code.Layout.{bandCount, startOf, runNumbers}
+use Rattle.picture.specs.Laws.Layout.{start-first, strip-in, strip-from, start-turn, start-small, cost-none, cost-turn, cost-ready}
 use native.Mathlib.Omega.{arith}
 use Rattle.picture.proofs.slices.run.cost_run.Statement.{statement}
 use Rattle.picture.proofs.slices.run.cost_run.Tie as tie

@@ -1,12 +1,12 @@
 -- `slices::run::first_tally` meets its contract.
 use mathlib.Core.Path.{ap, _∙_}
 use Rattle.picture.specs.declared.slices.strip.Strip.{Strip}
-use Rattle.picture.specs.Run.{stripNumbers}
+use Rattle.picture.specs.Code.Strip.{stripNumbers}
 use Rattle.picture.specs.declared.slices.cost.Cost.{Cost}
-use Rattle.picture.specs.Cost.{addAll, noCost}
-use Rattle.picture.specs.Tally.{tallyOf, tallyAll, noTally}
-use Rattle.picture.specs.TallyLaws.{tally-cost}
-use Rattle.picture.specs.LayoutLaws.{first-ready}
+use Rattle.picture.specs.Code.Cost.{addAll, noCost}
+use Rattle.picture.specs.Code.Tally.{tallyOf, tallyAll, noTally}
+use Rattle.picture.specs.Laws.Tally.{tally-cost}
+use Rattle.picture.specs.Laws.Layout.{first-ready}
 use borrow.Author.Needs.{needs}
 use Rattle.picture.proofs.slices.run.first_tally.Statement.{statement}
 use Rattle.picture.proofs.slices.run.first_tally.Tie as tie

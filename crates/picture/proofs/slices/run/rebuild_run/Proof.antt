@@ -1,9 +1,9 @@
 -- `slices::run::rebuild_run` meets its contract.
-use Rattle.picture.specs.LayoutLaws.{first-within}
+use Rattle.picture.specs.Laws.Layout.{first-within}
 use mathlib.Core.Bool.{false}
 use mathlib.Core.Path.{_∙_, ap}
 use Rattle.picture.specs.declared.slices.strip.Strip.{Strip}
-use Rattle.picture.specs.Run.{rebuiltStrip}
+use Rattle.picture.specs.Code.Strip.{rebuiltStrip}
 use borrow.Author.Needs.{needs}
 use Rattle.picture.proofs.slices.run.rebuild_run.Statement.{statement}
 use Rattle.picture.proofs.slices.run.rebuild_run.Tie as tie

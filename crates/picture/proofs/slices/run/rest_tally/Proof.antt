@@ -1,10 +1,10 @@
--- `slices::run::rest_tally` meets its contract. The invariant: the bands before the n-th but the first are added, start is the
--- area of all before it, and v is the window of the band before.
+-- `slices::run::rest_tally` meets its contract. The invariant: the bands before the n-th but the first are added, start
+-- is the area of all before it, and v is the window of the band before.
 use mathlib.Core.Path.{_≡_, ap, _∙_}
 use Prim.Native.Nat.{_-_, _≤_}
-use Rattle.picture.specs.Tally.{tallyAll}
-use Rattle.picture.specs.Layout.{bandCount, startOf, windowOf, restNumbers}
-use Rattle.picture.specs.LayoutLaws.{strip-in, strip-from, start-turn, start-small, run-window, window-turn, window-area, window-few, tally-none, tally-turn, tally-ready}
+use Rattle.picture.specs.Code.Tally.{tallyAll}
+use Rattle.picture.specs.Code.Layout.{bandCount, startOf, windowOf, restNumbers}
+use Rattle.picture.specs.Laws.Layout.{strip-in, strip-from, start-turn, start-small, run-window, window-turn, window-area, window-few, tally-none, tally-turn, tally-ready}
 use native.Mathlib.Omega.{arith}
 use Rattle.picture.proofs.slices.run.rest_tally.Statement.{statement}
 use Rattle.picture.proofs.slices.run.rest_tally.Tie as tie

@@ -1,6 +1,6 @@
 -- `slices::search::narrowed` meets its contract.
 use mathlib.Core.Path.{sym, ap}
-use Rattle.picture.specs.High.{halfOf}
+use Rattle.picture.specs.Code.Search.{halfOf}
 use borrow.Author.Needs.{needs}
 use Rattle.picture.proofs.slices.search.narrowed.Statement.{statement}
 use Rattle.picture.proofs.slices.search.narrowed.Tie as tie

@@ -1,7 +1,7 @@
 -- `slices::strip::coefficient` meets its contract.
 use Prim.Native.Nat.{ℕ, _+_, _*_}
 use native.Mathlib.Omega.{arith}
-use Rattle.picture.specs.RunLaws.{read}
+use Rattle.picture.specs.Laws.Strip.{read}
 use borrow.Author.Needs.{needs}
 use Rattle.picture.proofs.slices.strip.coefficient.Statement.{statement}
 use Rattle.picture.proofs.slices.strip.coefficient.Tie as tie

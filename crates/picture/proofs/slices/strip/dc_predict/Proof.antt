@@ -9,7 +9,7 @@ use mir.Facts.{toZ-ofZ}
 use borrow.Author.Needs.{needs, sfits-of}
 use lib.ListN.{length}
 use Rattle.laws.specs.Rows.{at}
-use Rattle.picture.specs.RunLaws.{row-up, read, predict-corner, predict-top, predict-side, predict-mean, is-predict}
+use Rattle.picture.specs.Laws.Strip.{row-up, read, predict-corner, predict-top, predict-side, predict-mean, is-predict}
 use native.Mathlib.Omega.{arith}
 use Rattle.picture.proofs.slices.strip.dc_predict.Statement.{statement}
 use Rattle.picture.proofs.slices.strip.dc_predict.Tie as tie

@@ -4,7 +4,7 @@ use native.Mathlib.Omega.{arith}
 use mir.Syntax.{w64}
 use mir.Facts.{toZ-ofZ}
 use borrow.Author.Needs.{needs, sfits-of}
-use Rattle.picture.specs.RunLaws.{prediction-yes, prediction-no}
+use Rattle.picture.specs.Laws.Strip.{prediction-yes, prediction-no}
 use Rattle.picture.proofs.slices.strip.prediction.Statement.{statement}
 use Rattle.picture.proofs.slices.strip.prediction.Tie as tie
 

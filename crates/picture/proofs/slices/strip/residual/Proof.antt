@@ -9,7 +9,7 @@ use borrow.Author.Needs.{needs, sfits-of}
 use Rattle.laws.specs.Rows.{at}
 use Rattle.laws.specs.Integer.{abs-sub}
 use Rattle.laws.specs.Machine.{fit}
-use Rattle.picture.specs.RunLaws.{read}
+use Rattle.picture.specs.Laws.Strip.{read}
 use native.Mathlib.Omega.{arith}
 use Rattle.picture.proofs.slices.strip.residual.Statement.{statement}
 use Rattle.picture.proofs.slices.strip.residual.Tie as tie

@@ -8,8 +8,8 @@ use mir.Facts.{toZ-ofZ}
 use borrow.Author.Needs.{needs, sfits-of}
 use Rattle.codewords.specs.Code.{codeS}
 use Rattle.quantiser.specs.Quant.{forwardBy}
-use Rattle.picture.specs.Run.{planeFrom}
-use Rattle.picture.specs.TallyLaws.{tallied-len}
+use Rattle.picture.specs.Code.Strip.{planeFrom}
+use Rattle.picture.specs.Laws.Tally.{tallied-len}
 use borrow.Author.Needs.{needs}
 use Rattle.picture.proofs.slices.tally.add_coefficient.Statement.{statement}
 use Rattle.picture.proofs.slices.tally.add_coefficient.Tie as tie

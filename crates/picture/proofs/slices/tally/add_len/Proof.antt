@@ -1,6 +1,6 @@
 -- `slices::tally::add_len` meets its contract.
 use borrow.Author.Tests.{ne-eqb}
-use Rattle.picture.specs.TallyLaws.{tallied-yes, tallied-no}
+use Rattle.picture.specs.Laws.Tally.{tallied-yes, tallied-no}
 use borrow.Author.Needs.{needs}
 use Rattle.picture.proofs.slices.tally.add_len.Statement.{statement}
 use Rattle.picture.proofs.slices.tally.add_len.Tie as tie

@@ -1,10 +1,10 @@
 -- `slices::tally::add_place` meets its contract.
-use Rattle.picture.specs.Run.{planeFrom}
+use Rattle.picture.specs.Code.Strip.{planeFrom}
 use Rattle.quantiser.specs.QuantLaws.{number-most}
-use Rattle.picture.specs.RunLaws.{numbered}
-use Rattle.picture.specs.AddedLaws.{place-added}
-use Rattle.picture.specs.Tally.{tally1}
-use Rattle.picture.specs.TallyLaws.{plain-number, addable-one, countable-less}
+use Rattle.picture.specs.Laws.Strip.{numbered}
+use Rattle.picture.specs.Laws.Added.{place-added}
+use Rattle.picture.specs.Code.Tally.{tally1}
+use Rattle.picture.specs.Laws.Tally.{plain-number, addable-one, countable-less}
 use Rattle.picture.proofs.slices.tally.add_place.Statement.{statement}
 use Rattle.picture.proofs.slices.tally.add_place.Tie as tie
 

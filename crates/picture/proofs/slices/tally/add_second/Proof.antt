@@ -1,8 +1,8 @@
 -- `slices::tally::add_second` meets its contract.
-use Rattle.picture.specs.RunLaws.{numbered-second}
-use Rattle.picture.specs.AddedLaws.{second-yes, second-no}
-use Rattle.picture.specs.Tally.{tally1}
-use Rattle.picture.specs.TallyLaws.{plain-number}
+use Rattle.picture.specs.Laws.Strip.{numbered-second}
+use Rattle.picture.specs.Laws.Added.{second-yes, second-no}
+use Rattle.picture.specs.Code.Tally.{tally1}
+use Rattle.picture.specs.Laws.Tally.{plain-number}
 use Rattle.picture.proofs.slices.tally.add_second.Statement.{statement}
 use Rattle.picture.proofs.slices.tally.add_second.Tie as tie
 

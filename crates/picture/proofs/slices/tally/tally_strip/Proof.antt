@@ -2,11 +2,11 @@
 use mathlib.Core.Path.{_≡_}
 use Prim.Native.Nat.{ℕ, _+_, _*_, _-_, _≤_}
 use Rattle.laws.specs.Chunks.{chunks}
-use Rattle.picture.specs.Tally.{tally1, tallyAll}
-use Rattle.picture.specs.RunLaws.{rows, row-small, row-length, rows-chunks, chunks-small, chunks-length}
-use Rattle.picture.specs.AddedLaws.{added-chunks-none, added-turn, added-all}
-use Rattle.picture.specs.CostLaws.{strip-room}
-use Rattle.picture.specs.TallyLaws.{addable-after}
+use Rattle.picture.specs.Code.Tally.{tally1, tallyAll}
+use Rattle.picture.specs.Laws.Strip.{rows, row-small, row-length, rows-chunks, chunks-small, chunks-length}
+use Rattle.picture.specs.Laws.Added.{added-chunks-none, added-turn, added-all}
+use Rattle.picture.specs.Laws.Cost.{strip-room}
+use Rattle.picture.specs.Laws.Tally.{addable-after}
 use native.Mathlib.Omega.{arith}
 use Rattle.picture.proofs.slices.tally.tally_strip.Statement.{statement}
 use Rattle.picture.proofs.slices.tally.tally_strip.Tie as tie

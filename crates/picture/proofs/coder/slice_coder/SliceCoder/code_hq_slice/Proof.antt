@@ -8,10 +8,11 @@ use lib.ListN.{length}
 use Rattle.laws.specs.Laid.{Lays}
 use Rattle.codewords.specs.Bytes.{toBytes}
 use Rattle.unit.specs.HighQuality.{highBits}
-use Rattle.picture.specs.High.{numbersAt, FewBits, TermsIn, HeldSlice}
-use Rattle.picture.specs.HighIndexLaws.{index-most, own-few}
-use Rattle.picture.specs.HighSliceLaws.{choice-held, plan-room, plan-laid, plan-words}
-use Rattle.picture.specs.NotedLaws.{words-room}
+use Rattle.picture.specs.Code.Notes.{numbersAt, HeldSlice}
+use Rattle.picture.specs.Code.Choice.{FewBits, TermsIn}
+use Rattle.picture.specs.Laws.HighIndex.{index-most, own-few}
+use Rattle.picture.specs.Laws.HighSlice.{choice-held, plan-room, plan-laid, plan-words}
+use Rattle.picture.specs.Laws.Noted.{words-room}
 use borrow.Author.Needs.{needs}
 use Rattle.picture.proofs.coder.slice_coder.SliceCoder.code_hq_slice.Statement.{statement}
 use Rattle.picture.proofs.coder.slice_coder.SliceCoder.code_hq_slice.Tie as tie

@@ -2,9 +2,9 @@
 use mathlib.Core.Path.{refl, ap, _∙_}
 use Prim.Native.Nat.{ℕ, _+_}
 use lib.ListN.{length}
-use Rattle.picture.specs.Picture.{SliceIn}
-use Rattle.picture.specs.LowRestLaws.{slice-at, known-rebuilt}
-use Rattle.picture.specs.LowSliceLaws.{slice-fits, elects}
+use Rattle.picture.specs.Code.Picture.{SliceIn}
+use Rattle.picture.specs.Laws.LowRest.{slice-at, known-rebuilt}
+use Rattle.picture.specs.Laws.LowSlice.{slice-fits, elects}
 use native.Mathlib.Omega.{arith}
 use borrow.Author.Needs.{needs}
 use Rattle.picture.proofs.coder.slice_coder.SliceCoder.code_ld_slice.Statement.{statement}

@@ -1,5 +1,5 @@
 -- `SliceCoder::plan_choice` meets its contract.
-use Rattle.picture.specs.HighPlanLaws.{planned-is}
+use Rattle.picture.specs.Laws.HighPlan.{planned-is}
 use borrow.Author.Needs.{needs}
 use Rattle.picture.proofs.coder.slice_coder.SliceCoder.plan_choice.Statement.{statement}
 use Rattle.picture.proofs.coder.slice_coder.SliceCoder.plan_choice.Tie as tie

@@ -5,11 +5,12 @@ use Prim.Native.Nat.{_+_, _*_}
 use native.Mathlib.Omega.{arith}
 use lib.IntN.{ℤ}
 use Rattle.picture.specs.declared.high.choice.Choice.{Choice}
-use Rattle.picture.specs.Run.{Small}
-use Rattle.picture.specs.High.{noteIn, FewBits}
-use Rattle.picture.specs.HighIndexLaws.{index-most, own-few}
-use Rattle.picture.specs.HighPlanLaws.{slice-planned}
-use Rattle.picture.specs.NotedLaws.{note-small}
+use Rattle.picture.specs.Code.Strip.{Small}
+use Rattle.picture.specs.Code.Notes.{noteIn}
+use Rattle.picture.specs.Code.Choice.{FewBits}
+use Rattle.picture.specs.Laws.HighIndex.{index-most, own-few}
+use Rattle.picture.specs.Laws.HighPlan.{slice-planned}
+use Rattle.picture.specs.Laws.Noted.{note-small}
 use borrow.Author.Needs.{needs}
 use Rattle.picture.proofs.coder.slice_coder.SliceCoder.plan_hq_slice.Statement.{statement}
 use Rattle.picture.proofs.coder.slice_coder.SliceCoder.plan_hq_slice.Tie as tie

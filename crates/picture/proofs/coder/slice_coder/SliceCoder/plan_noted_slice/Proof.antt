@@ -1,9 +1,9 @@
 -- `SliceCoder::plan_noted_slice` meets its contract.
 use native.Mathlib.Omega.{arith}
-use Rattle.picture.specs.High.{FewBits}
-use Rattle.picture.specs.HighIndexLaws.{index-most, own-few}
-use Rattle.picture.specs.HighPlanLaws.{slice-planned}
-use Rattle.picture.specs.NotedLaws.{words-room}
+use Rattle.picture.specs.Code.Choice.{FewBits}
+use Rattle.picture.specs.Laws.HighIndex.{index-most, own-few}
+use Rattle.picture.specs.Laws.HighPlan.{slice-planned}
+use Rattle.picture.specs.Laws.Noted.{words-room}
 use borrow.Author.Needs.{needs}
 use Rattle.picture.proofs.coder.slice_coder.SliceCoder.plan_noted_slice.Statement.{statement}
 use Rattle.picture.proofs.coder.slice_coder.SliceCoder.plan_noted_slice.Tie as tie
