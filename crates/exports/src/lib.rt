@@ -116,10 +116,10 @@ pub extern "C" fn vc2_encode_picture(
           values = record { written = now (written .exit); cut = now («cut_slices» .exit); scaler = now («slice_size_scaler» .exit) };
         }) ⌝ }
 {
-    if !picture::words::known(settings) {
+    if !words::known(settings) {
         return 100;
     }
-    let s = picture::words::settings_of(settings);
+    let s = words::settings_of(settings);
     let r = picture::encoder::encode_picture(s, matrix, y, c1, c2, work, out);
     match r {
         Answer::Accepted(c) => {

@@ -14,7 +14,7 @@ use Rattle.laws.specs.Laid.{Lays, lays-on}
 use Rattle.unit.specs.Refusal.{anyAbove}
 use Rattle.unit.specs.TestLaws.{or-none, all-most, most-at}
 use Rattle.unit.specs.Words.{wordAt, known}
-use Rattle.picture.specs.Laws.Words.{both-true, known-long}
+use Rattle.words.specs.Laws.Words.{both-true, known-long}
 use Rattle.jobs.specs.declared.parse.Ends.{Ends}
 use Rattle.jobs.specs.Job.{wordsOf, kindOf, contentOf, ofKind, behind, partsOf, isEnd, inOrder}
 use Rattle.jobs.specs.Steps.{wordFrom, runEnd, endsOf, counted}

@@ -53,7 +53,7 @@ fn call(
     let end = e.c2;
     let m = few - settings;
     let n = end - few;
-    let s = picture::words::settings_of(&words[..settings]);
+    let s = words::settings_of(&words[..settings]);
     crate::parse::load_matrix(&words[settings..few], matrix);
     crate::parse::load_samples(&words[few..end], samples);
     encode(

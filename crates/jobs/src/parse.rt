@@ -141,7 +141,7 @@ pub(crate) fn well_formed(words: &[u32], e: Ends) -> bool
     let settings = e.settings;
     let matrix = e.matrix;
     let end = e.c2;
-    if !picture::words::known(&words[..settings]) {
+    if !words::known(&words[..settings]) {
         return false;
     }
     if !is_end(words, end) {

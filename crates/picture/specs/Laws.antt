@@ -32,4 +32,3 @@ pub mod Analysed
 pub mod HighLink
 pub mod LowLink
 pub mod Encoded
-pub mod Words

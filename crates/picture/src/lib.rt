@@ -6,4 +6,3 @@ mod front;
 mod high;
 mod low;
 mod slices;
-pub mod words;

@@ -9,8 +9,8 @@ use Rattle.codewords.specs.Bit.{Bits, lit}
 use Rattle.codewords.specs.BitLaws.{length-lit}
 use Rattle.codewords.specs.Code.{codeU, codeS}
 use Rattle.codewords.specs.CodeLaws.{length-codeU, leading-log2, codeS-short}
-use Rattle.replay.specs.declared.words.Put.{Put}
-use Rattle.replay.specs.declared.words.Put.the-variants.{Uint, Sint, Nbits}
+use Rattle.replay.specs.declared.codes.Put.{Put}
+use Rattle.replay.specs.declared.codes.Put.the-variants.{Uint, Sint, Nbits}
 
 abbrev pub bitsOf : Put → Bits
 bitsOf (Uint v) = codeU v

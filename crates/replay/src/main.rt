@@ -24,11 +24,11 @@
 // each kind how many were run and how many differ, and how many cases were malformed. A case of another kind or form is
 // malformed; one that is cut off, or longer than 8,192 words, is malformed and ends the run.
 mod case;
+mod codes;
 mod job;
 mod quant;
 mod tally;
 mod transform;
-mod words;
 
 use case::Verdict;
 use libc::STDIN_FILENO;
@@ -63,11 +63,11 @@ fn run_transform(kind: u64, w: &[u64]) -> Verdict {
 // Runs a case, by its kind.
 fn run_case(kind: u64, w: &[u64]) -> Verdict {
     match kind {
-        1 => words::uint_len(w),
-        2 => words::sint_len(w),
-        3 => words::uint_bits(w),
-        4 => words::sint_bits(w),
-        5 => words::nbits_bits(w),
+        1 => codes::uint_len(w),
+        2 => codes::sint_len(w),
+        3 => codes::uint_bits(w),
+        4 => codes::sint_bits(w),
+        5 => codes::nbits_bits(w),
         _ => run_transform(kind, w),
     }
 }

@@ -11,8 +11,8 @@ use Rattle.exports.proofs.vc2_encode_picture.Tie as tie
 use Rattle.exports.proofs.vc2_encode_picture.Reads as reads
 use Rattle.exports.proofs.vc2_encode_picture.Lts as lts
 use Rattle.picture.proofs.encoder.encode_picture.Reads as encode-picture-reads
-use Rattle.picture.proofs.words.known.Reads as known-reads
-use Rattle.picture.proofs.words.settings_of.Reads as settings-of-reads
+use Rattle.words.proofs.known.Reads as known-reads
+use Rattle.words.proofs.settings_of.Reads as settings-of-reads
 
 known-requires : tie.Need-known-requires
 known-requires c κs = search needs

@@ -6,13 +6,13 @@ use Rattle.codewords.specs.WriterLaws.{room-after}
 use Rattle.replay.specs.Put.{short}
 use native.Mathlib.Omega.{arith}
 use borrow.Author.Needs.{needs}
-use Rattle.replay.proofs.words.put_all.Statement.{statement}
-use Rattle.replay.proofs.words.put_all.Tie as tie
-use Rattle.replay.proofs.words.put_all.Reads as reads
-use Rattle.replay.proofs.words.put_all.Lts as lts
+use Rattle.replay.proofs.codes.put_all.Statement.{statement}
+use Rattle.replay.proofs.codes.put_all.Tie as tie
+use Rattle.replay.proofs.codes.put_all.Reads as reads
+use Rattle.replay.proofs.codes.put_all.Lts as lts
 use Rattle.codewords.proofs.bitio.byte_align.Reads as byte-align-reads
 use Rattle.codewords.proofs.bitio.put_ones.Reads as put-ones-reads
-use Rattle.replay.proofs.words.put_one.Reads as put-one-reads
+use Rattle.replay.proofs.codes.put_one.Reads as put-one-reads
 
 -- a case's bits fit the 24 bytes
 ones-room : (c : tie.Start) → Room (c .args .out .now) (record { at = 0; pending = 0; «pending_bits» = 0 }) 192

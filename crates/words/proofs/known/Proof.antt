@@ -1,10 +1,10 @@
--- `words::known` meets its contract.
-use Rattle.picture.specs.Laws.Words.{known-short, known-by}
+-- `known` meets its contract.
+use Rattle.words.specs.Laws.Words.{known-short, known-by}
 use borrow.Author.Needs.{needs}
-use Rattle.picture.proofs.words.known.Statement.{statement}
-use Rattle.picture.proofs.words.known.Tie as tie
-use Rattle.picture.proofs.words.known.Reads as reads
-use Rattle.picture.proofs.words.known.Lts as lts
+use Rattle.words.proofs.known.Statement.{statement}
+use Rattle.words.proofs.known.Tie as tie
+use Rattle.words.proofs.known.Reads as reads
+use Rattle.words.proofs.known.Lts as lts
 
 returns : tie.Need-returns
 returns c = known-short (c .before .args .words .now) (c .if1 .taken)

@@ -3,10 +3,10 @@ use Prim.Native.Nat.{_-_, _≤_}
 use lib.ListN.{length}
 use borrow.Author.Needs.{needs}
 use native.Mathlib.Omega.{arith}
-use Rattle.replay.proofs.words.same_words.Statement.{statement}
-use Rattle.replay.proofs.words.same_words.Tie as tie
-use Rattle.replay.proofs.words.same_words.Reads as reads
-use Rattle.replay.proofs.words.same_words.Lts as lts
+use Rattle.replay.proofs.codes.same_words.Statement.{statement}
+use Rattle.replay.proofs.codes.same_words.Tie as tie
+use Rattle.replay.proofs.codes.same_words.Reads as reads
+use Rattle.replay.proofs.codes.same_words.Lts as lts
 use Rattle.replay.proofs.case.word_at.Reads as word-at-reads
 
 abbrev Inv-loop : tie.InvT-loop

@@ -3,10 +3,10 @@ use mir.Syntax.{w64}
 use mir.Facts.{toZ-ofZ}
 use Rattle.codewords.specs.BitLaws.{length-lit}
 use borrow.Author.Needs.{needs}
-use Rattle.replay.proofs.words.put_one.Statement.{statement}
-use Rattle.replay.proofs.words.put_one.Tie as tie
-use Rattle.replay.proofs.words.put_one.Reads as reads
-use Rattle.replay.proofs.words.put_one.Lts as lts
+use Rattle.replay.proofs.codes.put_one.Statement.{statement}
+use Rattle.replay.proofs.codes.put_one.Tie as tie
+use Rattle.replay.proofs.codes.put_one.Reads as reads
+use Rattle.replay.proofs.codes.put_one.Lts as lts
 use Rattle.codewords.proofs.bitio.put_nbits.Reads as put-nbits-reads
 use Rattle.codewords.proofs.bitio.put_sint.Reads as put-sint-reads
 use Rattle.codewords.proofs.bitio.put_uint.Reads as put-uint-reads

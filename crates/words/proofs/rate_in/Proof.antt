@@ -1,10 +1,10 @@
--- `words::rate_in` meets its contract.
-use Rattle.picture.specs.Laws.Words.{rate-bytes}
+-- `rate_in` meets its contract.
+use Rattle.words.specs.Laws.Words.{rate-bytes}
 use borrow.Author.Needs.{needs}
-use Rattle.picture.proofs.words.rate_in.Statement.{statement}
-use Rattle.picture.proofs.words.rate_in.Tie as tie
-use Rattle.picture.proofs.words.rate_in.Reads as reads
-use Rattle.picture.proofs.words.rate_in.Lts as lts
+use Rattle.words.proofs.rate_in.Statement.{statement}
+use Rattle.words.proofs.rate_in.Tie as tie
+use Rattle.words.proofs.rate_in.Reads as reads
+use Rattle.words.proofs.rate_in.Lts as lts
 
 returns : tie.Need-returns
 returns c = search needs

@@ -1,16 +1,16 @@
--- `words::settings_of` meets its contract: known words are 21.
+-- `settings_of` meets its contract: known words are 21.
 use mathlib.Core.Path.{_≡_}
 use lib.ListN.{length}
 use native.Mathlib.Omega.{arith}
 use Rattle.unit.specs.Words.{settingsOf}
-use Rattle.picture.specs.Laws.Words.{known-long}
+use Rattle.words.specs.Laws.Words.{known-long}
 use borrow.Author.Needs.{needs}
-use Rattle.picture.proofs.words.settings_of.Statement.{statement}
-use Rattle.picture.proofs.words.settings_of.Tie as tie
-use Rattle.picture.proofs.words.settings_of.Reads as reads
-use Rattle.picture.proofs.words.settings_of.Lts as lts
-use Rattle.picture.proofs.words.kind_in.Reads as kind-in-reads
-use Rattle.picture.proofs.words.rate_in.Reads as rate-in-reads
+use Rattle.words.proofs.settings_of.Statement.{statement}
+use Rattle.words.proofs.settings_of.Tie as tie
+use Rattle.words.proofs.settings_of.Reads as reads
+use Rattle.words.proofs.settings_of.Lts as lts
+use Rattle.words.proofs.kind_in.Reads as kind-in-reads
+use Rattle.words.proofs.rate_in.Reads as rate-in-reads
 
 long : (st : tie.Start) → length (st .args .words .now) ≡ 21
 long st = known-long (st .args .words .now) (st .pre)
