@@ -2,11 +2,6 @@ pub mod Bit
 pub mod Code
 pub mod Read
 pub mod Bytes
-pub mod BitLaws
-pub mod CodeLaws
 pub mod Spread
-pub mod WordLaws
-pub mod ByteLaws
-pub mod ReadLaws
 pub mod Writer
-pub mod WriterLaws
+pub mod Laws

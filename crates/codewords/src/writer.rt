@@ -5,7 +5,7 @@ ghost use Prim.Native.Nat.{_+_, _-_, _*_, _≤_, _<_, _^_};
 ghost use mathlib.Core.Bool.{true};
 ghost use mathlib.Core.List.{[], _∷_, _++_};
 ghost use lib.ListN.{length};
-ghost use Rattle.laws.specs.Laid.{laid};
+ghost use Rattle.laws.specs.Code.Laid.{laid};
 ghost use Rattle.codewords.specs.Bit.{lit, oneBits};
 ghost use Rattle.codewords.specs.Bytes.{toBytes, padding};
 ghost use Rattle.codewords.specs.Code.{interleaved, codeU, codeM, codeS};

@@ -1,2 +1,2 @@
 pub mod Calls
-pub mod CallsLaws
+pub mod Laws

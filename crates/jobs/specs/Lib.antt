@@ -1,5 +1,3 @@
 pub mod Job
-pub mod Steps
-pub mod PrintLaws
-pub mod ParseLaws
-pub mod JobLaws
+pub mod Code
+pub mod Laws

@@ -6,10 +6,10 @@ ghost use mathlib.Core.Path.{_≡_};
 ghost use mathlib.Core.Bool.{true};
 ghost use Prim.Native.Nat.{_*_, _-_, _≤_};
 ghost use lib.ListN.{length, take, drop};
-ghost use Rattle.laws.specs.Laid.{Lays};
+ghost use Rattle.laws.specs.Code.Laid.{Lays};
 ghost use Rattle.picture.specs.Encoded.{planes, Encodes};
 ghost use Rattle.jobs.specs.Job.{inOrder, printed};
-ghost use Rattle.jobs.specs.Steps.{endsOf, Called, printedBy};
+ghost use Rattle.jobs.specs.Code.Steps.{endsOf, Called, printedBy};
 
 // The picture call: luma up to y, the first colour up to c1, then the second.
 fn encode(

@@ -4,10 +4,10 @@ ghost use mathlib.Core.Bool.{false};
 ghost use mathlib.Core.List.{map};
 ghost use Prim.Native.Nat.{_+_, _*_, _≤_, _<_};
 ghost use lib.ListN.{length, drop};
-ghost use Rattle.laws.specs.Laid.{Lays};
+ghost use Rattle.laws.specs.Code.Laid.{Lays};
 ghost use Rattle.unit.specs.Refusal.{anyAbove};
 ghost use Rattle.jobs.specs.Job.{wordsOf, kindOf, contentOf, isEnd, inOrder};
-ghost use Rattle.jobs.specs.Steps.{wordFrom, runEnd, endsOf, counted};
+ghost use Rattle.jobs.specs.Code.Steps.{wordFrom, runEnd, endsOf, counted};
 
 // Where the words of each kind end: settings, matrix, luma and the two colours.
 pub(crate) struct Ends {

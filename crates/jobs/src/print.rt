@@ -6,11 +6,11 @@ ghost use mathlib.Core.Bool.{cond};
 ghost use mathlib.Core.List.{[], _∷_, _++_};
 ghost use Prim.Native.Nat.{_+_, _*_, _≤_, _<_};
 ghost use lib.ListN.{length};
-ghost use Rattle.laws.specs.Laid.{Lays};
+ghost use Rattle.laws.specs.Code.Laid.{Lays};
 ghost use Rattle.unit.specs.Outcome.{tells, lengthIn};
 ghost use Rattle.unit.specs.declared.Answer.the-variants.{Accepted};
 ghost use Rattle.jobs.specs.Job.{decimal, lineOf, hexDigit, bytesFrom, unitIn, jobText};
-ghost use Rattle.jobs.specs.Steps.{chunk};
+ghost use Rattle.jobs.specs.Code.Steps.{chunk};
 
 fn put(text: &mut [u8], at: usize, c: u8) -> usize
     requires { ⌜ at < length (now text) ⌝ }

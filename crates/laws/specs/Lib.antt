@@ -1,9 +1,6 @@
-pub mod Integer
-pub mod Machine
 pub mod Wrap
 pub mod Rows
-pub mod Laid
-pub mod Chunks
-pub mod Window
 pub mod Plane
 pub mod Ceiling
+pub mod Code
+pub mod Laws

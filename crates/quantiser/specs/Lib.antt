@@ -1,14 +1,7 @@
 pub mod Standard
 pub mod Quant
 pub mod Answer
-pub mod Step
 pub mod AnnexD
 pub mod Default
-pub mod Cells
-pub mod CellLaws
-pub mod CapLaws
-pub mod SignLaws
-pub mod StepLaws
-pub mod LengthLaws
-pub mod QuantLaws
-pub mod RisesLaws
+pub mod Code
+pub mod Laws

@@ -4,7 +4,7 @@ ghost use Prim.Native.Nat.{_<_};
 ghost use lib.ListN.{getD, getElem?};
 ghost use Rattle.quantiser.specs.AnnexD.{tableOf};
 ghost use Rattle.quantiser.specs.Default.{places, defaultOf};
-ghost use Rattle.quantiser.specs.Cells.{allTables, cellOf, matrixAt};
+ghost use Rattle.quantiser.specs.Code.Cells.{allTables, cellOf, matrixAt};
 
 // Annex D, a matrix to a line: 14 bytes, with zeros behind the values. A table has 19: those for horizontal-only depth
 // 0 and depths 0 to 4, for 1 and 0 to 4, for 2 and 0 to 3, for 3 and 0 to 2, for 4 and 0 to 1.

@@ -10,7 +10,7 @@ ghost use Rattle.codewords.specs.Code.{log2, codeS};
 ghost use Rattle.quantiser.specs.Answer.{Answered};
 ghost use Rattle.quantiser.specs.Standard.{signed};
 ghost use Rattle.quantiser.specs.Quant.{cap, quantFactor, quantOffset, forwardBy, forwardQuant, inverseBy, inverseQuant};
-ghost use Rattle.quantiser.specs.Step.{Doubles};
+ghost use Rattle.quantiser.specs.Code.Step.{Doubles};
 
 // A call's value, or its refusal's number in document 01.
 pub enum QuantAnswer {

@@ -10,8 +10,8 @@ use lib.ListN.{length}
 use Rattle.wavelet.specs.declared.component.Component.{Component}
 use Rattle.wavelet.specs.declared.component.Transform.{Transform}
 use Rattle.wavelet.specs.Pad.{paddedSide}
-use Rattle.wavelet.specs.PadLaws.{padded-sides}
-use Rattle.wavelet.specs.Walk.{Deep}
+use Rattle.wavelet.specs.Laws.Pad.{padded-sides}
+use Rattle.wavelet.specs.Code.Walk.{Deep}
 
 -- sides and depths of a case
 pub record SmallSides (c : Component) (t : Transform) : Type 0 where

@@ -4,11 +4,11 @@ use native.Mathlib.Omega.{arith}
 use mir.Syntax.{w64}
 use mir.Val.{SFits}
 use lib.ListN.{length}
-use Rattle.laws.specs.Machine.{unfit}
+use Rattle.laws.specs.Laws.Machine.{unfit}
 use Rattle.codewords.specs.Bit.{Bits, lit}
-use Rattle.codewords.specs.BitLaws.{length-lit}
+use Rattle.codewords.specs.Laws.Bit.{length-lit}
 use Rattle.codewords.specs.Code.{codeU, codeS}
-use Rattle.codewords.specs.CodeLaws.{length-codeU, leading-log2, codeS-short}
+use Rattle.codewords.specs.Laws.Code.{length-codeU, leading-log2, codeS-short}
 use Rattle.replay.specs.declared.codes.Put.{Put}
 use Rattle.replay.specs.declared.codes.Put.the-variants.{Uint, Sint, Nbits}
 

@@ -11,7 +11,7 @@ use Rattle.laws.specs.Rows.{span}
 use Rattle.laws.specs.Wrap.{wrap}
 use Rattle.codewords.specs.Bit.{lit}
 use Rattle.codewords.specs.Bytes.{toBytes}
-use Rattle.codewords.specs.ByteLaws.{length-toBytes}
+use Rattle.codewords.specs.Laws.Byte.{length-toBytes}
 use Rattle.codewords.specs.Code.{log2In, log2, interleaved, codeU, codeS}
 use Rattle.quantiser.specs.Standard.{factor}
 use Rattle.quantiser.specs.Quant.{cap, quantFactor, quantOffset, forwardBy, forwardQuant, inverseBy, inverseQuant}
@@ -25,7 +25,7 @@ use Rattle.unit.specs.Matrix.{matrixValues, carriedMatrix}
 use Rattle.unit.specs.Parameters.{extendedBits, parameterBits, parameterBytes}
 use Rattle.unit.specs.Unit.{majorVersion, gridOf, numeratorOf, planOf, lengthOf}
 use Rattle.unit.specs.Coefficients.{coefficientsOf}
-use Rattle.unit.specs.LowDelayLaws.{runs-fit, length-low}
+use Rattle.unit.specs.Laws.LowDelay.{runs-fit, length-low}
 use Rattle.unit.specs.Three.{Three}
 use Rattle.unit.specs.Sizes.{Size}
 use Rattle.unit.specs.Slices.{Grid, left, right}

@@ -7,8 +7,8 @@ ghost use lib.ListN.{length};
 ghost use Rattle.laws.specs.Wrap.{wrap};
 ghost use Rattle.wavelet.specs.Lifting.{within, place, change, lifted};
 ghost use Rattle.wavelet.specs.Filters.{filterOf, analysisBy};
-ghost use Rattle.wavelet.specs.Table.{stageOf, Legal, Staged};
-ghost use Rattle.wavelet.specs.Run.{tapsTo, ran, Placed, Moves, TapsIn, TapIn, RunIn, twoTaps, twoPlaces};
+ghost use Rattle.wavelet.specs.Code.Table.{stageOf, Legal, Staged};
+ghost use Rattle.wavelet.specs.Code.Run.{tapsTo, ran, Placed, Moves, TapsIn, TapIn, RunIn, twoTaps, twoPlaces};
 use crate::arith;
 
 // A stage: to is 0 where it goes to the even places and 1 where it goes to the odd ones; the standard's D is ahead less

@@ -2,7 +2,7 @@
 use borrow.Author.Needs.{needs}
 use native.Mathlib.Omega.{arith}
 use Prim.Native.Nat.{_+_}
-use Rattle.codewords.specs.CodeLaws.{leading-log2, length-codeU}
+use Rattle.codewords.specs.Laws.Code.{leading-log2, length-codeU}
 use Rattle.codewords.proofs.uint_code_len.Statement.{statement}
 use Rattle.codewords.proofs.uint_code_len.Tie as tie
 use Rattle.codewords.proofs.uint_code_len.Reads as reads

@@ -3,7 +3,7 @@ use native.Mathlib.Omega.{arith}
 use mathlib.Core.Path.{refl}
 use mir.Syntax.{w64}
 use mir.Facts.{toZ-ofZ, toZ-pos}
-use Rattle.laws.specs.Machine.{Below, below, Plain, plain, unfit}
+use Rattle.laws.specs.Laws.Machine.{Below, below, Plain, plain, unfit}
 use Rattle.codewords.proofs.unsigned_abs.Statement.{statement}
 use Rattle.codewords.proofs.unsigned_abs.Tie as tie
 use Rattle.codewords.proofs.unsigned_abs.Reads as reads

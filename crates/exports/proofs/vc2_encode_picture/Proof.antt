@@ -4,7 +4,7 @@ use mathlib.Core.Bool.{true}
 use borrow.Author.Tests.{not-true, not-false}
 use Rattle.unit.specs.Words.{known}
 use Rattle.picture.specs.Encoded.{planes}
-use Rattle.exports.specs.CallsLaws.{picture-unknown, picture-accepted, picture-refused}
+use Rattle.exports.specs.Laws.Calls.{picture-unknown, picture-accepted, picture-refused}
 use borrow.Author.Needs.{needs}
 use Rattle.exports.proofs.vc2_encode_picture.Statement.{statement}
 use Rattle.exports.proofs.vc2_encode_picture.Tie as tie

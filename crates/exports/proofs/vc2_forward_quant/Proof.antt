@@ -5,7 +5,7 @@ use mir.Syntax.{w64}
 use mir.Facts.{toZ-ofZ}
 use Rattle.quantiser.specs.Quant.{forwardQuant}
 use Rattle.quantiser.specs.Answer.{Answered}
-use Rattle.exports.specs.CallsLaws.{gives-value, gives-refused}
+use Rattle.exports.specs.Laws.Calls.{gives-value, gives-refused}
 use borrow.Author.Needs.{needs}
 use Rattle.exports.proofs.vc2_forward_quant.Statement.{statement}
 use Rattle.exports.proofs.vc2_forward_quant.Tie as tie

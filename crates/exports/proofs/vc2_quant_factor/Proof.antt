@@ -1,5 +1,5 @@
 -- `vc2_quant_factor` meets its contract.
-use Rattle.exports.specs.CallsLaws.{gives-value, gives-refused}
+use Rattle.exports.specs.Laws.Calls.{gives-value, gives-refused}
 use borrow.Author.Needs.{needs}
 use Rattle.exports.proofs.vc2_quant_factor.Statement.{statement}
 use Rattle.exports.proofs.vc2_quant_factor.Tie as tie

@@ -18,8 +18,7 @@ use Rattle.unit.specs.Subbands.{paddedSize}
 use Rattle.unit.specs.Matrix.{defaultOf, matrixValues}
 use Rattle.unit.specs.Refusal.{paddedArea, workNeeded}
 use Rattle.unit.specs.Coefficients.{coefficientsOf}
-use Rattle.unit.specs.Valid.{Between, RateFits, MatrixFits}
-use Rattle.unit.specs.ValidLaws.{Sides}
+use Rattle.unit.specs.Code.Valid.{Between, RateFits, MatrixFits, Sides}
 use Rattle.picture.specs.declared.slices.layout.Component.{Component}
 use Rattle.picture.specs.declared.slices.layout.Layout.{Layout}
 use Rattle.picture.specs.declared.slices.layout.Picture.{Picture}

@@ -8,7 +8,7 @@ use lib.IntN.{ℤ}
 use lib.ListN.{length}
 use Rattle.laws.specs.Ceiling.{ceiling}
 use Rattle.laws.specs.Rows.{span}
-use Rattle.laws.specs.Chunks.{chunks}
+use Rattle.laws.specs.Code.Chunks.{chunks}
 use Rattle.codewords.specs.Bit.{Bits}
 use Rattle.codewords.specs.Bytes.{toBytes}
 use Rattle.unit.specs.declared.Settings.{Settings}
@@ -19,7 +19,7 @@ use Rattle.unit.specs.Three.{Three}
 use Rattle.unit.specs.Elect.{elect}
 use Rattle.unit.specs.Plan.{SlicePlan}
 use Rattle.unit.specs.Trim.{trimmedCost}
-use Rattle.unit.specs.Valid.{RateFits}
+use Rattle.unit.specs.Code.Valid.{RateFits}
 use Rattle.unit.specs.HighQuality.{needOf, sliceSize, componentBits, highBits, shareOf}
 use Rattle.unit.specs.Unit.{highBytes}
 use Rattle.picture.specs.declared.slices.layout.Picture.{Picture}

@@ -7,8 +7,8 @@ use Prim.Native.Nat.{ℕ, zero, suc, _+_, _*_, _-_, _^_, _≤_}
 use lib.Dec.{leb}
 use lib.IntN.{ℤ, pos, negsuc}
 use lib.ListN.{length, replicate}
-use Rattle.laws.specs.Laid.{laid}
-use Rattle.laws.specs.Window.{piece}
+use Rattle.laws.specs.Code.Laid.{laid}
+use Rattle.laws.specs.Code.Window.{piece}
 use Rattle.codewords.specs.Code.{codeS}
 use Rattle.unit.specs.Trim.{isZero}
 use Rattle.picture.specs.declared.slices.strip.Strip.{Strip}

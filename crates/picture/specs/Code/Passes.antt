@@ -11,7 +11,7 @@ use Rattle.codewords.specs.Bytes.{toBytes}
 use Rattle.unit.specs.declared.Settings.{Settings}
 use Rattle.unit.specs.declared.PictureKind.the-variants.{HighQuality}
 use Rattle.unit.specs.Plan.{SlicePlan}
-use Rattle.unit.specs.Valid.{RateFits}
+use Rattle.unit.specs.Code.Valid.{RateFits}
 use Rattle.unit.specs.Parameters.{parameterBytes}
 use Rattle.unit.specs.HighQuality.{needOf, largestNeed, scalerFrom}
 use Rattle.unit.specs.Unit.{majorVersion, highParameters}

@@ -12,7 +12,7 @@ use lib.ListN.{length}
 use lib.Seq.{ext-getD}
 use Rattle.laws.specs.Rows.{at}
 use Rattle.quantiser.specs.Quant.{forwardBy, inverseBy}
-use Rattle.unit.specs.ScanLaws.{Neighbours, by-neighbours, predict-same}
+use Rattle.unit.specs.Laws.Scan.{Neighbours, by-neighbours, predict-same}
 use Rattle.picture.specs.declared.slices.strip.Strip.{Strip}
 use Rattle.picture.specs.declared.slices.layout.Component.{Component}
 use Rattle.picture.specs.declared.slices.layout.Picture.{Picture}

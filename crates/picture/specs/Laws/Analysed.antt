@@ -11,13 +11,15 @@ use lib.Dec.{ltb}
 use lib.IntN.{ℤ}
 use lib.ListN.{length, drop, take, getD, replicate, length-append, length-replicate, length-drop, List·getD-append}
 use lib.Seq.{take-at, drop-at, drop-drop}
-use Rattle.laws.specs.Rows.{span, span-suc}
-use Rattle.laws.specs.Chunks.{chunks}
-use Rattle.laws.specs.Laid.{Lays, laid-is}
+use Rattle.laws.specs.Rows.{span}
+use Rattle.laws.specs.Laws.Rows.{span-suc}
+use Rattle.laws.specs.Code.Chunks.{chunks}
+use Rattle.laws.specs.Code.Laid.{Lays}
+use Rattle.laws.specs.Laws.Laid.{laid-is}
 use Rattle.codewords.specs.Bytes.{toBytes}
 use Rattle.quantiser.specs.Default.{places}
 use Rattle.wavelet.specs.Lifting.{exact}
-use Rattle.wavelet.specs.DepthLaws.{few-levels}
+use Rattle.wavelet.specs.Laws.Depth.{few-levels}
 use Rattle.wavelet.specs.Pad.{padded}
 use Rattle.unit.specs.declared.Settings.{Settings}
 use Rattle.unit.specs.declared.Coded.{Coded}
@@ -27,16 +29,16 @@ use Rattle.unit.specs.Sizes.{Size, lumaSize, colourSize, depthsOf, offsetOf}
 use Rattle.unit.specs.Slices.{sliceCount}
 use Rattle.unit.specs.Subbands.{subbandCount}
 use Rattle.unit.specs.Matrix.{defaultOf, matrixValues}
-use Rattle.unit.specs.MatrixLaws.{MatrixIf, default-matrix}
+use Rattle.unit.specs.Laws.Matrix.{MatrixIf, default-matrix}
 use Rattle.unit.specs.Parameters.{parameterBytes}
 use Rattle.unit.specs.Coefficients.{bandsOf, coefficientsOf}
 use Rattle.unit.specs.Plan.{SlicePlan, Plan}
 use Rattle.unit.specs.Unit.{majorVersion, gridOf, sliceRuns, headBits, lengthOf, unitOf}
-use Rattle.unit.specs.UnitLaws.{length-unit}
+use Rattle.unit.specs.Laws.Unit.{length-unit}
 use Rattle.unit.specs.Outcome.{codedOf, tooLong}
-use Rattle.unit.specs.Valid.{MatrixFits, Valid}
-use Rattle.unit.specs.ValidLaws.{Sides, luma-sides, colour-sides}
-use Rattle.unit.specs.TestLaws.{or-none, at-most}
+use Rattle.unit.specs.Code.Valid.{MatrixFits, Valid, Sides}
+use Rattle.unit.specs.Laws.Valid.{luma-sides, colour-sides}
+use Rattle.unit.specs.Laws.Test.{or-none, at-most}
 use Rattle.picture.specs.Code.Head.{CanCarry}
 use Rattle.picture.specs.Code.Strip.{Small}
 use Rattle.picture.specs.Code.Layout.{bandCount, gridIn, LayoutIn, ComponentIn}

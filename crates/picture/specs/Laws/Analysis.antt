@@ -13,12 +13,12 @@ use lib.Pow.{pow-mono}
 use Rattle.laws.specs.Rows.{at, span, row}
 use Rattle.laws.specs.Wrap.{wrap}
 use Rattle.wavelet.specs.Planes.{Band, coefficients}
-use Rattle.wavelet.specs.PlaneLaws.{length-coefficients}
+use Rattle.wavelet.specs.Laws.Plane.{length-coefficients}
 use Rattle.wavelet.specs.Pad.{padded, componentOf}
 use Rattle.wavelet.specs.Depth.{deepest}
-use Rattle.wavelet.specs.Theorems.{component-exact}
-use Rattle.wavelet.specs.Walk.{Deep}
-use Rattle.wavelet.specs.Component.{ComponentsIn}
+use Rattle.wavelet.specs.Laws.Theorems.{component-exact}
+use Rattle.wavelet.specs.Code.Walk.{Deep}
+use Rattle.wavelet.specs.Code.Component.{ComponentsIn}
 use Rattle.wavelet.specs.declared.component.Component as below
 use Rattle.wavelet.specs.declared.component.Transform.{Transform}
 use Rattle.unit.specs.declared.Settings.{Settings}
@@ -27,10 +27,10 @@ use Rattle.unit.specs.Sizes.{Size, area, lumaSize, colourSize, intlog2, depthsO
 use Rattle.unit.specs.Subbands.{paddedSize}
 use Rattle.unit.specs.Refusal.{paddedArea, workNeeded}
 use Rattle.unit.specs.Coefficients.{bandsOf, coefficientsOf}
-use Rattle.unit.specs.Valid.{Between}
-use Rattle.unit.specs.ValidLaws as valid
-use Rattle.unit.specs.Intlog2Laws.{depth-range, offset-is, offset-range}
-use Rattle.unit.specs.PaddedLaws.{padded-is}
+use Rattle.unit.specs.Code.Valid.{Between}
+use Rattle.unit.specs.Code.Valid as valid
+use Rattle.unit.specs.Laws.Intlog2.{depth-range, offset-is, offset-range}
+use Rattle.unit.specs.Laws.Padded.{padded-is}
 use Rattle.picture.specs.declared.slices.layout.Component.{Component}
 use Rattle.picture.specs.declared.slices.layout.Layout.{Layout}
 use Rattle.picture.specs.declared.slices.layout.Picture.{Picture}

@@ -11,9 +11,9 @@ use lib.IntN.{ℤ, pos, negsuc, natAbs}
 use lib.ListN.{length, take, length-append}
 use lib.Seq.{take-take, take-all, append-snoc}
 use Rattle.codewords.specs.Code.{codeS, codes}
-use Rattle.codewords.specs.CodeLaws.{codes-more, length-codeS-zero, length-codeS}
+use Rattle.codewords.specs.Laws.Code.{codes-more, length-codeS-zero, length-codeS}
 use Rattle.unit.specs.Trim.{isZero, trimCons, trimmed, bitsOf, trimmedCost, fitPrefix}
-use Rattle.unit.specs.TrimLaws.{Small, bits-most, fit-all, fit-prefix}
+use Rattle.unit.specs.Laws.Trim.{Small, bits-most, fit-all, fit-prefix}
 use Rattle.picture.specs.declared.slices.cost.Cost.{Cost}
 use Rattle.picture.specs.Code.Cost.{fitted, kept, addLen, add1, added, addAll, noCost, Countable, Kept}
 use Rattle.picture.specs.Laws.Added.{added-one}

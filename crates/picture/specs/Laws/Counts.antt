@@ -12,7 +12,7 @@ use lib.IntN.{ℤ}
 use lib.ListN.{length, length-append}
 use Rattle.unit.specs.Sizes.{Size, area}
 use Rattle.unit.specs.Slices.{bound, sliceCount, partSize}
-use Rattle.unit.specs.SliceLaws.{bound-rises, bound-most}
+use Rattle.unit.specs.Laws.Slice.{bound-rises, bound-most}
 use Rattle.picture.specs.declared.slices.layout.Component.{Component}
 use Rattle.picture.specs.declared.slices.layout.Layout.{Layout}
 use Rattle.picture.specs.Code.Layout.{bandCount, gridIn, bandSize, startOf, runNumbers, LayoutIn}

@@ -6,7 +6,7 @@ use native.Mathlib.Omega.{arith}
 use borrow.Author.Tests.{lt-ltb, le-ltb, ltb-true, ltb-false}
 use lib.Dec.{ltb}
 use Rattle.unit.specs.Elect.{halve, elect}
-use Rattle.unit.specs.ElectLaws.{elect-halves}
+use Rattle.unit.specs.Laws.Elect.{elect-halves}
 use Rattle.picture.specs.declared.slices.search.Range.{Range}
 use Rattle.picture.specs.Code.Search.{halfOf}
 

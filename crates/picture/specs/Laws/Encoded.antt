@@ -18,8 +18,8 @@ use Rattle.unit.specs.Plan.{Plan}
 use Rattle.unit.specs.Unit.{planOf, lengthOf}
 use Rattle.unit.specs.Cut.{cutCount}
 use Rattle.unit.specs.Outcome.{numberOf, tells, scalerIn, codedOf, Outcome, tooLong, codedIf, coded, outcomeIf, outcomeOf}
-use Rattle.unit.specs.PlannedLaws.{Component, Y, C1, C2, pick}
-use Rattle.unit.specs.DemandLaws.{Typed, accepted, accepted-uncut}
+use Rattle.unit.specs.Laws.Planned.{Component, Y, C1, C2, pick}
+use Rattle.unit.specs.Laws.Demand.{Typed, accepted, accepted-uncut}
 use Rattle.picture.specs.Encoded.{Encodes}
 use Rattle.picture.specs.Code.Coded.{answerBy, outputBy, Codes, clearedBy}
 

@@ -11,16 +11,16 @@ use borrow.Author.Tests.{le-leb, lt-leb}
 use lib.Dec.{T, eqb}
 use lib.ListN.{length, take, drop, getD, length-append, length-replicate}
 use lib.Seq.{take-suc}
-use Rattle.laws.specs.Laid.{laid-is}
+use Rattle.laws.specs.Laws.Laid.{laid-is}
 use Rattle.codewords.specs.Bit.{Bits, lit, zeroBits}
-use Rattle.codewords.specs.BitLaws.{length-lit}
+use Rattle.codewords.specs.Laws.Bit.{length-lit}
 use Rattle.codewords.specs.Bytes.{toBytes, padding}
-use Rattle.codewords.specs.ByteLaws.{length-toBytes}
+use Rattle.codewords.specs.Laws.Byte.{length-toBytes}
 use Rattle.codewords.specs.Writer.{Room, Wrote, Aligns}
-use Rattle.codewords.specs.WriterLaws.{startAt, start-sound, wrote-then, room-after, bytes-laid}
+use Rattle.codewords.specs.Laws.Writer.{startAt, start-sound, wrote-then, room-after, bytes-laid}
 use Rattle.codewords.specs.declared.writer.BitWriter.{BitWriter}
 use Rattle.codewords.specs.Code.{codeU}
-use Rattle.codewords.specs.CodeLaws.{length-codeU, leading-log2}
+use Rattle.codewords.specs.Laws.Code.{length-codeU, leading-log2}
 use Rattle.unit.specs.declared.Settings.{Settings}
 use Rattle.unit.specs.declared.PictureKind.{PictureKind}
 use Rattle.unit.specs.Parameters.{SliceParameters, flagged, extendedBits, sliceParameterBits, codesU, matrixBits, parameterBits, parameterBytes, Parameters, fill}

@@ -16,13 +16,13 @@ use Rattle.unit.specs.declared.RateControl.{RateControl}
 use Rattle.unit.specs.declared.RateControl.the-variants.{Lossless, FixedQuantIndex, PictureBytes}
 use Rattle.unit.specs.Three.{Three}
 use Rattle.unit.specs.Slices.{partSize}
-use Rattle.unit.specs.SliceLaws.{partSize-most}
+use Rattle.unit.specs.Laws.Slice.{partSize-most}
 use Rattle.unit.specs.Trim.{trimmedCost}
-use Rattle.unit.specs.TrimLaws.{cost-most}
+use Rattle.unit.specs.Laws.Trim.{cost-most}
 use Rattle.unit.specs.Elect.{elect}
-use Rattle.unit.specs.ElectLaws.{elected}
-use Rattle.unit.specs.TestLaws.{no-truth}
-use Rattle.unit.specs.Valid.{RateFits}
+use Rattle.unit.specs.Laws.Elect.{elected}
+use Rattle.unit.specs.Laws.Test.{no-truth}
+use Rattle.unit.specs.Code.Valid.{RateFits}
 use Rattle.unit.specs.HighQuality.{needOf, sliceSize, shareOf}
 use Rattle.picture.specs.declared.slices.layout.Component.{Component}
 use Rattle.picture.specs.declared.slices.layout.Layout.{Layout}

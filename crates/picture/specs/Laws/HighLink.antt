@@ -7,8 +7,9 @@ use Prim.Native.Nat.{ℕ, _+_, _*_, _≤_, _<_}
 use native.Mathlib.Omega.{arith}
 use lib.IntN.{ℤ}
 use lib.ListN.{length, drop}
-use Rattle.laws.specs.Rows.{span, span-ext}
-use Rattle.laws.specs.Laid.{Lays}
+use Rattle.laws.specs.Rows.{span}
+use Rattle.laws.specs.Laws.Rows.{span-ext}
+use Rattle.laws.specs.Code.Laid.{Lays}
 use Rattle.codewords.specs.Bytes.{toBytes}
 use Rattle.wavelet.specs.Planes.{Band}
 use Rattle.unit.specs.declared.Settings.{Settings}
@@ -27,15 +28,15 @@ use Rattle.unit.specs.Coefficients.{coefficientsOf}
 use Rattle.unit.specs.Quantised.{numbersHQ}
 use Rattle.unit.specs.Plan.{SlicePlan, Plan}
 use Rattle.unit.specs.HighQuality.{shareOf, highNumbers, highIndex, highPlan, scalerFrom}
-use Rattle.unit.specs.HighQualityLaws.{needs-most}
+use Rattle.unit.specs.Laws.HighQuality.{needs-most}
 use Rattle.unit.specs.Unit.{majorVersion, gridOf, highParameters, highBytes, highSlicesOf, scalerOf, planOf, sliceRuns, headBits, lengthOf}
 use Rattle.unit.specs.Unit as unit
 use Rattle.unit.specs.Cut.{cutCount}
 use Rattle.unit.specs.Outcome.{codedOf, tooLong}
-use Rattle.unit.specs.DropLaws.{Whole, all-high, whole-count}
-use Rattle.unit.specs.Valid.{RateFits}
-use Rattle.unit.specs.ValidLaws.{target-few}
-use Rattle.unit.specs.SoundLaws.{three, coefficients-within}
+use Rattle.unit.specs.Laws.Drop.{Whole, all-high, whole-count}
+use Rattle.unit.specs.Code.Valid.{RateFits}
+use Rattle.unit.specs.Laws.Valid.{target-few}
+use Rattle.unit.specs.Laws.Soundness.{three, coefficients-within}
 use Rattle.picture.specs.declared.slices.layout.Component.{Component}
 use Rattle.picture.specs.declared.slices.layout.Picture.{Picture}
 use Rattle.picture.specs.declared.high.size.Terms.{Terms}

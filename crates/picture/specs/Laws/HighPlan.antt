@@ -11,20 +11,21 @@ use lib.Dec.{leb}
 use lib.IntN.{ℤ}
 use lib.ListN.{length, length-append}
 use Rattle.laws.specs.Ceiling.{ceiling}
-use Rattle.laws.specs.Rows.{span-more}
-use Rattle.laws.specs.Chunks.{chunks, chunks-none, chunks-more}
+use Rattle.laws.specs.Laws.Rows.{span-more}
+use Rattle.laws.specs.Code.Chunks.{chunks}
+use Rattle.laws.specs.Laws.Chunks.{chunks-none, chunks-more}
 use Rattle.codewords.specs.Bytes.{toBytes}
-use Rattle.codewords.specs.ByteLaws.{length-toBytes}
+use Rattle.codewords.specs.Laws.Byte.{length-toBytes}
 use Rattle.unit.specs.declared.Settings.{Settings}
 use Rattle.unit.specs.declared.PictureKind.the-variants.{HighQuality}
 use Rattle.unit.specs.declared.RateControl.{RateControl}
 use Rattle.unit.specs.declared.RateControl.the-variants.{Lossless, FixedQuantIndex, PictureBytes}
 use Rattle.unit.specs.Three.{Three}
 use Rattle.unit.specs.Plan.{SlicePlan}
-use Rattle.unit.specs.ValidLaws.{target-few}
+use Rattle.unit.specs.Laws.Valid.{target-few}
 use Rattle.unit.specs.Parameters.{parameterBytes}
 use Rattle.unit.specs.HighQuality.{needOf, sliceSize, highBits, largestNeed, scalerFrom}
-use Rattle.unit.specs.HighQualityLaws.{length-high, next-rises}
+use Rattle.unit.specs.Laws.HighQuality.{length-high, next-rises}
 use Rattle.unit.specs.Unit.{majorVersion, highParameters, targetOf}
 use Rattle.picture.specs.declared.slices.layout.Picture.{Picture}
 use Rattle.picture.specs.declared.high.size.Needs.{Needs}

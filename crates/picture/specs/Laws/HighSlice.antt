@@ -9,20 +9,22 @@ use lib.IntN.{ℤ}
 use lib.ListN.{length, take, drop, length-append, length-replicate, replicate-append-replicate}
 use lib.Seq.{drop-drop}
 use Rattle.laws.specs.Ceiling.{ceiling}
-use Rattle.laws.specs.Chunks.{chunks, chunks-none, chunks-more}
-use Rattle.laws.specs.Laid.{Lays, lays-start, lays-on}
+use Rattle.laws.specs.Code.Chunks.{chunks}
+use Rattle.laws.specs.Laws.Chunks.{chunks-none, chunks-more}
+use Rattle.laws.specs.Code.Laid.{Lays}
+use Rattle.laws.specs.Laws.Laid.{lays-start, lays-on}
 use Rattle.codewords.specs.Bit.{Bits, lit, oneBits, zeroBits}
-use Rattle.codewords.specs.BitLaws.{length-lit, lit-zeros}
+use Rattle.codewords.specs.Laws.Bit.{length-lit, lit-zeros}
 use Rattle.codewords.specs.Bytes.{toBytes}
-use Rattle.codewords.specs.ByteLaws.{length-toBytes}
+use Rattle.codewords.specs.Laws.Byte.{length-toBytes}
 use Rattle.codewords.specs.Code.{codes}
 use Rattle.codewords.specs.Writer.{Sound, Room, Wrote, Flushes}
-use Rattle.codewords.specs.WriterLaws.{startAt, start-sound, wrote-then, room-after, flush-lays}
+use Rattle.codewords.specs.Laws.Writer.{startAt, start-sound, wrote-then, room-after, flush-lays}
 use Rattle.codewords.specs.declared.writer.BitWriter.{BitWriter}
 use Rattle.unit.specs.Three.{Three}
 use Rattle.unit.specs.Trim.{trimmed, bitsOf, trimmedCost}
 use Rattle.unit.specs.HighQuality.{scalersOf, componentBits, highBits}
-use Rattle.unit.specs.HighQualityLaws.{cost-held, length-component, length-high}
+use Rattle.unit.specs.Laws.HighQuality.{cost-held, length-component, length-high}
 use Rattle.picture.specs.declared.slices.layout.Picture.{Picture}
 use Rattle.picture.specs.declared.high.choice.Choice.{Choice}
 use Rattle.picture.specs.declared.high.size.Terms.{Terms}

@@ -12,15 +12,15 @@ use borrow.Author.Tests.{ne-eqb, le-leb, lt-leb}
 use lib.Dec.{eqb, leb}
 use lib.IntN.{ℤ}
 use lib.ListN.{length, getD, length-append}
-use Rattle.laws.specs.Chunks.{chunks}
+use Rattle.laws.specs.Code.Chunks.{chunks}
 use Rattle.quantiser.specs.Quant.{quantFactor, quantOffset, bandIndex}
 use Rattle.codewords.specs.Writer.{Sound, Room}
 use Rattle.unit.specs.Sizes.{Size, area}
 use Rattle.unit.specs.Slices.{bound, sliceCount, partSize}
-use Rattle.unit.specs.SubbandLaws.{half, quarter}
-use Rattle.unit.specs.SliceLaws.{bound-rises, bound-most, partSize-most}
-use Rattle.unit.specs.TrimLaws.{small-append}
-use Rattle.unit.specs.TrimLaws as trim
+use Rattle.unit.specs.Laws.Subband.{half, quarter}
+use Rattle.unit.specs.Laws.Slice.{bound-rises, bound-most, partSize-most}
+use Rattle.unit.specs.Laws.Trim.{small-append}
+use Rattle.unit.specs.Laws.Trim as trim
 use Rattle.picture.specs.declared.slices.strip.Strip.{Strip}
 use Rattle.picture.specs.declared.slices.cost.Cost.{Cost}
 use Rattle.picture.specs.declared.low.put.Put.{Put}

@@ -7,10 +7,10 @@ use native.Mathlib.Nat.{suc-mul, mul-le-mul-left, mul-one, add-mul-div-right}
 use native.Mathlib.Numerals.{add-one}
 use native.Mathlib.Omega.{arith}
 use lib.IntN.{ℤ}
-use Rattle.unit.specs.SliceLaws.{div-rises}
-use Rattle.unit.specs.Intlog2Laws.{intlog2-least, intlog2-most}
+use Rattle.unit.specs.Laws.Slice.{div-rises}
+use Rattle.unit.specs.Laws.Intlog2.{intlog2-least, intlog2-most}
 use Rattle.unit.specs.LowDelay.{sliceBytes, lengthBits}
-use Rattle.unit.specs.LowDelayLaws.{bytes-some}
+use Rattle.unit.specs.Laws.LowDelay.{bytes-some}
 use Rattle.picture.specs.declared.slices.layout.Picture.{Picture}
 use Rattle.picture.specs.Code.Strip.{rebuiltStrip}
 use Rattle.picture.specs.Code.Cost.{noCost, Countable}

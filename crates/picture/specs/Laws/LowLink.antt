@@ -9,23 +9,25 @@ use lib.Arith.{digits-lt}
 use lib.Dec.{leb}
 use lib.IntN.{ℤ, pos}
 use lib.ListN.{length, getD, drop}
-use Rattle.laws.specs.Rows.{at, span, span-ext, map-span, total}
-use Rattle.laws.specs.Plane.{Plane, Agree}
-use Rattle.laws.specs.Chunks.{chunks-ext}
-use Rattle.laws.specs.Laid.{Lays}
+use Rattle.laws.specs.Rows.{at, span, total}
+use Rattle.laws.specs.Laws.Rows.{span-ext, map-span}
+use Rattle.laws.specs.Plane.{Plane}
+use Rattle.laws.specs.Laws.Plane.{Agree}
+use Rattle.laws.specs.Laws.Chunks.{chunks-ext}
+use Rattle.laws.specs.Code.Laid.{Lays}
 use Rattle.codewords.specs.Bytes.{toBytes}
 use Rattle.quantiser.specs.Quant.{bandIndex}
 use Rattle.wavelet.specs.Planes.{Band, bandAt}
 use Rattle.unit.specs.Three.{Three}
 use Rattle.unit.specs.Sizes.{Size}
 use Rattle.unit.specs.Slices.{Grid, sliceCount}
-use Rattle.unit.specs.SliceLaws.{bound-rises}
+use Rattle.unit.specs.Laws.Slice.{bound-rises}
 use Rattle.unit.specs.Trim.{trimmedCost}
 use Rattle.unit.specs.Elect.{elect}
 use Rattle.unit.specs.Quantised.{sizeOf, rebuilt, numbersLD, leftLD}
 use Rattle.unit.specs.Plan.{SlicePlan, Plan}
 use Rattle.unit.specs.LowDelay.{numerator, sliceBytes, roomOf, alternated, lowBits, keptRuns, lowNumbers, lowLeft, lowFits, lowIndex, lowPlan, lowSlices, zeroPlane, zeroPlanes}
-use Rattle.unit.specs.PlannedLaws.{lowState, lowElected, lowAt, low-span}
+use Rattle.unit.specs.Laws.Planned.{lowState, lowElected, lowAt, low-span}
 use Rattle.unit.specs.declared.Settings.{Settings}
 use Rattle.unit.specs.declared.PictureKind.{PictureKind}
 use Rattle.unit.specs.declared.PictureKind.the-variants.{LowDelay}
@@ -34,14 +36,14 @@ use Rattle.unit.specs.declared.Answer.the-variants.{Accepted, Refused}
 use Rattle.unit.specs.Parameters.{lowDelay, Parameters, parameterBytes}
 use Rattle.unit.specs.Matrix.{matrixValues}
 use Rattle.unit.specs.Coefficients.{coefficientsOf}
-use Rattle.unit.specs.Valid.{RateFits}
-use Rattle.unit.specs.ValidLaws.{target-few}
+use Rattle.unit.specs.Code.Valid.{RateFits}
+use Rattle.unit.specs.Laws.Valid.{target-few}
 use Rattle.unit.specs.Unit.{majorVersion, gridOf, parametersBy, targetOf, lowParameters, numeratorOf, planBy, planOf, sliceRuns, headBits, lengthOf}
 use Rattle.unit.specs.Cut.{cutOf, cutCount}
 use Rattle.unit.specs.Outcome.{scalerIn, codedOf, tooLong}
-use Rattle.unit.specs.LowDelayLaws.{numerator-least, bytes-all, low-bytes}
-use Rattle.unit.specs.SoundLaws.{length-is}
-use Rattle.unit.specs.DropLaws.{cut-unfit, alike-of}
+use Rattle.unit.specs.Laws.LowDelay.{numerator-least, bytes-all, low-bytes}
+use Rattle.unit.specs.Laws.Soundness.{length-is}
+use Rattle.unit.specs.Laws.Drop.{cut-unfit, alike-of}
 use Rattle.picture.specs.declared.slices.layout.Component.{Component}
 use Rattle.picture.specs.declared.slices.layout.Picture.{Picture}
 use Rattle.picture.specs.Code.Strip.{planeFrom, rebuiltStrip, Small}

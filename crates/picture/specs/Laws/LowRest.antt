@@ -11,10 +11,10 @@ use lib.IntN.{ℤ}
 use lib.ListN.{length, length-append}
 use Rattle.laws.specs.Rows.{at}
 use Rattle.codewords.specs.Code.{codes}
-use Rattle.codewords.specs.CodeLaws.{codes-append}
+use Rattle.codewords.specs.Laws.Code.{codes-append}
 use Rattle.unit.specs.Trim.{trimCons, trimmed, bitsOf, trimmedCost}
-use Rattle.unit.specs.TrimLaws.{length-trimmed, bits-most, cost-most}
-use Rattle.unit.specs.TrimLaws as trim
+use Rattle.unit.specs.Laws.Trim.{length-trimmed, bits-most, cost-most}
+use Rattle.unit.specs.Laws.Trim as trim
 use Rattle.picture.specs.declared.slices.tally.Tally.{Tally}
 use Rattle.picture.specs.declared.slices.layout.Component.{Component}
 use Rattle.picture.specs.declared.slices.layout.Layout.{Layout}

@@ -11,23 +11,24 @@ use borrow.Author.Tests.{le-leb, lt-leb}
 use lib.Dec.{leb}
 use lib.IntN.{ℤ}
 use lib.ListN.{length, take, length-append, length-replicate}
-use Rattle.laws.specs.Rows.{total-more}
-use Rattle.laws.specs.Laid.{Lays, lays-start, lays-on}
-use Rattle.laws.specs.Chunks.{chunks}
+use Rattle.laws.specs.Laws.Rows.{total-more}
+use Rattle.laws.specs.Code.Laid.{Lays}
+use Rattle.laws.specs.Laws.Laid.{lays-start, lays-on}
+use Rattle.laws.specs.Code.Chunks.{chunks}
 use Rattle.codewords.specs.Bit.{Bits, lit, oneBits}
-use Rattle.codewords.specs.BitLaws.{length-lit}
+use Rattle.codewords.specs.Laws.Bit.{length-lit}
 use Rattle.codewords.specs.Bytes.{toBytes}
-use Rattle.codewords.specs.ByteLaws.{length-toBytes}
+use Rattle.codewords.specs.Laws.Byte.{length-toBytes}
 use Rattle.codewords.specs.Code.{codes}
 use Rattle.codewords.specs.Writer.{Room, Wrote, Flushes}
-use Rattle.codewords.specs.WriterLaws.{startAt, start-sound, wrote-then, room-after, flush-lays}
+use Rattle.codewords.specs.Laws.Writer.{startAt, start-sound, wrote-then, room-after, flush-lays}
 use Rattle.codewords.specs.declared.writer.BitWriter.{BitWriter}
 use Rattle.unit.specs.Trim.{trimmed, bitsOf, trimmedCost, fitPrefix}
-use Rattle.unit.specs.TrimLaws.{fit-bits}
+use Rattle.unit.specs.Laws.Trim.{fit-bits}
 use Rattle.unit.specs.Elect.{elect}
-use Rattle.unit.specs.SliceLaws.{div-rises}
+use Rattle.unit.specs.Laws.Slice.{div-rises}
 use Rattle.unit.specs.LowDelay.{sliceBytes, lengthBits, roomOf, lowBits, Runs, keptRuns}
-use Rattle.unit.specs.LowDelayLaws.{bytes-some, runs-fit, runs-whole, length-low}
+use Rattle.unit.specs.Laws.LowDelay.{bytes-some, runs-fit, runs-whole, length-low}
 use Rattle.picture.specs.declared.slices.layout.Picture.{Picture}
 use Rattle.picture.specs.declared.slices.cost.Cost.{Cost}
 use Rattle.picture.specs.declared.slices.tally.Trimmed.{Trimmed}

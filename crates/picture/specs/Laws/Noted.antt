@@ -12,10 +12,13 @@ use lib.Seq.{getD-set-same, getD-set-other, take-set-le, take-append-seam, drop-
 use mir.Syntax.{w64}
 use mir.Val.{toZ, ofZ}
 use mir.Facts.{toZ-ofZ}
-use Rattle.laws.specs.Machine.{fit}
-use Rattle.laws.specs.Rows.{at, span-ext}
-use Rattle.laws.specs.Chunks.{chunks, chunks-ext, chunks-more}
-use Rattle.laws.specs.Laid.{laid, laid-is, length-laid}
+use Rattle.laws.specs.Laws.Machine.{fit}
+use Rattle.laws.specs.Rows.{at}
+use Rattle.laws.specs.Laws.Rows.{span-ext}
+use Rattle.laws.specs.Code.Chunks.{chunks}
+use Rattle.laws.specs.Laws.Chunks.{chunks-ext, chunks-more}
+use Rattle.laws.specs.Code.Laid.{laid}
+use Rattle.laws.specs.Laws.Laid.{laid-is, length-laid}
 use Rattle.codewords.specs.Bytes.{toBytes}
 use Rattle.unit.specs.declared.Settings.{Settings}
 use Rattle.unit.specs.Three.{Three}

@@ -12,19 +12,22 @@ use lib.Dec.{eqb}
 use lib.Arith.{digits-lt}
 use lib.IntN.{ℤ, _-ℤ_, +ℤ-idr}
 use lib.ListN.{length, getD, length-append}
-use Rattle.laws.specs.Rows.{at, length-span}
-use Rattle.laws.specs.Plane.{Plane, Agree, asList, length-asList, row-lt, column-lt}
-use Rattle.laws.specs.Chunks.{chunks, chunks-ext}
+use Rattle.laws.specs.Rows.{at}
+use Rattle.laws.specs.Laws.Rows.{length-span}
+use Rattle.laws.specs.Plane.{Plane, asList}
+use Rattle.laws.specs.Laws.Plane.{Agree, length-asList, row-lt, column-lt}
+use Rattle.laws.specs.Code.Chunks.{chunks}
+use Rattle.laws.specs.Laws.Chunks.{chunks-ext}
 use Rattle.quantiser.specs.Quant.{quantFactor, quantOffset, forwardBy, forwardQuant, bandIndex}
 use Rattle.wavelet.specs.Planes.{Band, coefficients, dwt, bandAt}
-use Rattle.wavelet.specs.PlaneLaws.{length-dwt}
-use Rattle.wavelet.specs.Bands.{halvings, Sides, offsetOf, low-sides, high-sides, coefficient-at}
+use Rattle.wavelet.specs.Laws.Plane.{length-dwt}
+use Rattle.wavelet.specs.Laws.Bands.{halvings, Sides, offsetOf, low-sides, high-sides, coefficient-at}
 use Rattle.unit.specs.Sizes.{Size, area}
 use Rattle.unit.specs.Slices.{Grid, sliceCount, top, bottom, left, right, part, region}
 use Rattle.unit.specs.Predict.{predict}
 use Rattle.unit.specs.Quantised.{sizeOf, numbersFrom, numbersHQ, numberAt, rebuilt, numbersLD, leftLD}
 use Rattle.unit.specs.LowDelay.{alternated}
-use Rattle.unit.specs.SliceLaws.{bound-rises, bound-most}
+use Rattle.unit.specs.Laws.Slice.{bound-rises, bound-most}
 use Rattle.picture.specs.Laws.Layout.{level-low, first-fits, run-chunks}
 use Rattle.picture.specs.declared.slices.strip.Strip.{Strip}
 use Rattle.picture.specs.declared.slices.layout.Component.{Component}

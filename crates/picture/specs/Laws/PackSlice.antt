@@ -7,7 +7,8 @@ use native.Mathlib.Omega.{arith}
 use lib.IntN.{ℤ}
 use lib.ListN.{length}
 use Rattle.laws.specs.Rows.{at}
-use Rattle.laws.specs.Laid.{laid, laid-then}
+use Rattle.laws.specs.Code.Laid.{laid}
+use Rattle.laws.specs.Laws.Laid.{laid-then}
 use Rattle.picture.specs.declared.slices.layout.Component.{Component}
 use Rattle.picture.specs.declared.slices.layout.Picture.{Picture}
 use Rattle.picture.specs.declared.high.choice.Choice.{Choice}

@@ -15,16 +15,18 @@ use mir.Syntax.{w64}
 use mir.Val.{SFits, toZ, ofZ}
 use mir.Facts.{toZ-pos, toZ-ofZ}
 use Rattle.laws.specs.Rows.{at}
-use Rattle.laws.specs.Chunks.{chunks, chunks-ext}
-use Rattle.laws.specs.Laid.{laid, laid-nil, laid-then, length-laid, Lays, lays-start}
+use Rattle.laws.specs.Code.Chunks.{chunks}
+use Rattle.laws.specs.Laws.Chunks.{chunks-ext}
+use Rattle.laws.specs.Code.Laid.{laid, Lays}
+use Rattle.laws.specs.Laws.Laid.{laid-nil, laid-then, length-laid, lays-start}
 use Rattle.codewords.specs.Code.{codeS}
-use Rattle.codewords.specs.CodeLaws.{length-codeS-zero}
+use Rattle.codewords.specs.Laws.Code.{length-codeS-zero}
 use Rattle.quantiser.specs.Quant.{forwardBy}
 use Rattle.unit.specs.Slices.{partSize}
-use Rattle.unit.specs.TestLaws.{no-truth}
+use Rattle.unit.specs.Laws.Test.{no-truth}
 use Rattle.unit.specs.Trim.{isZero, bitsOf}
-use Rattle.unit.specs.TrimLaws.{bits-most}
-use Rattle.unit.specs.TrimLaws as trim
+use Rattle.unit.specs.Laws.Trim.{bits-most}
+use Rattle.unit.specs.Laws.Trim as trim
 use Rattle.picture.specs.declared.slices.strip.Strip.{Strip}
 use Rattle.picture.specs.declared.slices.layout.Component.{Component}
 use Rattle.picture.specs.declared.slices.layout.Layout.{Layout}

@@ -7,14 +7,14 @@ use lib.IntN.{ℤ, pos, natAbs}
 use lib.Signed.{ltZ}
 use lib.ListN.{length, take, length-append}
 use lib.Seq.{take-nil}
-use Rattle.laws.specs.Chunks.{chunks}
+use Rattle.laws.specs.Code.Chunks.{chunks}
 use Rattle.codewords.specs.Code.{codeS, codeM, codes}
-use Rattle.codewords.specs.CodeLaws.{codes-one, codes-append}
+use Rattle.codewords.specs.Laws.Code.{codes-one, codes-append}
 use Rattle.codewords.specs.Writer.{Sound, Room, Wrote}
-use Rattle.codewords.specs.WriterLaws.{wrote-none, wrote-then, room-after}
+use Rattle.codewords.specs.Laws.Writer.{wrote-none, wrote-then, room-after}
 use Rattle.codewords.specs.declared.writer.BitWriter.{BitWriter}
 use Rattle.quantiser.specs.Quant.{forwardBy}
-use Rattle.quantiser.specs.SignLaws.{forward-code}
+use Rattle.quantiser.specs.Laws.Sign.{forward-code}
 use Rattle.picture.specs.declared.low.put.Put.{Put}
 use Rattle.picture.specs.Code.Put.{RoomFor, Puts}
 

@@ -11,13 +11,13 @@ use lib.IntN.{ℤ, pos, negsuc, _-ℤ_}
 use lib.Signed.{leZ}
 use lib.ListN.{length, take, drop, replicate, length-append, length-drop, length-replicate}
 use lib.Seq.{take-suc, take-add, getD-drop}
-use Rattle.laws.specs.Integer.{up, var, _⊟_, by-parts}
+use Rattle.laws.specs.Laws.Integer.{up, var, _⊟_, by-parts}
 use Rattle.laws.specs.Rows.{at}
 use Rattle.codewords.specs.Bit.{oneBits}
 use Rattle.codewords.specs.Code.{codeS, codes}
-use Rattle.codewords.specs.CodeLaws.{code-signed, codeM-zero, codes-one, codes-append, codes-none}
+use Rattle.codewords.specs.Laws.Code.{code-signed, codeM-zero, codes-one, codes-append, codes-none}
 use Rattle.codewords.specs.Writer.{Sound, Room, Wrote}
-use Rattle.codewords.specs.WriterLaws.{wrote-none, wrote-then, room-after}
+use Rattle.codewords.specs.Laws.Writer.{wrote-none, wrote-then, room-after}
 use Rattle.codewords.specs.declared.writer.BitWriter.{BitWriter}
 use Rattle.unit.specs.Trim.{bitsOf}
 use Rattle.picture.specs.Code.Packed.{mark, wordNumbers, unpacked, wordsAt}

@@ -10,11 +10,11 @@ use lib.ListN.{length, getD, drop, drop-of-length-le}
 use lib.Seq.{drop-cons}
 use borrow.Author.Tests.{lt-ltb, le-ltb}
 use Rattle.wavelet.specs.Depth.{depthLimit}
-use Rattle.wavelet.specs.DepthLaws.{few-levels}
+use Rattle.wavelet.specs.Laws.Depth.{few-levels}
 use Rattle.unit.specs.declared.Settings.{Settings}
 use Rattle.unit.specs.Three.{Three}
 use Rattle.unit.specs.Refusal.{outside, anyAbove, broken, firstFrom}
-use Rattle.unit.specs.TestLaws.{or-none, at-most, between}
+use Rattle.unit.specs.Laws.Test.{or-none, at-most, between}
 use Rattle.picture.specs.Code.Sides.{Measured}
 
 -- ---- values from place i on

@@ -11,17 +11,19 @@ use lib.Arith.{digits-div, digits-mod, digits-lt}
 use lib.IntN.{ℤ, pos, _+ℤ_, _-ℤ_}
 use lib.ListN.{length, set, length-set}
 use lib.Seq.{getD-set-same, getD-set-other}
-use Rattle.laws.specs.Rows.{at, span, length-span, span-suc, span-ext, span-append, area, length-area}
-use Rattle.laws.specs.Plane.{Plane, Agree}
+use Rattle.laws.specs.Rows.{at, span}
+use Rattle.laws.specs.Laws.Rows.{length-span, span-suc, span-ext, span-append, area, length-area}
+use Rattle.laws.specs.Plane.{Plane}
+use Rattle.laws.specs.Laws.Plane.{Agree}
 use Rattle.quantiser.specs.Quant.{quantFactor, quantOffset, forwardBy, forwardQuant, inverseBy, inverseQuant}
 use Rattle.wavelet.specs.Planes.{Band}
 use Rattle.unit.specs.Slices.{region, Grid, top, bottom, left, right}
 use Rattle.unit.specs.Predict.{predict}
 use Rattle.unit.specs.Quantised.{sizeOf, inside, numberAt, rebuiltAt, rebuilt}
 use Rattle.unit.specs.LowDelay.{alternated}
-use Rattle.unit.specs.TestLaws.{no-truth}
-use Rattle.unit.specs.ScanLaws.{Neighbours, neighbours, predict-same, scan-unique}
-use Rattle.unit.specs.PlaceLaws.{inside→within, within→inside}
+use Rattle.unit.specs.Laws.Test.{no-truth}
+use Rattle.unit.specs.Laws.Scan.{Neighbours, neighbours, predict-same, scan-unique}
+use Rattle.unit.specs.Laws.Place.{inside→within, within→inside}
 use Rattle.picture.specs.declared.slices.strip.Strip.{Strip}
 use Rattle.picture.specs.Code.Strip.{planeFrom, predictionIn, numberIn, placeNumbers, rowNumbers, rowsNumbers, stripNumbers, valueIn, rebuiltRow, rebuiltRows, rebuiltStrip, Inside}
 use Rattle.picture.specs.Laws.Strip.{prediction-yes}

@@ -10,12 +10,12 @@ use borrow.Author.Tests.{leb-true, le-leb}
 use lib.IntN.{ℤ, pos, negsuc, natAbs}
 use lib.ListN.{length, getD}
 use Rattle.laws.specs.Ceiling.{ceiling}
-use Rattle.laws.specs.Chunks.{chunks}
+use Rattle.laws.specs.Code.Chunks.{chunks}
 use Rattle.codewords.specs.Code.{codeS}
-use Rattle.codewords.specs.CodeLaws.{codeS-pos}
+use Rattle.codewords.specs.Laws.Code.{codeS-pos}
 use Rattle.quantiser.specs.Quant.{quantFactor, bandIndex}
-use Rattle.quantiser.specs.QuantLaws.{quantFactor-least}
-use Rattle.quantiser.specs.RisesLaws.{factor-rises, forward-falls, code-falls}
+use Rattle.quantiser.specs.Laws.Quant.{quantFactor-least}
+use Rattle.quantiser.specs.Laws.Rises.{factor-rises, forward-falls, code-falls}
 use Rattle.unit.specs.Three.{Three}
 use Rattle.unit.specs.Trim.{trimCons, trimmed, bitsOf, trimmedCost}
 use Rattle.unit.specs.HighQuality.{needOf, scalersOf, sliceSize}

@@ -5,7 +5,7 @@ use Prim.Native.Nat.{ℕ, _+_, _-_, _≤_, _<_}
 use native.Mathlib.Omega.{arith}
 use native.Mathlib.Nat.{le-antisymm}
 use Rattle.unit.specs.Elect.{elect}
-use Rattle.unit.specs.ElectLaws.{elect-least}
+use Rattle.unit.specs.Laws.Elect.{elect-least}
 use Rattle.picture.specs.declared.slices.search.Range.{Range}
 use Rattle.picture.specs.Code.Search.{halfOf}
 

@@ -20,11 +20,11 @@ use Rattle.unit.specs.Sizes.{Size, lumaSize, colourSize, intlog2}
 use Rattle.unit.specs.Subbands.{paddedSize}
 use Rattle.unit.specs.Matrix.{defaultOf, matrixValues}
 use Rattle.unit.specs.Refusal.{isNone, paddedArea}
-use Rattle.unit.specs.Valid.{MatrixFits}
-use Rattle.unit.specs.TestLaws.{no-truth}
-use Rattle.unit.specs.Intlog2Laws.{intlog2-least}
-use Rattle.unit.specs.PaddedLaws.{wide-few, high-few}
-use Rattle.unit.specs.ValidLaws.{luma-fits, colour-fits}
+use Rattle.unit.specs.Code.Valid.{MatrixFits}
+use Rattle.unit.specs.Laws.Test.{no-truth}
+use Rattle.unit.specs.Laws.Intlog2.{intlog2-least}
+use Rattle.unit.specs.Laws.Padded.{wide-few, high-few}
+use Rattle.unit.specs.Laws.Valid.{luma-fits, colour-fits}
 use Rattle.picture.specs.Code.Sides.{Measured, Within}
 
 -- ---- intlog2

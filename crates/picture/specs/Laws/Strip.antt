@@ -15,15 +15,15 @@ use mir.Syntax.{w64}
 use mir.Val.{toZ, ofZ}
 use mir.Facts.{toZ-ofZ}
 use Rattle.laws.specs.Rows.{at}
-use Rattle.laws.specs.Chunks.{chunks}
-use Rattle.laws.specs.Machine.{fit}
+use Rattle.laws.specs.Code.Chunks.{chunks}
+use Rattle.laws.specs.Laws.Machine.{fit}
 use Rattle.quantiser.specs.Quant.{quantFactor, quantOffset, forwardBy, forwardQuant, inverseBy, inverseQuant}
-use Rattle.quantiser.specs.QuantLaws.{quantFactor-least, quantFactor-lt, number-most}
+use Rattle.quantiser.specs.Laws.Quant.{quantFactor-least, quantFactor-lt, number-most}
 use Rattle.unit.specs.Predict.{mean, predict}
-use Rattle.unit.specs.ScanLaws.{neighbours, predict-most}
-use Rattle.unit.specs.RebuiltLaws.{step-most}
-use Rattle.unit.specs.TrimLaws.{small-append}
-use Rattle.unit.specs.TrimLaws as trim
+use Rattle.unit.specs.Laws.Scan.{neighbours, predict-most}
+use Rattle.unit.specs.Laws.Rebuilt.{step-most}
+use Rattle.unit.specs.Laws.Trim.{small-append}
+use Rattle.unit.specs.Laws.Trim as trim
 use Rattle.picture.specs.declared.slices.strip.Strip.{Strip}
 use Rattle.picture.specs.Code.Strip.{planeFrom, predictionIn, numberIn, secondNumber, placeNumbers, rowNumbers, rowsNumbers, valueIn, rebuiltRow, rebuiltRows, most, reach, Readable, Numbered, Small, Within, Inside}
 

@@ -9,10 +9,10 @@ use lib.Dec.{eqb}
 use lib.IntN.{ℤ, pos, negsuc, natAbs, _-ℤ_, +ℤ-idr}
 use lib.ListN.{length, length-append}
 use Rattle.codewords.specs.Code.{codeS, codes}
-use Rattle.codewords.specs.CodeLaws.{length-codeS-zero}
+use Rattle.codewords.specs.Laws.Code.{length-codeS-zero}
 use Rattle.quantiser.specs.Quant.{forwardBy}
 use Rattle.unit.specs.Trim.{trimCons, trimmed, bitsOf, trimmedCost}
-use Rattle.unit.specs.TrimLaws.{length-trimmed, Small, bits-most}
+use Rattle.unit.specs.Laws.Trim.{length-trimmed, Small, bits-most}
 use Rattle.picture.specs.declared.slices.strip.Strip.{Strip}
 use Rattle.picture.specs.declared.slices.cost.Cost.{Cost}
 use Rattle.picture.specs.declared.slices.tally.Tally.{Tally}

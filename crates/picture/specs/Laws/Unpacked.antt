@@ -9,12 +9,12 @@ use borrow.Author.Tests.{le-leb, lt-leb}
 use lib.Dec.{leb, eqb}
 use lib.IntN.{ℤ, pos, negsuc, natAbs}
 use lib.ListN.{length, replicate, length-append}
-use Rattle.laws.specs.Chunks.{chunks}
-use Rattle.laws.specs.Integer.{up}
+use Rattle.laws.specs.Code.Chunks.{chunks}
+use Rattle.laws.specs.Laws.Integer.{up}
 use Rattle.codewords.specs.Code.{codeS}
-use Rattle.codewords.specs.CodeLaws.{length-codeS-zero}
+use Rattle.codewords.specs.Laws.Code.{length-codeS-zero}
 use Rattle.quantiser.specs.Quant.{quantFactor, forwardBy, forwardQuant}
-use Rattle.quantiser.specs.QuantLaws.{number-size}
+use Rattle.quantiser.specs.Laws.Quant.{number-size}
 use Rattle.unit.specs.Trim.{trimCons, trimmed, bitsOf, trimmedCost}
 use Rattle.unit.specs.HighQuality.{componentBits}
 use Rattle.picture.specs.declared.slices.strip.Strip.{Strip}

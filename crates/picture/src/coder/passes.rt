@@ -5,7 +5,7 @@ use crate::slices::layout::Picture;
 ghost use mathlib.Core.Path.{_≡_};
 ghost use Prim.Native.Nat.{_+_, _^_, _≤_, _<_};
 ghost use lib.ListN.{length};
-ghost use Rattle.laws.specs.Laid.{Lays};
+ghost use Rattle.laws.specs.Code.Laid.{Lays};
 ghost use Rattle.picture.specs.Code.Picture.{slicesIn};
 ghost use Rattle.picture.specs.Code.Choice.{PlanIn, highRuns};
 ghost use Rattle.picture.specs.Code.Passes.{PlansTo};

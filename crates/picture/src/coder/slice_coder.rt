@@ -5,7 +5,7 @@ use crate::slices::layout::Picture;
 ghost use mathlib.Core.Path.{_≡_};
 ghost use Prim.Native.Nat.{_+_, _*_, _^_, _≤_, _<_};
 ghost use lib.ListN.{length};
-ghost use Rattle.laws.specs.Laid.{laid, Lays};
+ghost use Rattle.laws.specs.Code.Laid.{laid, Lays};
 ghost use Rattle.codewords.specs.Bytes.{toBytes};
 ghost use Rattle.picture.specs.Code.Strip.{Small};
 ghost use Rattle.picture.specs.Code.Picture.{slicesIn};

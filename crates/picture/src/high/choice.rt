@@ -5,7 +5,7 @@ use crate::slices::layout::Picture;
 ghost use mathlib.Core.Path.{_≡_};
 ghost use mathlib.Core.Bool.{false};
 ghost use Prim.Native.Nat.{_+_, _^_, _≤_, _<_};
-ghost use Rattle.laws.specs.Laid.{laid};
+ghost use Rattle.laws.specs.Code.Laid.{laid};
 ghost use Rattle.picture.specs.Code.Strip.{Small};
 ghost use Rattle.picture.specs.Code.Picture.{slicesIn, numbersIn, SliceIn};
 ghost use Rattle.picture.specs.Code.Choice.{choiceBy, choiceIn, sliceWords, wordsIn, sliceNumberCount, wordsOf, FewBits, PlanIn};

@@ -5,7 +5,7 @@ use crate::high::size::Terms;
 use codewords::writer::BitWriter;
 ghost use Prim.Native.Nat.{_+_, _*_, _^_, _≤_};
 ghost use lib.ListN.{length};
-ghost use Rattle.laws.specs.Laid.{Lays};
+ghost use Rattle.laws.specs.Code.Laid.{Lays};
 ghost use Rattle.codewords.specs.Bit.{zeroBits};
 ghost use Rattle.codewords.specs.Bytes.{toBytes};
 ghost use Rattle.codewords.specs.Writer.{Room, Wrote};

@@ -8,7 +8,7 @@ use codewords::writer::BitWriter;
 ghost use mathlib.Core.Path.{_≡_};
 ghost use Prim.Native.Nat.{_+_, _^_, _≤_};
 ghost use lib.ListN.{length};
-ghost use Rattle.laws.specs.Laid.{Lays};
+ghost use Rattle.laws.specs.Code.Laid.{Lays};
 ghost use Rattle.codewords.specs.Bytes.{toBytes};
 ghost use Rattle.codewords.specs.Writer.{Room, Wrote};
 ghost use Rattle.picture.specs.Code.Picture.{SliceIn};

@@ -1,7 +1,7 @@
 -- `quantiser::cap` meets its contract.
 use mathlib.Core.Path.{sym}
 use native.Mathlib.Omega.{arith}
-use Rattle.quantiser.specs.CapLaws.{cap-same, cap-most}
+use Rattle.quantiser.specs.Laws.Cap.{cap-same, cap-most}
 use Rattle.quantiser.proofs.cap.Statement.{statement}
 use Rattle.quantiser.proofs.cap.Tie as tie
 use Rattle.quantiser.proofs.cap.Reads as reads

@@ -3,8 +3,8 @@ use mathlib.Core.Path.{sym}
 use Prim.Native.Nat.{_*_, _^_, _<_}
 use native.Mathlib.Omega.{arith}
 use borrow.Author.Needs.{needs}
-use Rattle.quantiser.specs.CapLaws.{cap-same}
-use Rattle.quantiser.specs.StepLaws.{product-most, product-small}
+use Rattle.quantiser.specs.Laws.Cap.{cap-same}
+use Rattle.quantiser.specs.Laws.Step.{product-most, product-small}
 use Rattle.quantiser.proofs.capped_mul.Statement.{statement}
 use Rattle.quantiser.proofs.capped_mul.Tie as tie
 use Rattle.quantiser.proofs.capped_mul.Reads as reads

@@ -3,7 +3,7 @@ use mathlib.Core.Path.{_∙_}
 use mir.Syntax.{w64}
 use mir.Facts.{toZ-ofZ}
 use borrow.Author.Needs.{needs}
-use Rattle.quantiser.specs.StepLaws.{back, abs-read, forward-is}
+use Rattle.quantiser.specs.Laws.Step.{back, abs-read, forward-is}
 use Rattle.quantiser.proofs.forward_by.Statement.{statement}
 use Rattle.quantiser.proofs.forward_by.Tie as tie
 use Rattle.quantiser.proofs.forward_by.Reads as reads

@@ -3,8 +3,8 @@ use mathlib.Core.Path.{_≡_}
 use native.Mathlib.Omega.{arith}
 use lib.IntN.{natAbs}
 use borrow.Author.Needs.{needs}
-use Rattle.quantiser.specs.StepLaws.{abs-read}
-use Rattle.quantiser.specs.LengthLaws.{Length, length-law}
+use Rattle.quantiser.specs.Laws.Step.{abs-read}
+use Rattle.quantiser.specs.Laws.Length.{Length, length-law}
 use Rattle.quantiser.proofs.forward_len_by.Statement.{statement}
 use Rattle.quantiser.proofs.forward_len_by.Tie as tie
 use Rattle.quantiser.proofs.forward_len_by.Reads as reads

@@ -4,7 +4,7 @@ use mir.Syntax.{w64}
 use mir.Facts.{toZ-ofZ}
 use borrow.Author.Needs.{needs}
 use Rattle.quantiser.specs.Quant.{forwardQuant}
-use Rattle.quantiser.specs.StepLaws.{back, refused, answered}
+use Rattle.quantiser.specs.Laws.Step.{back, refused, answered}
 use Rattle.quantiser.proofs.forward_quant.Statement.{statement}
 use Rattle.quantiser.proofs.forward_quant.Tie as tie
 use Rattle.quantiser.proofs.forward_quant.Reads as reads

@@ -5,7 +5,7 @@ use native.Mathlib.Omega.{arith}
 use lib.IntN.{natAbs}
 use borrow.Author.Needs.{needs}
 use Rattle.quantiser.specs.Quant.{forwardBy}
-use Rattle.quantiser.specs.StepLaws.{abs-read, over-four, over-none, over-more, forward-abs}
+use Rattle.quantiser.specs.Laws.Step.{abs-read, over-four, over-none, over-more, forward-abs}
 use Rattle.quantiser.proofs.forward_size.Statement.{statement}
 use Rattle.quantiser.proofs.forward_size.Tie as tie
 use Rattle.quantiser.proofs.forward_size.Reads as reads

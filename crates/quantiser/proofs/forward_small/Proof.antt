@@ -4,8 +4,8 @@ use native.Mathlib.Omega.{arith}
 use mir.Syntax.{w64}
 use mir.Facts.{toZ-ofZ}
 use borrow.Author.Needs.{needs}
-use Rattle.quantiser.specs.StepLaws.{back}
-use Rattle.quantiser.specs.SignLaws.{forward-sign}
+use Rattle.quantiser.specs.Laws.Step.{back}
+use Rattle.quantiser.specs.Laws.Sign.{forward-sign}
 use Rattle.quantiser.proofs.forward_small.Statement.{statement}
 use Rattle.quantiser.proofs.forward_small.Tie as tie
 use Rattle.quantiser.proofs.forward_small.Reads as reads

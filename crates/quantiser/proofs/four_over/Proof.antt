@@ -4,7 +4,7 @@ use Prim.Native.Nat.{_/_, _^_, _≤_}
 use native.Mathlib.Omega.{arith}
 use native.Mathlib.Nat.{mod-lt}
 use borrow.Author.Needs.{needs}
-use Rattle.quantiser.specs.StepLaws.{quarter, over-four, four-times}
+use Rattle.quantiser.specs.Laws.Step.{quarter, over-four, four-times}
 use Rattle.quantiser.proofs.four_over.Statement.{statement}
 use Rattle.quantiser.proofs.four_over.Tie as tie
 use Rattle.quantiser.proofs.four_over.Reads as reads

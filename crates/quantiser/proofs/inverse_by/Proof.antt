@@ -5,7 +5,7 @@ use lib.IntN.{natAbs}
 use mir.Syntax.{w64}
 use mir.Facts.{toZ-ofZ}
 use borrow.Author.Needs.{needs}
-use Rattle.quantiser.specs.StepLaws.{back, abs-read, inverse-zero, inverse-more}
+use Rattle.quantiser.specs.Laws.Step.{back, abs-read, inverse-zero, inverse-more}
 use Rattle.quantiser.proofs.inverse_by.Statement.{statement}
 use Rattle.quantiser.proofs.inverse_by.Tie as tie
 use Rattle.quantiser.proofs.inverse_by.Reads as reads

@@ -4,7 +4,7 @@ use lib.IntN.{pos}
 use mir.Syntax.{w64}
 use mir.Facts.{toZ-pos}
 use borrow.Author.Needs.{needs}
-use Rattle.quantiser.specs.StepLaws.{refused, answered}
+use Rattle.quantiser.specs.Laws.Step.{refused, answered}
 use Rattle.quantiser.proofs.quant_factor.Statement.{statement}
 use Rattle.quantiser.proofs.quant_factor.Tie as tie
 use Rattle.quantiser.proofs.quant_factor.Reads as reads

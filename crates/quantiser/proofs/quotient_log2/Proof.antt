@@ -1,6 +1,6 @@
 -- `quantiser::quotient_log2` meets its contract.
 use native.Mathlib.Omega.{arith}
-use Rattle.quantiser.specs.LengthLaws.{Gap, gap-law}
+use Rattle.quantiser.specs.Laws.Length.{Gap, gap-law}
 use Rattle.quantiser.proofs.quotient_log2.Statement.{statement}
 use Rattle.quantiser.proofs.quotient_log2.Tie as tie
 use Rattle.quantiser.proofs.quotient_log2.Reads as reads

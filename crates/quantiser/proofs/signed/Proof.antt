@@ -5,9 +5,9 @@ use lib.IntN.{pos, _-ℤ_}
 use mir.Syntax.{w64}
 use mir.Facts.{toZ-ofZ, toZ-pos}
 use borrow.Author.Needs.{needs}
-use Rattle.laws.specs.Integer.{abs-sub}
-use Rattle.laws.specs.Machine.{fit}
-use Rattle.quantiser.specs.SignLaws.{signed-minus, signed-plus}
+use Rattle.laws.specs.Laws.Integer.{abs-sub}
+use Rattle.laws.specs.Laws.Machine.{fit}
+use Rattle.quantiser.specs.Laws.Sign.{signed-minus, signed-plus}
 use Rattle.quantiser.proofs.signed.Statement.{statement}
 use Rattle.quantiser.proofs.signed.Tie as tie
 use Rattle.quantiser.proofs.signed.Reads as reads

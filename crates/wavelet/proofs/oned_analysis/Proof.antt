@@ -1,7 +1,7 @@
 -- `oned_analysis` meets its contract.
 use native.Mathlib.Omega.{arith}
 use borrow.Author.Needs.{needs}
-use Rattle.wavelet.specs.RowCall.{refuse-filter, refuse-long, analysed}
+use Rattle.wavelet.specs.Laws.RowCall.{refuse-filter, refuse-long, analysed}
 use Rattle.wavelet.proofs.oned_analysis.Statement.{statement}
 use Rattle.wavelet.proofs.oned_analysis.Tie as tie
 

@@ -8,7 +8,7 @@ use lib.ListN.{length}
 use borrow.Author.Tests.{eqb-true, eq-eqb, ne-eqb}
 use Rattle.unit.specs.declared.PictureKind.the-variants.{HighQuality}
 use Rattle.unit.specs.declared.RateControl.the-variants.{PictureBytes}
-use Rattle.unit.specs.TestLaws.{no-truth}
+use Rattle.unit.specs.Laws.Test.{no-truth}
 use Rattle.unit.specs.Words.{wordAt, known, kindIn, rateIn}
 
 -- both tests hold

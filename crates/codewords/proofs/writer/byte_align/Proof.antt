@@ -3,9 +3,9 @@ use mathlib.Core.List.{append-nil}
 use native.Mathlib.Omega.{arith}
 use borrow.Author.Needs.{needs}
 use Rattle.codewords.specs.Bit.{zeroBits}
-use Rattle.codewords.specs.BitLaws.{length-lit, lit-zeros}
+use Rattle.codewords.specs.Laws.Bit.{length-lit, lit-zeros}
 use Rattle.codewords.specs.Bytes.{padding}
-use Rattle.codewords.specs.WriterLaws.{wrote-then, room-after}
+use Rattle.codewords.specs.Laws.Writer.{wrote-then, room-after}
 use Rattle.codewords.proofs.writer.byte_align.Statement.{statement}
 use Rattle.codewords.proofs.writer.byte_align.Tie as tie
 use Rattle.codewords.proofs.writer.byte_align.Reads as reads

@@ -7,13 +7,14 @@ use native.Mathlib.Omega.{arith}
 use borrow.Author.Needs.{needs}
 use lib.ListN.{set}
 use lib.Pow.{pow-pos}
-use Rattle.laws.specs.Laid.{Lays, lays-start, lays-on, lays-first}
+use Rattle.laws.specs.Code.Laid.{Lays}
+use Rattle.laws.specs.Laws.Laid.{lays-start, lays-on, lays-first}
 use Rattle.codewords.specs.Bit.{lit}
-use Rattle.codewords.specs.BitLaws.{length-lit, lit-none, byte-up, one-shl}
+use Rattle.codewords.specs.Laws.Bit.{length-lit, lit-none, byte-up, one-shl}
 use Rattle.codewords.specs.Bytes.{toBytes}
-use Rattle.codewords.specs.ByteLaws.{pack-none, length-toBytes, bytes-more}
+use Rattle.codewords.specs.Laws.Byte.{pack-none, length-toBytes, bytes-more}
 use Rattle.codewords.specs.Writer.{pendingOf}
-use Rattle.codewords.specs.WriterLaws.{wrote-bits}
+use Rattle.codewords.specs.Laws.Writer.{wrote-bits}
 use Rattle.codewords.proofs.writer.flush.Statement.{statement}
 use Rattle.codewords.proofs.writer.flush.Tie as tie
 use Rattle.codewords.proofs.writer.flush.Reads as reads

@@ -1,6 +1,6 @@
 -- `codewords::writer::put_bit` meets its contract.
 use borrow.Author.Needs.{needs}
-use Rattle.codewords.specs.BitLaws.{lit-bit}
+use Rattle.codewords.specs.Laws.Bit.{lit-bit}
 use Rattle.codewords.proofs.writer.put_bit.Statement.{statement}
 use Rattle.codewords.proofs.writer.put_bit.Tie as tie
 use Rattle.codewords.proofs.writer.put_bit.Reads as reads

@@ -5,8 +5,8 @@ use Prim.Native.Nat.{ℕ, suc, _+_}
 use native.Mathlib.Omega.{arith}
 use borrow.Author.Needs.{needs}
 use lib.ListN.{set, length-set}
-use Rattle.laws.specs.Laid.{laid}
-use Rattle.codewords.specs.ByteLaws.{bytes-four}
+use Rattle.laws.specs.Code.Laid.{laid}
+use Rattle.codewords.specs.Laws.Byte.{bytes-four}
 use Rattle.codewords.proofs.writer.put_four.Statement.{statement}
 use Rattle.codewords.proofs.writer.put_four.Tie as tie
 use Rattle.codewords.proofs.writer.put_four.Reads as reads

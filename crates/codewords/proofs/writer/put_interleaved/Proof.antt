@@ -9,13 +9,13 @@ use native.Mathlib.Omega.{arith}
 use borrow.Author.Needs.{needs}
 use Rattle.codewords.specs.declared.writer.BitWriter.{BitWriter}
 use Rattle.codewords.specs.Bit.{lit}
-use Rattle.codewords.specs.BitLaws.{length-lit, lit-none, lit-split, byte-up}
+use Rattle.codewords.specs.Laws.Bit.{length-lit, lit-none, lit-split, byte-up}
 use Rattle.codewords.specs.Code.{interleaved}
 use Rattle.codewords.specs.Spread.{spreadBits}
-use Rattle.codewords.specs.CodeLaws.{interleaved-none, interleaved-append, length-interleaved}
-use Rattle.codewords.specs.WordLaws.{interleaved-spread, word-lit}
+use Rattle.codewords.specs.Laws.Code.{interleaved-none, interleaved-append, length-interleaved}
+use Rattle.codewords.specs.Laws.Word.{interleaved-spread, word-lit}
 use Rattle.codewords.specs.Writer.{Sound, Room, Wrote}
-use Rattle.codewords.specs.WriterLaws.{wrote-none, wrote-then, room-after}
+use Rattle.codewords.specs.Laws.Writer.{wrote-none, wrote-then, room-after}
 use Rattle.codewords.proofs.writer.put_interleaved.Statement.{statement}
 use Rattle.codewords.proofs.writer.put_interleaved.Tie as tie
 use Rattle.codewords.proofs.writer.put_interleaved.Reads as reads

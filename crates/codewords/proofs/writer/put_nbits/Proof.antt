@@ -5,8 +5,8 @@ use Prim.Native.Nat.{ℕ, _+_, _-_, _/_, _^_, _≤_}
 use native.Mathlib.Omega.{arith}
 use borrow.Author.Needs.{needs}
 use Rattle.codewords.specs.Bit.{lit}
-use Rattle.codewords.specs.BitLaws.{length-lit, lit-split}
-use Rattle.codewords.specs.WriterLaws.{wrote-then, room-after}
+use Rattle.codewords.specs.Laws.Bit.{length-lit, lit-split}
+use Rattle.codewords.specs.Laws.Writer.{wrote-then, room-after}
 use Rattle.codewords.proofs.writer.put_nbits.Statement.{statement}
 use Rattle.codewords.proofs.writer.put_nbits.Tie as tie
 use Rattle.codewords.proofs.writer.put_nbits.Reads as reads

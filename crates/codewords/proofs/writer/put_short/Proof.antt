@@ -5,8 +5,8 @@ use Prim.Native.Nat.{_+_, _-_, _*_, _%_, _^_, _≤_, _<_}
 use native.Mathlib.Omega.{arith}
 use borrow.Author.Needs.{needs}
 use lib.Pow.{pow-pos, pow-mono}
-use Rattle.codewords.specs.BitLaws.{lit-join, one-shl}
-use Rattle.codewords.specs.WriterLaws.{joined, joined-lt, wrote-few, wrote-bits}
+use Rattle.codewords.specs.Laws.Bit.{lit-join, one-shl}
+use Rattle.codewords.specs.Laws.Writer.{joined, joined-lt, wrote-few, wrote-bits}
 use Rattle.codewords.proofs.writer.put_short.Statement.{statement}
 use Rattle.codewords.proofs.writer.put_short.Tie as tie
 use Rattle.codewords.proofs.writer.put_short.Reads as reads

@@ -6,10 +6,10 @@ use Prim.Native.Nat.{ℕ, _+_, _-_, _≤_}
 use native.Mathlib.Omega.{arith}
 use borrow.Author.Needs.{needs}
 use lib.ListN.{length, length-append}
-use Rattle.codewords.specs.BitLaws.{length-lit}
+use Rattle.codewords.specs.Laws.Bit.{length-lit}
 use Rattle.codewords.specs.Code.{codeU, codeM}
-use Rattle.codewords.specs.CodeLaws.{codeM-pos}
-use Rattle.codewords.specs.WriterLaws.{wrote-then, room-after}
+use Rattle.codewords.specs.Laws.Code.{codeM-pos}
+use Rattle.codewords.specs.Laws.Writer.{wrote-then, room-after}
 use Rattle.codewords.proofs.writer.put_signed.Statement.{statement}
 use Rattle.codewords.proofs.writer.put_signed.Tie as tie
 use Rattle.codewords.proofs.writer.put_signed.Reads as reads

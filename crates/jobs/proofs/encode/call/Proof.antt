@@ -3,8 +3,8 @@ use mathlib.Core.Path.{sym}
 use Prim.Native.Nat.{_-_}
 use lib.ListN.{length}
 use lib.Seq.{length-take-le}
-use Rattle.jobs.specs.ParseLaws.{length-part}
-use Rattle.jobs.specs.JobLaws.{Able, able, loaded, called-from}
+use Rattle.jobs.specs.Laws.Parse.{length-part}
+use Rattle.jobs.specs.Laws.Job.{Able, able, loaded, called-from}
 use native.Mathlib.Omega.{arith}
 use borrow.Author.Needs.{needs}
 use Rattle.jobs.proofs.encode.call.Statement.{statement}

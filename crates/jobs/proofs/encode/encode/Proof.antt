@@ -4,7 +4,7 @@ use native.Mathlib.Omega.{arith}
 use Prim.Native.Nat.{_-_}
 use lib.ListN.{take, drop}
 use lib.Seq.{length-take-le}
-use Rattle.jobs.specs.JobLaws.{lent-to-end}
+use Rattle.jobs.specs.Laws.Job.{lent-to-end}
 use borrow.Author.Needs.{needs}
 use Rattle.jobs.proofs.encode.encode.Statement.{statement}
 use Rattle.jobs.proofs.encode.encode.Tie as tie

@@ -5,11 +5,11 @@ use Prim.Native.Nat.{ℕ, _≤_}
 use native.Mathlib.Omega.{arith}
 use lib.ListN.{length, take}
 use lib.Seq.{length-take-le}
-use Rattle.laws.specs.Laid.{Lays}
+use Rattle.laws.specs.Code.Laid.{Lays}
 use Rattle.jobs.specs.Job.{wordsOf}
-use Rattle.jobs.specs.PrintLaws.{lays-read}
-use Rattle.jobs.specs.ParseLaws.{words-count}
-use Rattle.jobs.specs.JobLaws.{whole-read, odd-read}
+use Rattle.jobs.specs.Laws.Print.{lays-read}
+use Rattle.jobs.specs.Laws.Parse.{words-count}
+use Rattle.jobs.specs.Laws.Job.{whole-read, odd-read}
 use borrow.Author.Needs.{needs}
 use Rattle.jobs.proofs.encode.run.Statement.{statement}
 use Rattle.jobs.proofs.encode.run.Tie as tie

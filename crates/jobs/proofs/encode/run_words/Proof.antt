@@ -3,7 +3,7 @@ use mathlib.Core.Path.{_≡_, sym, _∙_}
 use native.Mathlib.Omega.{arith}
 use lib.ListN.{length}
 use borrow.Author.Tests.{not-true, not-false}
-use Rattle.jobs.specs.JobLaws.{answer-room, answer-laid, job-laid}
+use Rattle.jobs.specs.Laws.Job.{answer-room, answer-laid, job-laid}
 use borrow.Author.Needs.{needs}
 use Rattle.jobs.proofs.encode.run_words.Statement.{statement}
 use Rattle.jobs.proofs.encode.run_words.Tie as tie

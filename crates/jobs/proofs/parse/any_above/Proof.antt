@@ -7,7 +7,7 @@ use lib.ListN.{length, drop}
 use Rattle.unit.specs.Refusal.{anyAbove}
 use Rattle.jobs.specs.Job.{contentOf}
 use Rattle.picture.specs.Laws.Refusal.{above-here, above-next, above-none}
-use Rattle.jobs.specs.ParseLaws.{contents-count, content-at}
+use Rattle.jobs.specs.Laws.Parse.{contents-count, content-at}
 use native.Mathlib.Omega.{arith}
 use Rattle.jobs.proofs.parse.any_above.Statement.{statement}
 use Rattle.jobs.proofs.parse.any_above.Tie as tie

@@ -1,5 +1,5 @@
 -- `parse::ends_of` meets its contract.
-use Rattle.jobs.specs.ParseLaws.{ends-are}
+use Rattle.jobs.specs.Laws.Parse.{ends-are}
 use borrow.Author.Needs.{needs}
 use Rattle.jobs.proofs.parse.ends_of.Statement.{statement}
 use Rattle.jobs.proofs.parse.ends_of.Tie as tie

@@ -1,6 +1,6 @@
 -- `parse::is_end` meets its contract.
 use native.Mathlib.Omega.{arith}
-use Rattle.jobs.specs.ParseLaws.{end-other, end-one}
+use Rattle.jobs.specs.Laws.Parse.{end-other, end-one}
 use borrow.Author.Needs.{needs}
 use Rattle.jobs.proofs.parse.is_end.Statement.{statement}
 use Rattle.jobs.proofs.parse.is_end.Tie as tie

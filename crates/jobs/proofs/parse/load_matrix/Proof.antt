@@ -3,9 +3,10 @@ use mathlib.Core.Path.{_∙_}
 use mathlib.Core.List.{map}
 use Prim.Native.Nat.{_-_, _≤_}
 use lib.ListN.{length, take}
-use Rattle.laws.specs.Laid.{Lays, lays-start}
+use Rattle.laws.specs.Code.Laid.{Lays}
+use Rattle.laws.specs.Laws.Laid.{lays-start}
 use Rattle.jobs.specs.Job.{contentOf}
-use Rattle.jobs.specs.ParseLaws.{fill-next, fill-all, contents-count, content-at}
+use Rattle.jobs.specs.Laws.Parse.{fill-next, fill-all, contents-count, content-at}
 use native.Mathlib.Omega.{arith}
 use Rattle.jobs.proofs.parse.load_matrix.Statement.{statement}
 use Rattle.jobs.proofs.parse.load_matrix.Tie as tie

@@ -2,8 +2,8 @@
 use mathlib.Core.Path.{_≡_, refl, sym, _∙_}
 use Prim.Native.Nat.{_-_, _≤_}
 use lib.ListN.{length}
-use Rattle.jobs.specs.Steps.{runEnd}
-use Rattle.jobs.specs.ParseLaws.{run-stop, run-next, run-over}
+use Rattle.jobs.specs.Code.Steps.{runEnd}
+use Rattle.jobs.specs.Laws.Parse.{run-stop, run-next, run-over}
 use native.Mathlib.Omega.{arith}
 use Rattle.jobs.proofs.parse.run_end.Statement.{statement}
 use Rattle.jobs.proofs.parse.run_end.Tie as tie

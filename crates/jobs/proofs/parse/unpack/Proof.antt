@@ -2,9 +2,10 @@
 use mathlib.Core.Path.{_∙_}
 use Prim.Native.Nat.{_-_, _/_, _≤_}
 use lib.ListN.{length, take}
-use Rattle.laws.specs.Laid.{Lays, lays-start}
+use Rattle.laws.specs.Code.Laid.{Lays}
+use Rattle.laws.specs.Laws.Laid.{lays-start}
 use Rattle.jobs.specs.Job.{wordsOf}
-use Rattle.jobs.specs.ParseLaws.{fill-next, fill-all, words-count, words-at}
+use Rattle.jobs.specs.Laws.Parse.{fill-next, fill-all, words-count, words-at}
 use native.Mathlib.Omega.{arith}
 use Rattle.jobs.proofs.parse.unpack.Statement.{statement}
 use Rattle.jobs.proofs.parse.unpack.Tie as tie

@@ -6,7 +6,7 @@ use lib.ListN.{length, take}
 use lib.Seq.{length-take-le}
 use borrow.Author.Tests.{not-true, not-false}
 use Rattle.unit.specs.Words.{known}
-use Rattle.jobs.specs.ParseLaws.{Parted, parted, settings-long, order-unknown, order-endless, order-uncounted, order-last}
+use Rattle.jobs.specs.Laws.Parse.{Parted, parted, settings-long, order-unknown, order-endless, order-uncounted, order-last}
 use native.Mathlib.Omega.{arith}
 use borrow.Author.Needs.{needs}
 use Rattle.jobs.proofs.parse.well_formed.Statement.{statement}

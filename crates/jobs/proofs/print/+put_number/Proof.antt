@@ -3,8 +3,8 @@ use mathlib.Core.Path.{sym, ap}
 use native.Mathlib.Omega.{arith}
 use lib.ListN.{length}
 use borrow.Author.Needs.{needs}
-use Rattle.laws.specs.Laid.{lays-on}
-use Rattle.jobs.specs.PrintLaws.{lays-same, decimal-one, decimal-more, decimal-room}
+use Rattle.laws.specs.Laws.Laid.{lays-on}
+use Rattle.jobs.specs.Laws.Print.{lays-same, decimal-one, decimal-more, decimal-room}
 use Prim.Native.Nat.{ℕ, _<_}
 use borrow.Fn.Kinds.{In}
 use borrow.Fn.PlainCycle.{Measures, is, falls, and}

@@ -1,5 +1,5 @@
 -- `print::put` meets its contract.
-use Rattle.jobs.specs.PrintLaws.{lays-one}
+use Rattle.jobs.specs.Laws.Print.{lays-one}
 use borrow.Author.Needs.{needs}
 use Rattle.jobs.proofs.print.put.Statement.{statement}
 use Rattle.jobs.proofs.print.put.Tie as tie

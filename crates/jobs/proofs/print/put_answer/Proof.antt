@@ -3,7 +3,7 @@ use mathlib.Core.Path.{sym}
 use native.Mathlib.Omega.{arith}
 use lib.ListN.{length, take}
 use lib.Seq.{length-take-le}
-use Rattle.jobs.specs.PrintLaws.{length-bytes, accepted-room, refused-laid, accepted-laid}
+use Rattle.jobs.specs.Laws.Print.{length-bytes, accepted-room, refused-laid, accepted-laid}
 use borrow.Author.Needs.{needs}
 use Rattle.jobs.proofs.print.put_answer.Statement.{statement}
 use Rattle.jobs.proofs.print.put_answer.Tie as tie

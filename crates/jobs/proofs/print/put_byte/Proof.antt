@@ -1,5 +1,5 @@
 -- `print::put_byte` meets its contract.
-use Rattle.jobs.specs.PrintLaws.{chunk-laid}
+use Rattle.jobs.specs.Laws.Print.{chunk-laid}
 use borrow.Author.Needs.{needs}
 use Rattle.jobs.proofs.print.put_byte.Statement.{statement}
 use Rattle.jobs.proofs.print.put_byte.Tie as tie

@@ -3,9 +3,11 @@ use mathlib.Core.Path.{_≡_, sym, ap, _∙_}
 use Prim.Native.Nat.{_-_, _≤_}
 use lib.ListN.{length}
 use borrow.Author.Needs.{needs}
-use Rattle.laws.specs.Chunks.{chunks, chunks-none, chunks-more}
-use Rattle.laws.specs.Laid.{Lays, lays-start, lays-on}
-use Rattle.jobs.specs.PrintLaws.{lays-same, chunkAt, length-text, text-is}
+use Rattle.laws.specs.Code.Chunks.{chunks}
+use Rattle.laws.specs.Laws.Chunks.{chunks-none, chunks-more}
+use Rattle.laws.specs.Code.Laid.{Lays}
+use Rattle.laws.specs.Laws.Laid.{lays-start, lays-on}
+use Rattle.jobs.specs.Laws.Print.{lays-same, chunkAt, length-text, text-is}
 use native.Mathlib.Omega.{arith}
 use Rattle.jobs.proofs.print.put_bytes.Statement.{statement}
 use Rattle.jobs.proofs.print.put_bytes.Tie as tie

@@ -1,6 +1,6 @@
 -- `print::put_coded` meets its contract.
 use native.Mathlib.Omega.{arith}
-use Rattle.jobs.specs.PrintLaws.{line-laid}
+use Rattle.jobs.specs.Laws.Print.{line-laid}
 use borrow.Author.Needs.{needs}
 use Rattle.jobs.proofs.print.put_coded.Statement.{statement}
 use Rattle.jobs.proofs.print.put_coded.Tie as tie

@@ -1,5 +1,5 @@
 -- `print::put_job` meets its contract.
-use Rattle.laws.specs.Laid.{lays-on}
+use Rattle.laws.specs.Laws.Laid.{lays-on}
 use borrow.Author.Needs.{needs}
 use Rattle.jobs.proofs.print.put_job.Statement.{statement}
 use Rattle.jobs.proofs.print.put_job.Tie as tie

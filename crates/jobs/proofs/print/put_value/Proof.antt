@@ -1,8 +1,8 @@
 -- `print::put_value` meets its contract.
 use Prim.Native.Nat.{_^_, _<_}
 use native.Mathlib.Omega.{arith}
-use Rattle.laws.specs.Laid.{lays-on}
-use Rattle.jobs.specs.PrintLaws.{decimal-ten, value-short}
+use Rattle.laws.specs.Laws.Laid.{lays-on}
+use Rattle.jobs.specs.Laws.Print.{decimal-ten, value-short}
 use borrow.Author.Needs.{needs}
 use Rattle.jobs.proofs.print.put_value.Statement.{statement}
 use Rattle.jobs.proofs.print.put_value.Tie as tie

@@ -1,8 +1,8 @@
 -- `encoder::encode_picture` meets its contract.
 use mathlib.Core.Path.{_≡_, sym, _∙_}
 use native.Mathlib.Omega.{arith}
-use Rattle.unit.specs.ValidLaws.{valid}
-use Rattle.unit.specs.DemandLaws.{Typed}
+use Rattle.unit.specs.Laws.Valid.{valid}
+use Rattle.unit.specs.Laws.Demand.{Typed}
 use Rattle.picture.specs.Encoded.{planes}
 use Rattle.picture.specs.Laws.Encoded.{typed-by, encodes-refused, encodes-coded}
 use borrow.Author.Needs.{needs}

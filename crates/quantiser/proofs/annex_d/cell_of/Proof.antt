@@ -1,6 +1,6 @@
 -- `quantiser::annex_d::cell_of` meets its contract.
 use borrow.Author.Needs.{needs}
-use Rattle.quantiser.specs.CellLaws.{PlaceAt, place, cell-past}
+use Rattle.quantiser.specs.Laws.Cell.{PlaceAt, place, cell-past}
 use Rattle.quantiser.proofs.annex_d.cell_of.Statement.{statement}
 use Rattle.quantiser.proofs.annex_d.cell_of.Tie as tie
 use Rattle.quantiser.proofs.annex_d.cell_of.Reads as reads

@@ -1,6 +1,6 @@
 -- `quantiser::annex_d::default_quant_matrix` meets its contract.
 use borrow.Author.Needs.{needs}
-use Rattle.quantiser.specs.CellLaws.{no-table, no-matrix, is-matrix}
+use Rattle.quantiser.specs.Laws.Cell.{no-table, no-matrix, is-matrix}
 use Rattle.quantiser.proofs.annex_d.default_quant_matrix.Statement.{statement}
 use Rattle.quantiser.proofs.annex_d.default_quant_matrix.Tie as tie
 use Rattle.quantiser.proofs.annex_d.default_quant_matrix.Reads as reads

@@ -3,8 +3,8 @@ use mathlib.Core.Path.{_≡_, refl}
 use Prim.Native.Nat.{_-_, _≤_}
 use native.Mathlib.Omega.{arith}
 use borrow.Author.Needs.{needs}
-use Rattle.quantiser.specs.Cells.{matrixAt}
-use Rattle.quantiser.specs.CellLaws.{filled, filled-turn, filled-all}
+use Rattle.quantiser.specs.Code.Cells.{matrixAt}
+use Rattle.quantiser.specs.Laws.Cell.{filled, filled-turn, filled-all}
 use Rattle.quantiser.proofs.annex_d.matrix_at.Statement.{statement}
 use Rattle.quantiser.proofs.annex_d.matrix_at.Tie as tie
 use Rattle.quantiser.proofs.annex_d.matrix_at.Reads as reads

@@ -1,7 +1,7 @@
 -- `quantiser::annex_d::table_of` meets its contract.
 use mathlib.Core.Logic.{⊎-elim}
 use borrow.Author.Tests.{eqb-true, eqb-false}
-use Rattle.quantiser.specs.CellLaws.{same-table, same-none, mixed-table, mixed-none}
+use Rattle.quantiser.specs.Laws.Cell.{same-table, same-none, mixed-table, mixed-none}
 use Rattle.quantiser.proofs.annex_d.table_of.Statement.{statement}
 use Rattle.quantiser.proofs.annex_d.table_of.Tie as tie
 use Rattle.quantiser.proofs.annex_d.table_of.Reads as reads

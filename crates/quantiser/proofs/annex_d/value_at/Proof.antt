@@ -5,8 +5,8 @@ use Prim.Native.Nat.{_+_, _*_}
 use lib.ListN.{getD}
 use borrow.Author.Needs.{needs}
 use Rattle.laws.specs.Rows.{span}
-use Rattle.quantiser.specs.Cells.{allTables, matrixAt}
-use Rattle.quantiser.specs.CellLaws.{numbersAt, number-at}
+use Rattle.quantiser.specs.Code.Cells.{allTables, matrixAt}
+use Rattle.quantiser.specs.Laws.Cell.{numbersAt, number-at}
 use Rattle.quantiser.proofs.annex_d.value_at.Statement.{statement}
 use Rattle.quantiser.proofs.annex_d.value_at.Tie as tie
 use Rattle.quantiser.proofs.annex_d.value_at.Reads as reads

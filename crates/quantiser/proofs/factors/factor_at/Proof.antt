@@ -1,7 +1,7 @@
 -- `quantiser::factors::factor_at` meets its contract.
 use mathlib.Core.Path.{_∙_}
 use borrow.Author.Needs.{needs}
-use Rattle.quantiser.specs.CapLaws.{base-small, factor-low, is-factor}
+use Rattle.quantiser.specs.Laws.Cap.{base-small, factor-low, is-factor}
 use Rattle.quantiser.proofs.factors.factor_at.Statement.{statement}
 use Rattle.quantiser.proofs.factors.factor_at.Tie as tie
 use Rattle.quantiser.proofs.factors.factor_at.Reads as reads

@@ -1,7 +1,7 @@
 -- `quantiser::factors::factor_by` meets its contract.
 use native.Mathlib.Omega.{arith}
 use borrow.Author.Needs.{needs}
-use Rattle.quantiser.specs.CapLaws.{factorBy-rest}
+use Rattle.quantiser.specs.Laws.Cap.{factorBy-rest}
 use Rattle.quantiser.proofs.factors.factor_by.Statement.{statement}
 use Rattle.quantiser.proofs.factors.factor_by.Tie as tie
 use Rattle.quantiser.proofs.factors.factor_by.Reads as reads

@@ -4,7 +4,7 @@ use Prim.Native.Nat.{_/_}
 use native.Mathlib.Omega.{arith}
 use borrow.Author.Needs.{needs}
 use Rattle.quantiser.specs.Quant.{quantOffset}
-use Rattle.quantiser.specs.CapLaws.{quantOffset-half}
+use Rattle.quantiser.specs.Laws.Cap.{quantOffset-half}
 use Rattle.quantiser.proofs.factors.offset_by.Statement.{statement}
 use Rattle.quantiser.proofs.factors.offset_by.Tie as tie
 use Rattle.quantiser.proofs.factors.offset_by.Reads as reads

@@ -1,10 +1,10 @@
 -- `quantiser::factors::table_at` meets its contract: antt compares the code's table with the definition's first 256
 -- factors.
 use borrow.Author.Needs.{needs}
-use Rattle.laws.specs.Rows.{table}
+use Rattle.laws.specs.Laws.Rows.{table}
 use Rattle.quantiser.specs.Standard.{factor}
 use Rattle.quantiser.specs.Quant.{cap, quantFactor}
-use Rattle.quantiser.specs.CapLaws.{is-factor}
+use Rattle.quantiser.specs.Laws.Cap.{is-factor}
 use Rattle.quantiser.proofs.factors.table_at.Statement.{statement}
 use Rattle.quantiser.proofs.factors.table_at.Tie as tie
 use Rattle.quantiser.proofs.factors.table_at.Reads as reads

@@ -2,7 +2,7 @@
 use mathlib.Core.Bool.{true}
 use lib.ListN.{length-replicate}
 use Rattle.codewords.specs.Writer.{Room}
-use Rattle.codewords.specs.WriterLaws.{room-after}
+use Rattle.codewords.specs.Laws.Writer.{room-after}
 use Rattle.replay.specs.Put.{short}
 use native.Mathlib.Omega.{arith}
 use borrow.Author.Needs.{needs}

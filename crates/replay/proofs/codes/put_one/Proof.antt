@@ -1,7 +1,7 @@
 -- `replay::words::put_one` meets its contract: each arm is given that p is its constructor.
 use mir.Syntax.{w64}
 use mir.Facts.{toZ-ofZ}
-use Rattle.codewords.specs.BitLaws.{length-lit}
+use Rattle.codewords.specs.Laws.Bit.{length-lit}
 use borrow.Author.Needs.{needs}
 use Rattle.replay.proofs.codes.put_one.Statement.{statement}
 use Rattle.replay.proofs.codes.put_one.Tie as tie

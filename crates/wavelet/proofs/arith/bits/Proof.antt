@@ -1,8 +1,8 @@
 use native.Mathlib.Omega.{arith}
 use mir.Syntax.{w64}
 use mir.Facts.{toZ-ofZ, toZ-pos}
-use Rattle.laws.specs.Machine.{Below, below, Plain, plain}
-use Rattle.laws.specs.Wrap.{ofZ-lt}
+use Rattle.laws.specs.Laws.Machine.{Below, below, Plain, plain}
+use Rattle.laws.specs.Laws.Wrap.{ofZ-lt}
 use Rattle.wavelet.proofs.arith.bits.Statement.{statement}
 use Rattle.wavelet.proofs.arith.bits.Tie as tie
 

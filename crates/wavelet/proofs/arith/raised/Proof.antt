@@ -6,7 +6,7 @@ use mir.Facts.{toZ-ofZ}
 use borrow.Author.Needs.{needs, sfits-of}
 use Rattle.laws.specs.Wrap.{wrap}
 use Rattle.wavelet.specs.Planes.{raise}
-use Rattle.wavelet.specs.Copy.{raise-one}
+use Rattle.wavelet.specs.Laws.Copy.{raise-one}
 use Rattle.wavelet.proofs.arith.raised.Statement.{statement}
 use Rattle.wavelet.proofs.arith.raised.Tie as tie
 

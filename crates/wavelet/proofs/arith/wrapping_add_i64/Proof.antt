@@ -4,7 +4,7 @@ use mir.Syntax.{w64}
 use mir.Val.{toZ, ofZ}
 use mir.Facts.{toZ-ofZ}
 use borrow.Author.Needs.{needs}
-use Rattle.laws.specs.Wrap.{add-bits}
+use Rattle.laws.specs.Laws.Wrap.{add-bits}
 use Rattle.wavelet.proofs.arith.wrapping_add_i64.Statement.{statement}
 use Rattle.wavelet.proofs.arith.wrapping_add_i64.Tie as tie
 

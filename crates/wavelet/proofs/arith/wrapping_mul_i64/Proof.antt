@@ -5,7 +5,7 @@ use mir.Syntax.{w64}
 use mir.Val.{ofZ, toZ}
 use mir.Facts.{toZ-ofZ}
 use borrow.Author.Needs.{needs, sfits-of}
-use Rattle.wavelet.specs.Product.{mul-bits}
+use Rattle.wavelet.specs.Laws.Product.{mul-bits}
 use Rattle.wavelet.proofs.arith.wrapping_mul_i64.Statement.{statement}
 use Rattle.wavelet.proofs.arith.wrapping_mul_i64.Tie as tie
 

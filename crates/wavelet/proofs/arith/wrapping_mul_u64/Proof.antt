@@ -4,8 +4,8 @@ use mathlib.Core.Path.{_∙_, ap}
 use Prim.Native.Nat.{ℕ, _+_, _*_, _/_, _%_, _^_}
 use native.Mathlib.Omega.{arith}
 use borrow.Author.Needs.{needs}
-use Rattle.laws.specs.Machine.{product-fits}
-use Rattle.wavelet.specs.Product.{by-halves}
+use Rattle.laws.specs.Laws.Machine.{product-fits}
+use Rattle.wavelet.specs.Laws.Product.{by-halves}
 use Rattle.wavelet.proofs.arith.wrapping_mul_u64.Statement.{statement}
 use Rattle.wavelet.proofs.arith.wrapping_mul_u64.Tie as tie
 

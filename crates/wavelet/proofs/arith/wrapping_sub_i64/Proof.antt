@@ -5,7 +5,7 @@ use mir.Syntax.{w64}
 use mir.Val.{ofZ}
 use mir.Facts.{toZ-ofZ}
 use borrow.Author.Needs.{needs}
-use Rattle.laws.specs.Wrap.{sub-bits}
+use Rattle.laws.specs.Laws.Wrap.{sub-bits}
 use Rattle.wavelet.proofs.arith.wrapping_sub_i64.Statement.{statement}
 use Rattle.wavelet.proofs.arith.wrapping_sub_i64.Tie as tie
 

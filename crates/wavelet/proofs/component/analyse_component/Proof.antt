@@ -2,8 +2,8 @@
 use mathlib.Core.Path.{_∙_}
 use Prim.Native.Nat.{_*_, _/_}
 use Rattle.wavelet.specs.Pad.{padded}
-use Rattle.wavelet.specs.Walk.{deep-both, deep-across, place-down, quarter-area, half-area, walk-both, walk-across}
-use Rattle.wavelet.specs.Component.{padded-none}
+use Rattle.wavelet.specs.Laws.Walk.{deep-both, deep-across, place-down, quarter-area, half-area, walk-both, walk-across}
+use Rattle.wavelet.specs.Laws.Component.{padded-none}
 use borrow.Author.Needs.{needs}
 use Rattle.wavelet.proofs.component.analyse_component.Statement.{statement}
 use Rattle.wavelet.proofs.component.analyse_component.Tie as tie

@@ -1,6 +1,6 @@
 -- `component::analyse_components` meets its contract.
 use Prim.Native.Nat.{_*_}
-use Rattle.wavelet.specs.Component.{three-are}
+use Rattle.wavelet.specs.Laws.Component.{three-are}
 use borrow.Author.Needs.{needs}
 use Rattle.wavelet.proofs.component.analyse_components.Statement.{statement}
 use Rattle.wavelet.proofs.component.analyse_components.Tie as tie

@@ -2,8 +2,8 @@
 use Prim.Native.Nat.{ℕ, _*_, _≤_}
 use native.Mathlib.Omega.{arith}
 use Rattle.wavelet.specs.Pad.{padded}
-use Rattle.wavelet.specs.Level.{h-level}
-use Rattle.wavelet.specs.Walk.{deep-across, place-down}
+use Rattle.wavelet.specs.Laws.Level.{h-level}
+use Rattle.wavelet.specs.Laws.Walk.{deep-across, place-down}
 use borrow.Author.Needs.{needs}
 use Rattle.wavelet.proofs.component.h_component.Statement.{statement}
 use Rattle.wavelet.proofs.component.h_component.Tie as tie

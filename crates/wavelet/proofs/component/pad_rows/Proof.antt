@@ -6,15 +6,16 @@ use mathlib.Core.List.{List, _++_}
 use lib.ListN.{length, take, drop}
 use lib.IntN.{ℤ}
 use Rattle.laws.specs.Rows.{row}
-use Rattle.laws.specs.Window.{length-lent, put-lent, Parts, parts-first}
+use Rattle.laws.specs.Laws.Window.{length-lent, put-lent, Parts, parts-first}
 use Rattle.laws.specs.Wrap.{wrap}
 use Rattle.wavelet.specs.Filters.{filterOf}
 use Rattle.wavelet.specs.Planes.{raise}
-use Rattle.wavelet.specs.PlaneLaws.{bits-le}
+use Rattle.wavelet.specs.Laws.Plane.{bits-le}
 use Rattle.wavelet.specs.Pad.{padded}
-use Rattle.wavelet.specs.PadLaws.{paddedRow, row-from}
-use Rattle.wavelet.specs.Level.{rowOf, rows-room, rows-next, rows-all}
-use Rattle.wavelet.specs.Component.{lent-long}
+use Rattle.wavelet.specs.Code.Pad.{paddedRow}
+use Rattle.wavelet.specs.Laws.Pad.{row-from}
+use Rattle.wavelet.specs.Laws.Level.{rowOf, rows-room, rows-next, rows-all}
+use Rattle.wavelet.specs.Laws.Component.{lent-long}
 use Rattle.wavelet.proofs.component.pad_rows.Statement.{statement}
 use Rattle.wavelet.proofs.component.pad_rows.Tie as tie
 

@@ -2,8 +2,8 @@
 use Prim.Native.Nat.{ℕ, _*_, _≤_}
 use native.Mathlib.Omega.{arith}
 use Rattle.wavelet.specs.Pad.{padded}
-use Rattle.wavelet.specs.Level.{vh-level}
-use Rattle.wavelet.specs.Walk.{deep-both, place-down}
+use Rattle.wavelet.specs.Laws.Level.{vh-level}
+use Rattle.wavelet.specs.Laws.Walk.{deep-both, place-down}
 use borrow.Author.Needs.{needs}
 use Rattle.wavelet.proofs.component.vh_component.Statement.{statement}
 use Rattle.wavelet.proofs.component.vh_component.Tie as tie

@@ -1,7 +1,7 @@
 -- `depth::depth_limit` meets its contract.
 use mathlib.Core.Path.{sym, ap, _∙_}
 use Rattle.wavelet.specs.Depth.{limitBy}
-use Rattle.wavelet.specs.DepthLaws.{limit-is}
+use Rattle.wavelet.specs.Laws.Depth.{limit-is}
 use borrow.Author.Needs.{needs}
 use Rattle.wavelet.proofs.depth.depth_limit.Statement.{statement}
 use Rattle.wavelet.proofs.depth.depth_limit.Tie as tie

@@ -7,10 +7,10 @@ use lib.ListN.{length, drop}
 use lib.IntN.{ℤ}
 use Rattle.laws.specs.Wrap.{wrap}
 use Rattle.wavelet.specs.Lifting.{analysis}
-use Rattle.wavelet.specs.LiftingLaws.{analysis-none}
+use Rattle.wavelet.specs.Laws.Lifting.{analysis-none}
 use Rattle.wavelet.specs.Filters.{filterOf}
-use Rattle.wavelet.specs.Table.{in-table}
-use Rattle.wavelet.specs.Run.{analysis-turn}
+use Rattle.wavelet.specs.Laws.Table.{in-table}
+use Rattle.wavelet.specs.Laws.Run.{analysis-turn}
 use Rattle.wavelet.proofs.lift.analyse.Statement.{statement}
 use Rattle.wavelet.proofs.lift.analyse.Tie as tie
 

@@ -4,7 +4,7 @@ use Prim.Native.Nat.{_+_}
 use native.Mathlib.Omega.{arith}
 use mir.Facts.{toZ-ofZ}
 use borrow.Author.Needs.{needs, sfits-of}
-use Rattle.wavelet.specs.Run.{tapsTo}
+use Rattle.wavelet.specs.Code.Run.{tapsTo}
 use borrow.Author.Needs.{needs}
 use Rattle.wavelet.proofs.lift.four_taps.Statement.{statement}
 use Rattle.wavelet.proofs.lift.four_taps.Tie as tie

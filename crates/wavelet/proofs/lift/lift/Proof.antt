@@ -7,9 +7,9 @@ use lib.ListN.{length}
 use lib.IntN.{ℤ}
 use Rattle.laws.specs.Wrap.{wrap}
 use Rattle.wavelet.specs.Lifting.{Stage, lifted}
-use Rattle.wavelet.specs.LiftingLaws.{lifted-zero}
-use Rattle.wavelet.specs.Table.{stageOf}
-use Rattle.wavelet.specs.Run.{row-runs, ran-lifted}
+use Rattle.wavelet.specs.Laws.Lifting.{lifted-zero}
+use Rattle.wavelet.specs.Code.Table.{stageOf}
+use Rattle.wavelet.specs.Laws.Run.{row-runs, ran-lifted}
 use native.Mathlib.Omega.{arith}
 use Rattle.wavelet.proofs.lift.lift.Statement.{statement}
 use Rattle.wavelet.proofs.lift.lift.Tie as tie

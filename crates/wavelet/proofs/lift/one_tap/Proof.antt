@@ -9,7 +9,7 @@ use mir.Facts.{toZ-ofZ}
 use borrow.Author.Needs.{needs, sfits-of}
 use Rattle.laws.specs.Wrap.{wrap}
 use Rattle.laws.specs.Rows.{at}
-use Rattle.wavelet.specs.LiftingLaws.{dot-next}
+use Rattle.wavelet.specs.Laws.Lifting.{dot-next}
 use native.Mathlib.Omega.{arith}
 use borrow.Author.Needs.{needs}
 use Rattle.wavelet.proofs.lift.one_tap.Statement.{statement}

@@ -1,8 +1,8 @@
 -- `lift::place` meets its contract.
 use mathlib.Core.Path.{_≡_, _∙_}
 use Rattle.wavelet.specs.Lifting.{place}
-use Rattle.wavelet.specs.LiftingLaws.{place-law}
-use Rattle.wavelet.specs.Table.{stageOf}
+use Rattle.wavelet.specs.Laws.Lifting.{place-law}
+use Rattle.wavelet.specs.Code.Table.{stageOf}
 use borrow.Author.Needs.{needs}
 use Rattle.wavelet.proofs.lift.place.Statement.{statement}
 use Rattle.wavelet.proofs.lift.place.Tie as tie

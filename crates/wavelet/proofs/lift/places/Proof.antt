@@ -7,7 +7,7 @@ use native.Mathlib.Decide.{ℕ-discrete}
 use lib.ListN.{length, getD, set, length-set}
 use lib.Seq.{getD-set-same, getD-set-other}
 use Rattle.wavelet.specs.Lifting.{Stage, place}
-use Rattle.wavelet.specs.Table.{stageOf}
+use Rattle.wavelet.specs.Code.Table.{stageOf}
 use native.Mathlib.Omega.{arith}
 use Rattle.wavelet.proofs.lift.places.Statement.{statement}
 use Rattle.wavelet.proofs.lift.places.Tie as tie

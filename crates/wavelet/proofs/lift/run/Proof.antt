@@ -8,7 +8,7 @@ use mir.Facts.{toZ-ofZ}
 use borrow.Author.Needs.{needs, sfits-of}
 use borrow.Author.Tests.{eqb-true}
 use Rattle.laws.specs.Rows.{at}
-use Rattle.wavelet.specs.Run.{two-runs, two-ran}
+use Rattle.wavelet.specs.Laws.Run.{two-runs, two-ran}
 use Rattle.wavelet.proofs.lift.run.Statement.{statement}
 use Rattle.wavelet.proofs.lift.run.Tie as tie
 

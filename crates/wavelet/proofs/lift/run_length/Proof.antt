@@ -1,7 +1,7 @@
 -- `lift::run_length` meets its contract.
 use mathlib.Core.Path.{_∙_}
 use native.Mathlib.Omega.{arith}
-use Rattle.wavelet.specs.Run.{moves-one, moves-more}
+use Rattle.wavelet.specs.Laws.Run.{moves-one, moves-more}
 use borrow.Author.Needs.{needs}
 use Rattle.wavelet.proofs.lift.run_length.Statement.{statement}
 use Rattle.wavelet.proofs.lift.run_length.Tie as tie

@@ -12,9 +12,10 @@ use borrow.Author.Needs.{sfits-of}
 use Rattle.laws.specs.Wrap.{wrap}
 use Rattle.laws.specs.Rows.{at}
 use Rattle.wavelet.specs.Lifting.{Stage, scaled, change}
-use Rattle.wavelet.specs.LiftingLaws.{dot-take}
-use Rattle.wavelet.specs.Table.{stageOf}
-use Rattle.wavelet.specs.Run.{tapsTo, valueOf, ran, ran-none, ran-turn}
+use Rattle.wavelet.specs.Laws.Lifting.{dot-take}
+use Rattle.wavelet.specs.Code.Table.{stageOf}
+use Rattle.wavelet.specs.Code.Run.{tapsTo, valueOf, ran}
+use Rattle.wavelet.specs.Laws.Run.{ran-none, ran-turn}
 use native.Mathlib.Omega.{arith}
 use Rattle.wavelet.proofs.lift.run_taps.Statement.{statement}
 use Rattle.wavelet.proofs.lift.run_taps.Tie as tie

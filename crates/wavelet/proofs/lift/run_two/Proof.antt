@@ -12,8 +12,9 @@ use borrow.Author.Needs.{sfits-of}
 use Rattle.laws.specs.Wrap.{wrap}
 use Rattle.laws.specs.Rows.{at}
 use Rattle.wavelet.specs.Lifting.{Stage, scaled, change}
-use Rattle.wavelet.specs.Table.{stageOf}
-use Rattle.wavelet.specs.Run.{tapsTo, valueOf, ran, ran-none, ran-turn, twoTaps, twoPlaces, two-sum}
+use Rattle.wavelet.specs.Code.Table.{stageOf}
+use Rattle.wavelet.specs.Code.Run.{tapsTo, valueOf, ran, twoTaps, twoPlaces}
+use Rattle.wavelet.specs.Laws.Run.{ran-none, ran-turn, two-sum}
 use native.Mathlib.Omega.{arith}
 use Rattle.wavelet.proofs.lift.run_two.Statement.{statement}
 use Rattle.wavelet.proofs.lift.run_two.Tie as tie

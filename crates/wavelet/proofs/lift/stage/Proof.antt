@@ -1,5 +1,6 @@
 -- `lift::stage` meets its contract: the code's table computes to that of the definitions.
-use Rattle.wavelet.specs.Table.{stages, staged-at}
+use Rattle.wavelet.specs.Code.Table.{stages}
+use Rattle.wavelet.specs.Laws.Table.{staged-at}
 use Rattle.wavelet.specs.Filters.{dd97, legall, dd137, haar0, haar1, fidelity, daub97}
 use borrow.Author.Needs.{needs}
 use Rattle.wavelet.proofs.lift.stage.Statement.{statement}

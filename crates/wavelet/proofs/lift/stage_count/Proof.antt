@@ -1,6 +1,6 @@
 -- `lift::stage_count` meets its contract.
 use native.Mathlib.Omega.{arith}
-use Rattle.wavelet.specs.Table.{in-table}
+use Rattle.wavelet.specs.Laws.Table.{in-table}
 use Rattle.wavelet.proofs.lift.stage_count.Statement.{statement}
 use Rattle.wavelet.proofs.lift.stage_count.Tie as tie
 

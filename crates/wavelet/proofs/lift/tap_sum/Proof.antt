@@ -8,9 +8,9 @@ use mir.Facts.{toZ-ofZ}
 use borrow.Author.Needs.{sfits-of}
 use Rattle.laws.specs.Wrap.{wrap}
 use Rattle.laws.specs.Rows.{at}
-use Rattle.wavelet.specs.LiftingLaws.{dot-zero}
-use Rattle.wavelet.specs.Table.{count-four, count-eight}
-use Rattle.wavelet.specs.Run.{tapsTo}
+use Rattle.wavelet.specs.Laws.Lifting.{dot-zero}
+use Rattle.wavelet.specs.Laws.Table.{count-four, count-eight}
+use Rattle.wavelet.specs.Code.Run.{tapsTo}
 use Rattle.wavelet.proofs.lift.tap_sum.Statement.{statement}
 use Rattle.wavelet.proofs.lift.tap_sum.Tie as tie
 

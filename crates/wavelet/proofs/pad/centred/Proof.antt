@@ -1,5 +1,5 @@
 -- `pad::centred` meets its contract.
-use Rattle.wavelet.specs.PadLaws.{centred-fits, centred-is}
+use Rattle.wavelet.specs.Laws.Pad.{centred-fits, centred-is}
 use native.Mathlib.Omega.{arith}
 use borrow.Author.Needs.{needs}
 use Rattle.wavelet.proofs.pad.centred.Statement.{statement}

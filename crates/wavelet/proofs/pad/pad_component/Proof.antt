@@ -3,9 +3,10 @@ use mathlib.Core.Path.{_≡_, ap, ap₂, _∙_}
 use Prim.Native.Nat.{ℕ, _+_, _*_, _-_, _≤_, min}
 use lib.ListN.{length}
 use Rattle.laws.specs.Rows.{row}
-use Rattle.laws.specs.Window.{length-lent, Parts, parts-first, parts-room, lent-next}
+use Rattle.laws.specs.Laws.Window.{length-lent, Parts, parts-first, parts-room, lent-next}
 use Rattle.wavelet.specs.Pad.{padded}
-use Rattle.wavelet.specs.PadLaws.{paddedRow, row-from, length-padded, padded-all}
+use Rattle.wavelet.specs.Code.Pad.{paddedRow}
+use Rattle.wavelet.specs.Laws.Pad.{row-from, length-padded, padded-all}
 use native.Mathlib.Omega.{arith}
 use Rattle.wavelet.proofs.pad.pad_component.Statement.{statement}
 use Rattle.wavelet.proofs.pad.pad_component.Tie as tie

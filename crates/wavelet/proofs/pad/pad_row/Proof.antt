@@ -8,9 +8,10 @@ use mir.Facts.{toZ-ofZ}
 use borrow.Author.Needs.{sfits-of}
 use Rattle.laws.specs.Wrap.{wrap}
 use Rattle.laws.specs.Rows.{row}
-use Rattle.laws.specs.Chunks.{fill-all}
+use Rattle.laws.specs.Laws.Chunks.{fill-all}
 use Rattle.wavelet.specs.Planes.{raise}
-use Rattle.wavelet.specs.PadLaws.{paddedRow, Filled, filled-next, filled-again, past-samples, padded-in, padded-behind}
+use Rattle.wavelet.specs.Code.Pad.{paddedRow}
+use Rattle.wavelet.specs.Laws.Pad.{Filled, filled-next, filled-again, past-samples, padded-in, padded-behind}
 use Rattle.wavelet.proofs.pad.pad_row.Statement.{statement}
 use Rattle.wavelet.proofs.pad.pad_row.Tie as tie
 

@@ -2,7 +2,7 @@
 use mathlib.Core.Path.{_≡_}
 use Prim.Native.Nat.{ℕ, _+_, _*_, _-_, _%_, _^_, _≤_}
 use native.Mathlib.Nat.{div-mul-le-self}
-use Rattle.wavelet.specs.PadLaws.{scale-le}
+use Rattle.wavelet.specs.Laws.Pad.{scale-le}
 use native.Mathlib.Omega.{arith}
 use borrow.Author.Needs.{needs}
 use Rattle.wavelet.proofs.pad.padded_side.Statement.{statement}

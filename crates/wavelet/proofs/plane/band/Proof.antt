@@ -2,8 +2,9 @@
 use Prim.Native.Nat.{ℕ, _+_, _*_, _-_, _≤_}
 use native.Mathlib.Nat.{mul-le-mul-left}
 use lib.ListN.{length}
-use Rattle.laws.specs.Window.{Parts, parts-all}
-use Rattle.wavelet.specs.Copy.{bandRow, band-first, band-room, band-copies, band-turn}
+use Rattle.laws.specs.Laws.Window.{Parts, parts-all}
+use Rattle.wavelet.specs.Code.Copy.{bandRow}
+use Rattle.wavelet.specs.Laws.Copy.{band-first, band-room, band-copies, band-turn}
 use native.Mathlib.Omega.{arith}
 use Rattle.wavelet.proofs.plane.band.Statement.{statement}
 use Rattle.wavelet.proofs.plane.band.Tie as tie

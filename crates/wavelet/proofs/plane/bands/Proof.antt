@@ -1,8 +1,9 @@
 -- `plane::bands` meets its contract. The loop's invariant: the first n bands are there.
 use Prim.Native.Nat.{_+_, _*_, _-_, _/_, _%_, _≤_}
 use native.Mathlib.Nat.{mul-le-mul}
-use Rattle.laws.specs.Window.{Parts, parts-first}
-use Rattle.wavelet.specs.Copy.{bandOf, BandIn, bands-in, bands-turn, bands-all}
+use Rattle.laws.specs.Laws.Window.{Parts, parts-first}
+use Rattle.wavelet.specs.Code.Copy.{bandOf, BandIn}
+use Rattle.wavelet.specs.Laws.Copy.{bands-in, bands-turn, bands-all}
 use native.Mathlib.Omega.{arith}
 use Rattle.wavelet.proofs.plane.bands.Statement.{statement}
 use Rattle.wavelet.proofs.plane.bands.Tie as tie

@@ -9,8 +9,8 @@ use Rattle.laws.specs.Plane.{asPlane, asList}
 use Rattle.wavelet.specs.Lifting.{analysis}
 use Rattle.wavelet.specs.Filters.{filterOf}
 use Rattle.wavelet.specs.Planes.{columnsBy}
-use Rattle.wavelet.specs.Table.{in-table}
-use Rattle.wavelet.specs.Columns.{columns-first, columns-turn}
+use Rattle.wavelet.specs.Laws.Table.{in-table}
+use Rattle.wavelet.specs.Laws.Columns.{columns-first, columns-turn}
 use native.Mathlib.Omega.{arith}
 use Rattle.wavelet.proofs.plane.columns.Statement.{statement}
 use Rattle.wavelet.proofs.plane.columns.Tie as tie

@@ -8,11 +8,14 @@ use mir.Syntax.{w64}
 use mir.Val.{SFits}
 use mir.Facts.{toZ-ofZ}
 use borrow.Author.Needs.{sfits-of}
-use Rattle.laws.specs.Rows.{at, length-span}
-use Rattle.laws.specs.Window.{put, put-none, length-put, length-piece}
+use Rattle.laws.specs.Rows.{at}
+use Rattle.laws.specs.Laws.Rows.{length-span}
+use Rattle.laws.specs.Code.Window.{put}
+use Rattle.laws.specs.Laws.Window.{put-none, length-put, length-piece}
 use Rattle.laws.specs.Wrap.{wrap}
 use Rattle.wavelet.specs.Planes.{raise}
-use Rattle.wavelet.specs.Copy.{copied, copy-same, copy-turn}
+use Rattle.wavelet.specs.Code.Copy.{copied}
+use Rattle.wavelet.specs.Laws.Copy.{copy-same, copy-turn}
 use native.Mathlib.Omega.{arith}
 use Rattle.wavelet.proofs.plane.copy_into.Statement.{statement}
 use Rattle.wavelet.proofs.plane.copy_into.Tie as tie

@@ -4,7 +4,7 @@ use mathlib.Core.Path.{_≡_, _∙_}
 use Prim.Native.Nat.{_+_, _*_, _-_, _≤_}
 use native.Mathlib.Omega.{arith}
 use lib.ListN.{length}
-use Rattle.wavelet.specs.Walk.{coefficientsOf, after, deep-both, deep-across, Walks, turn-both, turn-across, walk-flat, walk-start, walk-end}
+use Rattle.wavelet.specs.Laws.Walk.{coefficientsOf, after, deep-both, deep-across, Walks, turn-both, turn-across, walk-flat, walk-start, walk-end}
 use Rattle.wavelet.proofs.plane.dwt.Statement.{statement}
 use Rattle.wavelet.proofs.plane.dwt.Tie as tie
 

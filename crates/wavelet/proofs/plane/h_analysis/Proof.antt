@@ -1,9 +1,9 @@
 -- `plane::h_analysis` meets its contract.
 use Prim.Native.Nat.{_*_}
 use lib.ListN.{drop}
-use Rattle.laws.specs.Window.{piece}
+use Rattle.laws.specs.Code.Window.{piece}
 use Rattle.laws.specs.Plane.{asPlane}
-use Rattle.wavelet.specs.Level.{h-level, rows-there}
+use Rattle.wavelet.specs.Laws.Level.{h-level, rows-there}
 use borrow.Author.Needs.{needs}
 use Rattle.wavelet.proofs.plane.h_analysis.Statement.{statement}
 use Rattle.wavelet.proofs.plane.h_analysis.Tie as tie

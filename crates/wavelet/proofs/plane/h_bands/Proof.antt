@@ -1,5 +1,5 @@
 -- `plane::h_bands` meets its contract.
-use Rattle.wavelet.specs.Level.{h-bands}
+use Rattle.wavelet.specs.Laws.Level.{h-bands}
 use borrow.Author.Needs.{needs}
 use Rattle.wavelet.proofs.plane.h_bands.Statement.{statement}
 use Rattle.wavelet.proofs.plane.h_bands.Tie as tie

@@ -2,8 +2,8 @@
 use mathlib.Core.Path.{sym, _∙_}
 use Prim.Native.Nat.{_+_, _*_, _-_, _/_, _≤_}
 use native.Mathlib.Nat.{mul-le-mul}
-use Rattle.wavelet.specs.Table.{stageOf}
-use Rattle.wavelet.specs.Columns.{ColumnsLifted, stage-none, column-runs, column-turn, stage-all}
+use Rattle.wavelet.specs.Code.Table.{stageOf}
+use Rattle.wavelet.specs.Laws.Columns.{ColumnsLifted, stage-none, column-runs, column-turn, stage-all}
 use native.Mathlib.Omega.{arith}
 use Rattle.wavelet.proofs.plane.lift_columns.Statement.{statement}
 use Rattle.wavelet.proofs.plane.lift_columns.Tie as tie

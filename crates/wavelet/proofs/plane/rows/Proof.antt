@@ -2,9 +2,9 @@
 use Prim.Native.Nat.{ℕ, _+_, _*_, _-_, _≤_}
 use lib.ListN.{length, drop}
 use Rattle.laws.specs.Plane.{asPlane}
-use Rattle.laws.specs.Window.{Parts, parts-first, length-lent}
-use Rattle.wavelet.specs.PlaneLaws.{bits-le}
-use Rattle.wavelet.specs.Level.{rowOf, rows-room, rows-copies, rows-turn, rows-all}
+use Rattle.laws.specs.Laws.Window.{Parts, parts-first, length-lent}
+use Rattle.wavelet.specs.Laws.Plane.{bits-le}
+use Rattle.wavelet.specs.Laws.Level.{rowOf, rows-room, rows-copies, rows-turn, rows-all}
 use native.Mathlib.Omega.{arith}
 use Rattle.wavelet.proofs.plane.rows.Statement.{statement}
 use Rattle.wavelet.proofs.plane.rows.Tie as tie

@@ -1,9 +1,9 @@
 -- `plane::vh_analysis` meets its contract.
 use Prim.Native.Nat.{_*_}
 use lib.ListN.{drop}
-use Rattle.laws.specs.Window.{piece}
+use Rattle.laws.specs.Code.Window.{piece}
 use Rattle.laws.specs.Plane.{asPlane}
-use Rattle.wavelet.specs.Level.{vh-level, rows-there}
+use Rattle.wavelet.specs.Laws.Level.{vh-level, rows-there}
 use borrow.Author.Needs.{needs}
 use Rattle.wavelet.proofs.plane.vh_analysis.Statement.{statement}
 use Rattle.wavelet.proofs.plane.vh_analysis.Tie as tie

@@ -1,6 +1,6 @@
 -- `plane::vh_bands` meets its contract.
 use mathlib.Core.Path.{sym}
-use Rattle.wavelet.specs.Level.{vh-plane, vh-bands, vh-bands-are}
+use Rattle.wavelet.specs.Laws.Level.{vh-plane, vh-bands, vh-bands-are}
 use borrow.Author.Needs.{needs}
 use Rattle.wavelet.proofs.plane.vh_bands.Statement.{statement}
 use Rattle.wavelet.proofs.plane.vh_bands.Tie as tie

@@ -5,7 +5,7 @@ use Prim.Native.Nat.{_-_, _≤_}
 use lib.IntN.{pos}
 use lib.ListN.{length, drop, length-set}
 use Rattle.laws.specs.Rows.{row}
-use Rattle.laws.specs.Chunks.{fill-turn, fill-all}
+use Rattle.laws.specs.Laws.Chunks.{fill-turn, fill-all}
 use Rattle.picture.specs.Laws.Analysis.{zeros-row}
 use native.Mathlib.Omega.{arith}
 use Rattle.picture.proofs.coder.analysis.clear.Statement.{statement}

@@ -1,5 +1,5 @@
 -- `coder::analysis::offset_of` meets its contract.
-use Rattle.unit.specs.Valid.{Between}
+use Rattle.unit.specs.Code.Valid.{Between}
 use Rattle.picture.specs.Laws.Analysis.{depth-of, offset-of}
 use native.Mathlib.Omega.{arith}
 use borrow.Author.Needs.{needs}

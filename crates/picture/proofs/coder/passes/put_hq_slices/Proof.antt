@@ -6,8 +6,8 @@ use Prim.Native.Nat.{_+_, _-_, _≤_, _<_}
 use native.Mathlib.Omega.{arith}
 use lib.IntN.{ℤ}
 use lib.ListN.{length, length-append}
-use Rattle.laws.specs.Chunks.{chunks-none, chunks-more}
-use Rattle.laws.specs.Laid.{Lays}
+use Rattle.laws.specs.Laws.Chunks.{chunks-none, chunks-more}
+use Rattle.laws.specs.Code.Laid.{Lays}
 use Rattle.codewords.specs.Bytes.{toBytes}
 use Rattle.picture.specs.Code.Picture.{slicesIn}
 use Rattle.picture.specs.Code.Choice.{planIn, highRuns, wordsIn, wordsTo, PlanIn}

@@ -1,6 +1,6 @@
 -- `picture::front::header::put_extension` meets its contract.
 use native.Mathlib.Omega.{arith}
-use Rattle.codewords.specs.WriterLaws.{wrote-none, wrote-then}
+use Rattle.codewords.specs.Laws.Writer.{wrote-none, wrote-then}
 use mathlib.Core.Bool.{not}
 use lib.Dec.{eqb}
 use Rattle.unit.specs.Parameters.{flagged}

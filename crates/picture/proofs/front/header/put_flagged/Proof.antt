@@ -1,6 +1,6 @@
 -- `picture::front::header::put_flagged` meets its contract.
 use native.Mathlib.Omega.{arith}
-use Rattle.codewords.specs.WriterLaws.{wrote-then, room-after}
+use Rattle.codewords.specs.Laws.Writer.{wrote-then, room-after}
 use Rattle.codewords.specs.Code.{codeU}
 use lib.ListN.{length}
 use Rattle.picture.specs.Laws.Head.{flagged-on, flagged-off, flagged-pos, room-less}

@@ -1,5 +1,5 @@
 -- `picture::front::header::put_front` meets its contract.
-use Rattle.codewords.specs.WriterLaws.{wrote-then}
+use Rattle.codewords.specs.Laws.Writer.{wrote-then}
 use Rattle.codewords.specs.Code.{codeU}
 use mathlib.Core.List.{_++_}
 use Rattle.picture.specs.Code.Head.{extensionOf, frontOf}

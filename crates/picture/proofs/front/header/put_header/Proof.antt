@@ -1,16 +1,15 @@
 -- `picture::front::header::put_header` meets its contract.
 use native.Mathlib.Omega.{arith}
-use Rattle.codewords.specs.WriterLaws.{wrote-then, room-after}
+use Rattle.codewords.specs.Laws.Writer.{wrote-then, room-after, start-sound}
 use mathlib.Core.Path.{_≡_, sym, ap, _∙_}
 use mathlib.Core.List.{_++_}
 use Prim.Native.Nat.{ℕ, _+_, _/_, _≤_}
 use lib.ListN.{length}
 use Rattle.codewords.specs.Bit.{Bits, lit}
-use Rattle.codewords.specs.BitLaws.{length-lit}
+use Rattle.codewords.specs.Laws.Bit.{length-lit}
 use Rattle.unit.specs.Parameters.{Parameters, parameterBits}
 use Rattle.unit.specs.Unit.{majorVersion, parametersBy}
 use Rattle.picture.specs.Code.Head.{sliceIn, infoOf}
-use Rattle.codewords.specs.WriterLaws.{start-sound}
 use Rattle.picture.specs.Laws.Head.{info-length, head-length, head-parts, parameters-bytes, start-room, align-room, head-end, head-bytes}
 use borrow.Author.Needs.{needs}
 use Rattle.picture.proofs.front.header.put_header.Statement.{statement}

@@ -1,6 +1,6 @@
 -- `picture::front::header::put_matrix` meets its contract.
 use native.Mathlib.Omega.{arith}
-use Rattle.codewords.specs.WriterLaws.{wrote-then, room-after}
+use Rattle.codewords.specs.Laws.Writer.{wrote-then, room-after}
 use lib.ListN.{length}
 use Rattle.unit.specs.Parameters.{codesU}
 use Rattle.unit.specs.Matrix.{carriedMatrix}

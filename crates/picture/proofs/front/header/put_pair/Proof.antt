@@ -1,5 +1,5 @@
 -- `picture::front::header::put_pair` meets its contract.
-use Rattle.codewords.specs.WriterLaws.{wrote-then}
+use Rattle.codewords.specs.Laws.Writer.{wrote-then}
 use Rattle.codewords.specs.Code.{codeU}
 use Rattle.picture.specs.Laws.Head.{room-first, room-rest}
 use borrow.Author.Needs.{needs}

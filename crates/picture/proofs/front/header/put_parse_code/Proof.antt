@@ -1,6 +1,6 @@
 -- `picture::front::header::put_parse_code` meets its contract.
 use native.Mathlib.Omega.{arith}
-use Rattle.codewords.specs.BitLaws.{length-lit}
+use Rattle.codewords.specs.Laws.Bit.{length-lit}
 use Rattle.unit.specs.Unit.{parseCode}
 use borrow.Author.Needs.{needs}
 use Rattle.picture.proofs.front.header.put_parse_code.Statement.{statement}

@@ -1,5 +1,5 @@
 -- `picture::front::header::put_values` meets its contract. The loop's invariant: the values before place i are written.
-use Rattle.codewords.specs.WriterLaws.{wrote-none, wrote-then, room-after}
+use Rattle.codewords.specs.Laws.Writer.{wrote-none, wrote-then, room-after}
 use Rattle.codewords.specs.Code.{codeU}
 use Prim.Native.Nat.{_-_, _≤_}
 use borrow.Author.Needs.{needs}

@@ -1,6 +1,6 @@
 -- `picture::front::header::put_word` meets its contract.
 use native.Mathlib.Omega.{arith}
-use Rattle.codewords.specs.BitLaws.{length-lit}
+use Rattle.codewords.specs.Laws.Bit.{length-lit}
 use borrow.Author.Needs.{needs}
 use Rattle.picture.proofs.front.header.put_word.Statement.{statement}
 use Rattle.picture.proofs.front.header.put_word.Tie as tie

@@ -1,5 +1,5 @@
 -- `picture::front::header::write_parse_info` meets its contract.
-use Rattle.codewords.specs.WriterLaws.{wrote-then}
+use Rattle.codewords.specs.Laws.Writer.{wrote-then}
 use mathlib.Core.List.{_++_}
 use Rattle.codewords.specs.Bit.{lit}
 use Rattle.unit.specs.Unit.{parseCode}

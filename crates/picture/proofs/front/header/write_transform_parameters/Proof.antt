@@ -1,5 +1,5 @@
 -- `picture::front::header::write_transform_parameters` meets its contract.
-use Rattle.codewords.specs.WriterLaws.{wrote-then}
+use Rattle.codewords.specs.Laws.Writer.{wrote-then}
 use mathlib.Core.List.{_++_}
 use Rattle.unit.specs.Parameters.{sliceParameterBits, matrixBits}
 use Rattle.unit.specs.Matrix.{carriedMatrix}

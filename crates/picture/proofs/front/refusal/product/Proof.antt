@@ -1,5 +1,5 @@
 -- `front::refusal::product` meets its contract.
-use Rattle.laws.specs.Machine.{product-fits}
+use Rattle.laws.specs.Laws.Machine.{product-fits}
 use native.Mathlib.Omega.{arith}
 use borrow.Author.Needs.{needs}
 use Rattle.picture.proofs.front.refusal.product.Statement.{statement}

@@ -3,7 +3,7 @@ use native.Mathlib.Omega.{arith}
 use Prim.Native.Nat.{_+_}
 use mathlib.Core.Path.{refl}
 use Rattle.unit.specs.Subbands.{paddedSize}
-use Rattle.unit.specs.PaddedLaws.{rounded-few}
+use Rattle.unit.specs.Laws.Padded.{rounded-few}
 use borrow.Author.Needs.{needs}
 use Rattle.picture.proofs.front.sizes.padded_size.Statement.{statement}
 use Rattle.picture.proofs.front.sizes.padded_size.Tie as tie

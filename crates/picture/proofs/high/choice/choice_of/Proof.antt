@@ -1,7 +1,7 @@
 -- `high::choice::choice_of` meets its contract.
 use mathlib.Core.Path.{ap, _∙_}
 use Prim.Native.Nat.{ℕ}
-use Rattle.laws.specs.Laid.{laid}
+use Rattle.laws.specs.Code.Laid.{laid}
 use Rattle.picture.specs.Code.Picture.{numbersIn}
 use Rattle.picture.specs.Code.Choice.{choiceBy, sliceWords}
 use Rattle.picture.specs.Laws.HighIndex.{plan-slice}

@@ -8,7 +8,7 @@ use mir.Val.{toZ, ofZ}
 use mir.Facts.{toZ-ofZ}
 use native.Mathlib.Omega.{arith}
 use Rattle.laws.specs.Rows.{at}
-use Rattle.laws.specs.Machine.{fit}
+use Rattle.laws.specs.Laws.Machine.{fit}
 use Rattle.picture.specs.Code.Packed.{wordsAt}
 use Rattle.picture.specs.Code.Picture.{slicesIn}
 use Rattle.picture.specs.Code.Choice.{indexIn, choiceIn, wordsIn, FewBits}

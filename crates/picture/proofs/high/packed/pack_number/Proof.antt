@@ -6,7 +6,7 @@ use native.Mathlib.Omega.{arith}
 use lib.IntN.{ℤ}
 use lib.ListN.{length, set}
 use mir.Facts.{toZ-ofZ}
-use Rattle.laws.specs.Laid.{laid-one}
+use Rattle.laws.specs.Laws.Laid.{laid-one}
 use Rattle.codewords.specs.Code.{codeS}
 use Rattle.picture.specs.Code.Packed.{zerosWord}
 use borrow.Author.Needs.{needs}

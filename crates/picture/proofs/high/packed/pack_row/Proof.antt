@@ -2,7 +2,7 @@
 use mathlib.Core.Path.{_≡_, sym, ap, _∙_}
 use Prim.Native.Nat.{_-_, _≤_}
 use native.Mathlib.Omega.{arith}
-use Rattle.laws.specs.Chunks.{chunks}
+use Rattle.laws.specs.Code.Chunks.{chunks}
 use Rattle.picture.specs.Code.Strip.{Small, Inside}
 use Rattle.picture.specs.Laws.Strip.{places, row-chunks}
 use Rattle.picture.specs.Code.Packed.{Packs}

@@ -8,7 +8,7 @@ use mir.Syntax.{w64}
 use mir.Val.{toZ, ofZ}
 use mir.Facts.{toZ-ofZ}
 use borrow.Author.Needs.{needs}
-use Rattle.laws.specs.Machine.{fit}
+use Rattle.laws.specs.Laws.Machine.{fit}
 use Rattle.picture.specs.Code.Packed.{mark}
 use Rattle.picture.specs.Laws.Packed.{zeros-none, zeros-some, some-due, word-is}
 use Rattle.picture.proofs.high.packed.pack_zeros.Statement.{statement}

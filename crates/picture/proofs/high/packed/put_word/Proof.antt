@@ -6,7 +6,7 @@ use lib.IntN.{pos, _-ℤ_}
 use mir.Syntax.{w64}
 use mir.Val.{SFits, toZ, ofZ}
 use mir.Facts.{toZ-ofZ, toZ-pos}
-use Rattle.laws.specs.Integer.{up, parts}
+use Rattle.laws.specs.Laws.Integer.{up, parts}
 use Rattle.picture.specs.Code.Packed.{mark}
 use Rattle.picture.specs.Laws.PutWords.{over-mark, under-mark, less-mark, zeros-word, number-word, zeros-room}
 use borrow.Author.Needs.{needs}

@@ -1,7 +1,7 @@
 -- `picture::low::put::put_places` meets its contract. The loop's invariant: the places left of x are written.
 use mathlib.Core.Path.{_≡_, sym, ap, _∙_}
 use Prim.Native.Nat.{_+_, _-_, _≤_}
-use Rattle.laws.specs.Chunks.{chunks}
+use Rattle.laws.specs.Code.Chunks.{chunks}
 use Rattle.picture.specs.Code.Strip.{placeNumbers, rowNumbers, Inside}
 use Rattle.picture.specs.Laws.Strip.{places, row-chunks}
 use Rattle.picture.specs.Laws.Put.{puts-same, room-same, part-room, part-turn, parts-none}

@@ -1,7 +1,7 @@
 -- `picture::low::put::put_rows` meets its contract. The loop's invariant: the rows above y are written.
 use mathlib.Core.Path.{_≡_, sym, ap, _∙_}
 use Prim.Native.Nat.{_+_, _-_, _≤_}
-use Rattle.laws.specs.Chunks.{chunks}
+use Rattle.laws.specs.Code.Chunks.{chunks}
 use Rattle.picture.specs.Code.Strip.{stripNumbers}
 use Rattle.picture.specs.Laws.Strip.{rowAt, rows, rows-chunks}
 use Rattle.picture.specs.Laws.Put.{puts-same, room-same, part-room, part-turn, parts-none}

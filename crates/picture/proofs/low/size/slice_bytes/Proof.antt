@@ -1,7 +1,7 @@
 -- `low::size::slice_bytes` meets its contract.
 use Prim.Native.Nat.{_+_}
 use native.Mathlib.Omega.{arith}
-use Rattle.laws.specs.Machine.{product-fits}
+use Rattle.laws.specs.Laws.Machine.{product-fits}
 use Rattle.picture.specs.Laws.LowIndex.{bytes-rise, bytes-are}
 use borrow.Author.Needs.{needs}
 use Rattle.picture.proofs.low.size.slice_bytes.Statement.{statement}

@@ -2,7 +2,7 @@
 use lib.ListN.{take}
 use Rattle.codewords.specs.Bit.{Bits}
 use Rattle.codewords.specs.Code.{codes}
-use Rattle.codewords.specs.WriterLaws.{wrote-then}
+use Rattle.codewords.specs.Laws.Writer.{wrote-then}
 use Rattle.picture.specs.Laws.Head.{room-first, room-rest}
 use Rattle.picture.specs.Code.Low.{lumaIn, colourIn}
 use Rattle.picture.specs.Laws.Picture.{run-y, run-pair}

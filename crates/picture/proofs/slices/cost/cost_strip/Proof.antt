@@ -1,7 +1,7 @@
 -- `picture::slices::cost::cost_strip` meets its contract. The loop's invariant: the rows above y are added.
 use mathlib.Core.Path.{_≡_}
 use Prim.Native.Nat.{ℕ, _+_, _*_, _-_, _≤_}
-use Rattle.laws.specs.Chunks.{chunks}
+use Rattle.laws.specs.Code.Chunks.{chunks}
 use Rattle.picture.specs.Code.Cost.{add1, addAll}
 use Rattle.picture.specs.Laws.Strip.{rows, row-small, row-length, rows-chunks, chunks-small, chunks-length}
 use Rattle.picture.specs.Laws.Added.{added-chunks-none, added-turn, added-all}

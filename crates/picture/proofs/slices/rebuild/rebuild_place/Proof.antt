@@ -8,8 +8,7 @@ use borrow.Author.Needs.{sfits-of, needs}
 use mathlib.Core.List.{List, _++_}
 use lib.IntN.{ℤ}
 use lib.ListN.{set, take, drop}
-use Rattle.laws.specs.Window.{length-lent}
-use Rattle.laws.specs.Window.{set-lent}
+use Rattle.laws.specs.Laws.Window.{length-lent, set-lent}
 use Rattle.picture.specs.Laws.Strip.{place-lt}
 use native.Mathlib.Omega.{arith}
 use Rattle.picture.proofs.slices.rebuild.rebuild_place.Statement.{statement}

@@ -5,9 +5,9 @@ use mir.Syntax.{w64}
 use mir.Val.{toZ, ofZ}
 use mir.Facts.{toZ-ofZ}
 use borrow.Author.Needs.{sfits-of}
-use Rattle.laws.specs.Machine.{fit}
+use Rattle.laws.specs.Laws.Machine.{fit}
 use Rattle.quantiser.specs.Quant.{inverseBy}
-use Rattle.quantiser.specs.QuantLaws.{quantOffset-lt}
+use Rattle.quantiser.specs.Laws.Quant.{quantOffset-lt}
 use Rattle.picture.specs.Code.Strip.{valueIn}
 use Rattle.picture.specs.Laws.Strip.{numbered, value-reach}
 use native.Mathlib.Omega.{arith}

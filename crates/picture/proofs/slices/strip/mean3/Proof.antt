@@ -6,8 +6,8 @@ use mir.Val.{SFits}
 use mir.Facts.{toZ-ofZ}
 use lib.Signed.{quotZ, remZ}
 use lib.Dec.{lit<}
-use Rattle.laws.specs.Integer.{parts, abs-add, abs-sub}
-use Rattle.laws.specs.Machine.{fit, quot-law, floor3-neg, floor3-pos}
+use Rattle.laws.specs.Laws.Integer.{parts, abs-add, abs-sub}
+use Rattle.laws.specs.Laws.Machine.{fit, quot-law, floor3-neg, floor3-pos}
 use native.Mathlib.Omega.{arith}
 use Rattle.picture.proofs.slices.strip.mean3.Statement.{statement}
 use Rattle.picture.proofs.slices.strip.mean3.Tie as tie

@@ -7,8 +7,8 @@ use mir.Val.{SFits, toZ, ofZ}
 use mir.Facts.{toZ-ofZ}
 use borrow.Author.Needs.{needs, sfits-of}
 use Rattle.laws.specs.Rows.{at}
-use Rattle.laws.specs.Integer.{abs-sub}
-use Rattle.laws.specs.Machine.{fit}
+use Rattle.laws.specs.Laws.Integer.{abs-sub}
+use Rattle.laws.specs.Laws.Machine.{fit}
 use Rattle.picture.specs.Laws.Strip.{read}
 use native.Mathlib.Omega.{arith}
 use Rattle.picture.proofs.slices.strip.residual.Statement.{statement}

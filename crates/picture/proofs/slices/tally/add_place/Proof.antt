@@ -1,6 +1,6 @@
 -- `slices::tally::add_place` meets its contract.
 use Rattle.picture.specs.Code.Strip.{planeFrom}
-use Rattle.quantiser.specs.QuantLaws.{number-most}
+use Rattle.quantiser.specs.Laws.Quant.{number-most}
 use Rattle.picture.specs.Laws.Strip.{numbered}
 use Rattle.picture.specs.Laws.Added.{place-added}
 use Rattle.picture.specs.Code.Tally.{tally1}

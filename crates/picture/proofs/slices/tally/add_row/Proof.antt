@@ -1,7 +1,7 @@
 -- `slices::tally::add_row` meets its contract. The loop's invariant: the places left of x are added.
 use mathlib.Core.Path.{_≡_}
 use Prim.Native.Nat.{ℕ, _+_, _-_, _≤_}
-use Rattle.laws.specs.Chunks.{chunks}
+use Rattle.laws.specs.Code.Chunks.{chunks}
 use Rattle.picture.specs.Code.Strip.{Inside}
 use Rattle.picture.specs.Code.Tally.{tally1, tallyAll}
 use Rattle.picture.specs.Laws.Strip.{places, place-small, place-length, row-chunks, chunks-small, chunks-length}

@@ -5,7 +5,7 @@ use Prim.Native.Nat.{ℕ, _+_, _≤_}
 use native.Mathlib.Omega.{arith}
 use lib.IntN.{ℤ}
 use lib.ListN.{length}
-use Rattle.laws.specs.Laid.{Lays}
+use Rattle.laws.specs.Code.Laid.{Lays}
 use Rattle.codewords.specs.Bytes.{toBytes}
 use Rattle.unit.specs.HighQuality.{highBits}
 use Rattle.picture.specs.Code.Notes.{numbersAt, HeldSlice}

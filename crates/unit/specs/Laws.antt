@@ -1,0 +1,27 @@
+-- Laws, for proofs. No contract cites these files.
+pub mod Sound
+pub mod Parameter
+pub mod Unit
+pub mod Trim
+pub mod Elect
+pub mod Subband
+pub mod Slice
+pub mod Intlog2
+pub mod LowDelay
+pub mod Cut
+pub mod HighQuality
+pub mod Padded
+pub mod Test
+pub mod Matrix
+pub mod Valid
+pub mod Soundness
+pub mod Place
+pub mod Share
+pub mod Scan
+pub mod Rebuilt
+pub mod Near
+pub mod Synthesis
+pub mod Planned
+pub mod Drop
+pub mod Demand
+pub mod Depth

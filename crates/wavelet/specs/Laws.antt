@@ -1,0 +1,19 @@
+-- Laws, for proofs. No contract cites these files.
+pub mod RowCall
+pub mod Lifting
+pub mod Bound
+pub mod Plane
+pub mod Depth
+pub mod PlaneBound
+pub mod Bands
+pub mod PlaneLists
+pub mod Pad
+pub mod Product
+pub mod Table
+pub mod Run
+pub mod Copy
+pub mod Columns
+pub mod Level
+pub mod Walk
+pub mod Component
+pub mod Theorems
