@@ -8,7 +8,7 @@ ghost use lib.ListN.{length};
 ghost use Rattle.codewords.specs.Code.{codeU, codeS};
 ghost use Rattle.quantiser.specs.Quant.{quantFactor, quantOffset, forwardQuant, inverseQuant};
 ghost use Rattle.wavelet.specs.RowCall.{Analysed};
-ghost use Rattle.picture.specs.Encoded.{planes};
+ghost use Rattle.unit.specs.Three.{planes};
 ghost use Rattle.exports.specs.Calls.{Gives, Picture};
 
 // How many bits the unsigned code word of v has.

@@ -7,7 +7,8 @@ ghost use mathlib.Core.Bool.{true};
 ghost use Prim.Native.Nat.{_*_, _-_, _≤_};
 ghost use lib.ListN.{length, take, drop};
 ghost use Rattle.laws.specs.Code.Laid.{Lays};
-ghost use Rattle.picture.specs.Encoded.{planes, Encodes};
+ghost use Rattle.unit.specs.Three.{planes};
+ghost use Rattle.unit.specs.Encoded.{Encodes};
 ghost use Rattle.jobs.specs.Job.{inOrder, printed};
 ghost use Rattle.jobs.specs.Code.Steps.{endsOf, Called, printedBy};
 

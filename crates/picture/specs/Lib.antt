@@ -1,3 +1,2 @@
-pub mod Encoded
 pub mod Code
 pub mod Laws

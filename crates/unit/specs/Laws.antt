@@ -12,6 +12,7 @@ pub mod Cut
 pub mod HighQuality
 pub mod Padded
 pub mod Test
+pub mod Rules
 pub mod Matrix
 pub mod Valid
 pub mod Soundness

@@ -3,6 +3,7 @@ pub mod Sizes
 pub mod Subbands
 pub mod Slices
 pub mod Matrix
+pub mod Rules
 pub mod Refusal
 pub mod Parameters
 pub mod Predict
@@ -19,6 +20,7 @@ pub mod Outcome
 pub mod Words
 pub mod Reader
 pub mod Demand
+pub mod Encoded
 pub mod Examples
 pub mod DepthExamples
 pub mod CutExamples

@@ -1,8 +1,8 @@
 -- The outcome of a picture call: document 01, "Answers that turn a call away".
-use mathlib.Core.Bool.{Bool, true, false, _||_}
+use mathlib.Core.Bool.{_||_}
 use mathlib.Core.List.{List, [], _∷_, _++_}
-use Prim.Native.Nat.{ℕ}
-use lib.Dec.{eqb, ltb}
+use Prim.Native.Nat.{ℕ, zero, suc}
+use lib.Dec.{ltb}
 use lib.IntN.{ℤ, pos}
 use lib.ListN.{length, drop, replicate}
 use Rattle.unit.specs.declared.Settings.{Settings}
@@ -10,6 +10,7 @@ use Rattle.unit.specs.declared.Coded.{Coded}
 use Rattle.unit.specs.declared.Answer.{Answer}
 use Rattle.unit.specs.declared.Answer.the-variants.{Accepted, Refused}
 use Rattle.unit.specs.Three.{Three}
+use Rattle.unit.specs.Rules.{Rule, rule, first}
 use Rattle.unit.specs.Refusal.{refusalOf}
 use Rattle.unit.specs.Parameters.{SliceParameters, lowDelay, highQuality}
 use Rattle.unit.specs.Plan.{Plan}
@@ -50,25 +51,30 @@ pub record Outcome : Type 0 where
   pub output : List ℕ
   pub work : List ℤ
 
--- whether a unit of n bytes is longer than an output of len bytes, or than 4,294,967,295 bytes
-abbrev pub tooLong : ℕ → ℕ → Bool
-tooLong len n = ltb len n || ltb 4294967295 n
+-- the rules that are decided while coding, by the length n of the unit and len of the output: 14, the unit is longer
+-- than the output, or than 4,294,967,295 bytes
+abbrev pub codingRules : ℕ → ℕ → List Rule
+codingRules len n = rule 14 (ltb len n || ltb 4294967295 n) ∷ []
 
--- what coding leaves, by whether the unit is too long: 14 fills both slices with zeros; else the unit goes to the
--- output's start, the rest of it stays, and the work slice is filled with zeros
-abbrev pub codedIf : Settings → Plan → List ℕ → List ℤ → Bool → Outcome
-codedIf s a out work true = record { answer = Refused 14; output = replicate (length out) 0; work = replicate (length work) (pos 0) }
-codedIf s a out work false =
+-- the number of the first of them that is broken; 0 where none is
+abbrev pub codingRefusal : ℕ → ℕ → ℕ
+codingRefusal len n = first (codingRules len n)
+
+-- what coding leaves, by that number: a refusal fills both slices with zeros; else the unit goes to the output's start,
+-- the rest of it stays, and the work slice is filled with zeros
+abbrev pub codedIf : Settings → Plan → List ℕ → List ℤ → ℕ → Outcome
+codedIf s a out work zero =
     record { answer = Accepted (codedOf s a); output = unitOf s a ++ drop (lengthOf s a) out; work = replicate (length work) (pos 0) }
+codedIf s a out work (suc n) = record { answer = Refused (suc n); output = replicate (length out) 0; work = replicate (length work) (pos 0) }
 
 abbrev pub coded : Settings → Plan → List ℕ → List ℤ → Outcome
-coded s a out work = codedIf s a out work (tooLong (length out) (lengthOf s a))
+coded s a out work = codedIf s a out work (codingRefusal (length out) (lengthOf s a))
 
--- the outcome by whether no rule of 1 to 13 is broken: a refusal leaves both slices as they came
-abbrev pub outcomeIf : Settings → List ℕ → Three (List ℕ) → List ℕ → List ℤ → Bool → Outcome
-outcomeIf s m p out work true = coded s (planOf s m p) out work
-outcomeIf s m p out work false = record { answer = Refused (refusalOf s m p work); output = out; work = work }
+-- the outcome by the number of the first of rules 1 to 13 that is broken: a refusal leaves both slices as they came
+abbrev pub outcomeIf : Settings → List ℕ → Three (List ℕ) → List ℕ → List ℤ → ℕ → Outcome
+outcomeIf s m p out work zero = coded s (planOf s m p) out work
+outcomeIf s m p out work (suc n) = record { answer = Refused (suc n); output = out; work = work }
 
 -- the outcome of a call: settings, lent matrix, planes, and the output and work slices as they came
 unfoldable pub outcomeOf : Settings → List ℕ → Three (List ℕ) → List ℕ → List ℤ → Outcome
-outcomeOf s m p out work = outcomeIf s m p out work (eqb (refusalOf s m p work) 0)
+outcomeOf s m p out work = outcomeIf s m p out work (refusalOf s m p work)

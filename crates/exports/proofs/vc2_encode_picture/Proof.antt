@@ -3,7 +3,7 @@ use mathlib.Core.Path.{_≡_, sym, _∙_}
 use mathlib.Core.Bool.{true}
 use borrow.Author.Tests.{not-true, not-false}
 use Rattle.unit.specs.Words.{known}
-use Rattle.picture.specs.Encoded.{planes}
+use Rattle.unit.specs.Three.{planes}
 use Rattle.exports.specs.Laws.Calls.{picture-unknown, picture-accepted, picture-refused}
 use borrow.Author.Needs.{needs}
 use Rattle.exports.proofs.vc2_encode_picture.Statement.{statement}

@@ -3,10 +3,9 @@ use mathlib.Core.Path.{_≡_, refl, sym, ap, _∙_}
 use mathlib.Core.Logic.{_↔_}
 use mathlib.Core.Bool.{Bool, true, false, cond}
 use mathlib.Core.List.{List}
-use Prim.Native.Nat.{ℕ, _^_, _<_}
+use Prim.Native.Nat.{ℕ, zero, suc, _^_, _<_}
 use native.Mathlib.Omega.{arith}
-use borrow.Author.Tests.{eqb-false}
-use lib.Dec.{eqb, ltb}
+use lib.Dec.{ltb}
 use lib.IntN.{ℤ}
 use lib.ListN.{length, take}
 use lib.Signed.{mag}
@@ -27,10 +26,10 @@ use Rattle.unit.specs.Refusal.{refusalOf}
 use Rattle.unit.specs.Plan.{Plan}
 use Rattle.unit.specs.Unit.{planOf, lengthOf}
 use Rattle.unit.specs.Words.{known, settingsOf}
-use Rattle.unit.specs.Outcome.{Outcome, numberOf, tooLong, codedIf, outcomeIf, outcomeOf}
+use Rattle.unit.specs.Outcome.{Outcome, numberOf, codingRefusal, codedIf, outcomeIf, outcomeOf}
 use Rattle.unit.specs.Laws.Demand.{isAccepted}
 use Rattle.unit.specs.Demand.{Undropped, Demand3}
-use Rattle.picture.specs.Encoded.{Encodes}
+use Rattle.unit.specs.Encoded.{Encodes}
 use Rattle.exports.specs.Calls.{Gives, Values, valuesOf, Left, leftIf, leftOf, Picture}
 
 -- ---- the four quantiser calls, by the answer a of the call inside
@@ -70,17 +69,17 @@ module _ (s : Settings) (m : List ℕ) (p : Three (List ℕ)) (out : List ℕ) (
   a = planOf s m p
 
   -- coding that answers 0 is accepted
-  coded-zero : (b : Bool) → numberOf (codedIf s a out work b .answer) ≡ 0 → isAccepted (codedIf s a out work b .answer) ≡ true
-  coded-zero true e = absurd (omega (arith, e))
-  coded-zero false e = refl
+  coded-zero : (n : ℕ) → numberOf (codedIf s a out work n .answer) ≡ 0 → isAccepted (codedIf s a out work n .answer) ≡ true
+  coded-zero zero e = refl
+  coded-zero (suc n) e = absurd (omega (arith, e))
 
-  outcome-zero : (b : Bool) → eqb (refusalOf s m p work) 0 ≡ b → numberOf (outcomeIf s m p out work b .answer) ≡ 0 → isAccepted (outcomeIf s m p out work b .answer) ≡ true
-  outcome-zero true t e = coded-zero (tooLong (length out) (lengthOf s a)) e
-  outcome-zero false t e = absurd (eqb-false (refusalOf s m p work) 0 t e)
+  outcome-zero : (n : ℕ) → numberOf (outcomeIf s m p out work n .answer) ≡ 0 → isAccepted (outcomeIf s m p out work n .answer) ≡ true
+  outcome-zero zero e = coded-zero (codingRefusal (length out) (lengthOf s a)) e
+  outcome-zero (suc n) e = absurd (omega (arith, e))
 
   zero-accepted : numberOf (outcomeOf s m p out work .answer) ≡ 0 → isAccepted (outcomeOf s m p out work .answer) ≡ true
   unfolding outcomeOf
-  zero-accepted e = outcome-zero (eqb (refusalOf s m p work) 0) refl e
+  zero-accepted e = outcome-zero (refusalOf s m p work) e
 
   -- demand 3 and the count of an answer of number 0
   module _ (out′ : List ℕ) (work′ : List ℤ) (v : Values) where

@@ -2,24 +2,23 @@
 use mathlib.Core.Path.{_≡_, refl, sym, ap, ap₂, _∙_}
 use mathlib.Core.Bool.{Bool, true, false, _&&_}
 use mathlib.Core.List.{List, _++_, map, map-append, append-assoc}
-use Prim.Native.Nat.{ℕ, _+_, _*_, _-_, _%_, _≤_}
+use Prim.Native.Nat.{ℕ, zero, suc, _+_, _*_, _-_, _%_, _≤_}
 use native.Mathlib.Omega.{arith}
-use lib.Dec.{eqb, ltb}
 use lib.IntN.{ℤ}
 use lib.ListN.{length, take, drop, length-append, length-drop}
 use lib.Seq.{take-all, take-at, drop-at}
-use borrow.Author.Tests.{ltb-false, eq-eqb, ne-eqb}
+use borrow.Author.Tests.{eq-eqb, ne-eqb}
 use Rattle.laws.specs.Code.Laid.{Lays}
 use Rattle.unit.specs.declared.Settings.{Settings}
 use Rattle.unit.specs.declared.Answer.{Answer}
-use Rattle.unit.specs.Three.{Three}
+use Rattle.unit.specs.Three.{Three, planes}
 use Rattle.unit.specs.Plan.{Plan}
 use Rattle.unit.specs.Unit.{planOf, lengthOf}
 use Rattle.unit.specs.Refusal.{anyAbove, refusalOf}
-use Rattle.unit.specs.Laws.Test.{or-none}
 use Rattle.unit.specs.Words.{known, settingsOf}
-use Rattle.unit.specs.Outcome.{tells, lengthIn, codedOf, tooLong, codedIf, coded, Outcome, outcomeIf, outcomeOf}
-use Rattle.picture.specs.Encoded.{planes, Encodes}
+use Rattle.unit.specs.Outcome.{tells, lengthIn, codedOf, codingRefusal, codedIf, coded, Outcome, outcomeIf, outcomeOf}
+use Rattle.unit.specs.Laws.Demand.{not-long}
+use Rattle.unit.specs.Encoded.{Encodes}
 use Rattle.jobs.specs.declared.parse.Ends.{Ends}
 use Rattle.jobs.specs.Job.{wordsOf, contentOf, partsOf, inOrder, lineOf, bytesFrom, unitIn, textOf, jobText, outcomeIn, printed}
 use Rattle.jobs.specs.Code.Steps.{endsOf, Called, printedBy}
@@ -127,19 +126,19 @@ module _ (ws : List ℕ) (e : Ends) (ends : e ≡ endsOf ws) where
 -- an accepted unit fits the output
 coded-fits : (s : Settings) (a : Plan) (out : List ℕ) (work : List ℤ) → lengthIn (coded s a out work .answer) ≤ length out
 unfolding codedOf
-coded-fits s a out work = by (tooLong (length out) (lengthOf s a)) refl
+coded-fits s a out work = by (codingRefusal (length out) (lengthOf s a)) refl
   where
-    by : (b : Bool) → tooLong (length out) (lengthOf s a) ≡ b → lengthIn (codedIf s a out work b .answer) ≤ length out
-    by true h = omega arith
-    by false h = ltb-false (length out) (lengthOf s a) (or-none (ltb (length out) (lengthOf s a)) (ltb 4294967295 (lengthOf s a)) .0 h .0)
+    by : (n : ℕ) → codingRefusal (length out) (lengthOf s a) ≡ n → lengthIn (codedIf s a out work n .answer) ≤ length out
+    by zero h = not-long (length out) (lengthOf s a) h .0
+    by (suc n) h = omega arith
 
 pub unit-fits : (s : Settings) (m : List ℕ) (p : Three (List ℕ)) (out : List ℕ) (work : List ℤ) → lengthIn (outcomeOf s m p out work .answer) ≤ length out
 unfolding outcomeOf
-unit-fits s m p out work = by (eqb (refusalOf s m p work) 0)
+unit-fits s m p out work = by (refusalOf s m p work)
   where
-    by : (b : Bool) → lengthIn (outcomeIf s m p out work b .answer) ≤ length out
-    by true = coded-fits s (planOf s m p) out work
-    by false = omega arith
+    by : (n : ℕ) → lengthIn (outcomeIf s m p out work n .answer) ≤ length out
+    by zero = coded-fits s (planOf s m p) out work
+    by (suc n) = omega arith
 
 -- the room for its text
 pub answer-room : (ws out : List ℕ) (work : List ℤ) (out′ : List ℕ) (work′ : List ℤ) (r : Answer) (n : ℕ) → Called ws out work out′ work′ r → length out′ ≡ length out

@@ -35,7 +35,8 @@ use Rattle.unit.specs.Coefficients.{bandsOf, coefficientsOf}
 use Rattle.unit.specs.Plan.{SlicePlan, Plan}
 use Rattle.unit.specs.Unit.{majorVersion, gridOf, sliceRuns, headBits, lengthOf, unitOf}
 use Rattle.unit.specs.Laws.Unit.{length-unit}
-use Rattle.unit.specs.Outcome.{codedOf, tooLong}
+use Rattle.unit.specs.Outcome.{codedOf, codingRefusal}
+use Rattle.unit.specs.Laws.Demand.{not-long}
 use Rattle.unit.specs.Code.Valid.{MatrixFits, Valid, Sides}
 use Rattle.unit.specs.Laws.Valid.{luma-sides, colour-sides}
 use Rattle.unit.specs.Laws.Test.{or-none, at-most}
@@ -266,10 +267,6 @@ flatten-span f (suc n) =
     ∙ ap₂ _++_ (flatten-span f n) (ap (λ (k : ℕ). toBytes (f k .bits)) e)
 
 -- ---- a unit in the output
--- the unit fits
-pub not-long : (len n : ℕ) → tooLong len n ≡ false → (n ≤ len) × (n ≤ 4294967295)
-not-long len n e = let o = or-none (ltb len n) (ltb 4294967295 n) .0 e in (at-most len n .0 (o .0), at-most 4294967295 n .0 (o .1))
-
 module _ (s : Settings) (a : Plan) where
   abbrev runs : List ℕ
   runs = flatten (sliceRuns (a .slices))
@@ -318,14 +315,15 @@ module _ (s : Settings) (a : Plan) where
           l .is ∙ laid-is o at runs slices-room ∙ ap₂ (λ (u v : List ℕ). (u ++ runs) ++ v) t b
           ∙ ap (λ (u : List ℕ). u ++ drop (lengthOf s a) out) (sym unit-parts)
 
-    -- answer and output where the unit is too long, and where it is written
-    pub codes-refused : tooLong (length out) (lengthOf s a) ≡ true → Codes s a out out (Refused 14)
-    codes-refused e = record {
-      answer = ap (answerBy s a) (sym e);
-      output = ap (outputBy s a out) (sym e);
+    -- answer and output where coding refuses the unit, and where it is written
+    pub codes-refused : (n : ℕ) → n ≡ codingRefusal (length out) (lengthOf s a) → (n ≡ 0 → ⊥) → Codes s a out out (Refused n)
+    codes-refused zero e h = absurd (h refl)
+    codes-refused (suc n) e h = record {
+      answer = ap (answerBy s a) e;
+      output = ap (outputBy s a out) e;
     }
 
-    pub codes-written : (n at r : ℕ) (o o′ : List ℕ) (c : Coded) → tooLong (length out) (lengthOf s a) ≡ false → n ≡ lengthOf s a
+    pub codes-written : (n at r : ℕ) (o o′ : List ℕ) (c : Coded) → codingRefusal (length out) (lengthOf s a) ≡ 0 → n ≡ lengthOf s a
         → at ≡ 17 + parameterBytes (majorVersion s) (a .parameters) → o ≡ toBytes (headBits s n (a .parameters)) ++ drop at out
         → Lays o at (flatten (sliceRuns (a .slices))) o′ r → c ≡ codedOf s a → Codes s a out o′ (Accepted c)
     codes-written n at r o o′ c e en ea eo l ec = record {

@@ -1,11 +1,8 @@
 -- The picture call's outcome from what its parts leave.
 use mathlib.Core.Path.{_≡_, refl, sym, ap, ap₂, _∙_}
-use mathlib.Core.Bool.{Bool, true, false}
 use mathlib.Core.List.{List, [], _∷_, _++_, append-nil}
 use Prim.Native.Nat.{ℕ, zero, suc, _+_, _^_, _<_}
 use native.Mathlib.Numerals.{add-one}
-use borrow.Author.Tests.{eq-eqb, ne-eqb}
-use lib.Dec.{eqb}
 use lib.IntN.{ℤ, pos}
 use lib.ListN.{length, drop, set, replicate, getD, length-replicate}
 use lib.Seq.{set-at, drop-cons, append-snoc, drop-length}
@@ -13,14 +10,14 @@ use Rattle.unit.specs.declared.Settings.{Settings}
 use Rattle.unit.specs.declared.Answer.{Answer}
 use Rattle.unit.specs.declared.Answer.the-variants.{Refused}
 use Rattle.unit.specs.Three.{Three}
+use Rattle.unit.specs.Rules.{orElse}
 use Rattle.unit.specs.Refusal.{refusalOf}
 use Rattle.unit.specs.Plan.{Plan}
 use Rattle.unit.specs.Unit.{planOf, lengthOf}
-use Rattle.unit.specs.Cut.{cutCount}
-use Rattle.unit.specs.Outcome.{numberOf, tells, scalerIn, codedOf, Outcome, tooLong, codedIf, coded, outcomeIf, outcomeOf}
+use Rattle.unit.specs.Outcome.{numberOf, tells, codedOf, Outcome, codingRefusal, codedIf, coded, outcomeIf, outcomeOf}
 use Rattle.unit.specs.Laws.Planned.{Component, Y, C1, C2, pick}
 use Rattle.unit.specs.Laws.Demand.{Typed, accepted, accepted-uncut}
-use Rattle.picture.specs.Encoded.{Encodes}
+use Rattle.unit.specs.Encoded.{toldBy, Encodes}
 use Rattle.picture.specs.Code.Coded.{answerBy, outputBy, Codes, clearedBy}
 
 -- ---- zeros over a list
@@ -54,45 +51,35 @@ module _ (s : Settings) (m : List ℕ) (p : Three (List ℕ)) (out : List ℕ) (
   abbrev a : Plan
   a = planOf s m p
 
-  outcome-if : outcomeOf s m p out work ≡ outcomeIf s m p out work (eqb (refusalOf s m p work) 0)
+  outcome-if : outcomeOf s m p out work ≡ outcomeIf s m p out work (refusalOf s m p work)
   unfolding outcomeOf
   outcome-if = refl
 
-  -- the number of the outcome's answer and what it tells, by whether a rule of 1 to 13 is broken and whether the unit
-  -- is too long
-  number-by : (b t : Bool) → numberOf (elim b [ true ↦ codedIf s a out work t .answer | false ↦ Refused (refusalOf s m p work) ])
-      ≡ elim b [ true ↦ elim t [ true ↦ 14 | false ↦ 0 ] | false ↦ refusalOf s m p work ]
-  number-by true true = refl
-  number-by true false = refl
-  number-by false t = refl
+  -- the number of the outcome's answer and what it tells, by the number n of the rules before coding and c of coding's
+  number-if : (c : ℕ) → numberOf (codedIf s a out work c .answer) ≡ c
+  number-if zero = refl
+  number-if (suc c) = refl
 
-  told-by : (b t : Bool) → eqb (refusalOf s m p work) 0 ≡ b → tells (elim b [ true ↦ codedIf s a out work t .answer | false ↦ Refused (refusalOf s m p work) ])
-      ≡ (let n : ℕ = elim b [ true ↦ elim t [ true ↦ 14 | false ↦ 0 ] | false ↦ refusalOf s m p work ] in
-      n ∷ elim (eqb n 0) [
-        | true ↦ lengthOf s a ∷ cutCount a ∷ scalerIn (a .parameters .sliceParameters) (s .«slice_size_scaler») ∷ []
-        | false ↦ []
-      ])
+  number-by : (n : ℕ) → numberOf (outcomeIf s m p out work n .answer) ≡ orElse n (codingRefusal (length out) (lengthOf s a))
+  number-by zero = number-if (codingRefusal (length out) (lengthOf s a))
+  number-by (suc n) = refl
+
+  told-if : (c : ℕ) → tells (codedIf s a out work c .answer) ≡ toldBy s a c
   unfolding codedOf
-  told-by true true e = refl
-  told-by true false e = refl
-  told-by false t e = rw e refl
+  told-if zero = refl
+  told-if (suc c) = refl
 
-  -- the outcome's answer by the two
-  answer-if : outcomeOf s m p out work .answer
-      ≡ elim (eqb (refusalOf s m p work) 0) [ true ↦ codedIf s a out work (tooLong (length out) (lengthOf s a)) .answer | false ↦ Refused (refusalOf s m p work) ]
-  answer-if = ap (λ (o : Outcome). o .answer) outcome-if ∙ by (eqb (refusalOf s m p work) 0)
-    where
-      by : (b : Bool) → outcomeIf s m p out work b .answer ≡ elim b [ true ↦ codedIf s a out work (tooLong (length out) (lengthOf s a)) .answer | false ↦ Refused (refusalOf s m p work) ]
-      by true = refl
-      by false = refl
+  told-by : (n : ℕ) → tells (outcomeIf s m p out work n .answer) ≡ toldBy s a (orElse n (codingRefusal (length out) (lengthOf s a)))
+  told-by zero = told-if (codingRefusal (length out) (lengthOf s a))
+  told-by (suc n) = refl
 
   -- answer, output and work slice are the outcome's
   encodes : (out′ : List ℕ) (work′ : List ℤ) (r : Answer) → Typed s p → r ≡ outcomeOf s m p out work .answer → out′ ≡ outcomeOf s m p out work .output
       → work′ ≡ outcomeOf s m p out work .work → Encodes s m p out work out′ work′ r
   encodes out′ work′ r t e o w = record {
     answer = e;
-    number = ap numberOf (e ∙ answer-if) ∙ number-by (eqb (refusalOf s m p work) 0) (tooLong (length out) (lengthOf s a));
-    told = ap tells (e ∙ answer-if) ∙ told-by (eqb (refusalOf s m p work) 0) (tooLong (length out) (lengthOf s a)) refl;
+    number = ap numberOf (e ∙ ap (λ (o : Outcome). o .answer) outcome-if) ∙ number-by (refusalOf s m p work);
+    told = ap tells (e ∙ ap (λ (o : Outcome). o .answer) outcome-if) ∙ told-by (refusalOf s m p work);
     output = o;
     work-left = w;
     demand = λ c f. rw o (accepted s m p out work t c (sym e ∙ f));
@@ -100,30 +87,31 @@ module _ (s : Settings) (m : List ℕ) (p : Three (List ℕ)) (out : List ℕ) (
   }
 
   pub encodes-refused : (n : ℕ) → Typed s p → n ≡ refusalOf s m p work → (n ≡ 0 → ⊥) → Encodes s m p out work out work (Refused n)
-  encodes-refused n t e ne =
-      let f = outcome-if ∙ ap (outcomeIf s m p out work) (ne-eqb (refusalOf s m p work) 0 (λ z. ne (e ∙ z))) in
-      encodes out work (Refused n) t (ap Refused e ∙ sym (ap (λ (o : Outcome). o .answer) f)) (sym (ap (λ (o : Outcome). o .output) f)) (sym (ap (λ (o : Outcome). o .work) f))
+  encodes-refused zero t e ne = absurd (ne refl)
+  encodes-refused (suc n) t e ne =
+      let f = outcome-if ∙ ap (outcomeIf s m p out work) (sym e) in
+      encodes out work (Refused (suc n)) t (sym (ap (λ (o : Outcome). o .answer) f)) (sym (ap (λ (o : Outcome). o .output) f)) (sym (ap (λ (o : Outcome). o .work) f))
 
   -- the outcome of a call that no rule of 1 to 13 refuses
   coded-outcome : refusalOf s m p work ≡ 0 → outcomeOf s m p out work ≡ coded s (planOf s m p) out work
-  coded-outcome e = outcome-if ∙ ap (outcomeIf s m p out work) (eq-eqb (refusalOf s m p work) 0 e)
+  coded-outcome e = outcome-if ∙ ap (outcomeIf s m p out work) e
 
-  answer-by : (b : Bool) → answerBy s a b ≡ codedIf s a out work b .answer
-  answer-by true = refl
-  answer-by false = refl
+  answer-by : (c : ℕ) → answerBy s a c ≡ codedIf s a out work c .answer
+  answer-by zero = refl
+  answer-by (suc c) = refl
 
-  cleared-by : (b : Bool) → clearedBy (answerBy s a b) (outputBy s a out b) ≡ codedIf s a out work b .output
-  cleared-by true = refl
-  cleared-by false = refl
+  cleared-by : (c : ℕ) → clearedBy (answerBy s a c) (outputBy s a out c) ≡ codedIf s a out work c .output
+  cleared-by zero = refl
+  cleared-by (suc c) = refl
 
-  work-by : (b : Bool) → replicate (length work) (pos 0) ≡ codedIf s a out work b .work
-  work-by true = refl
-  work-by false = refl
+  work-by : (c : ℕ) → replicate (length work) (pos 0) ≡ codedIf s a out work c .work
+  work-by zero = refl
+  work-by (suc c) = refl
 
   pub encodes-coded : (o out′ : List ℕ) (w work′ : List ℤ) (r : Answer) → Typed s p → refusalOf s m p work ≡ 0 → Codes s (planOf s m p) out o r
       → length w ≡ length work → work′ ≡ replicate (length w) (pos 0) → out′ ≡ clearedBy r o → Encodes s m p out work out′ work′ r
   encodes-coded o out′ w work′ r t e c lw ew eo =
-      let b : Bool = tooLong (length out) (lengthOf s a) in
+      let b : ℕ = codingRefusal (length out) (lengthOf s a) in
       let f = coded-outcome e in
       encodes out′ work′ r t
       (c .answer ∙ answer-by b ∙ sym (ap (λ (o : Outcome). o .answer) f))

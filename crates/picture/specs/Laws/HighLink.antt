@@ -32,7 +32,8 @@ use Rattle.unit.specs.Laws.HighQuality.{needs-most}
 use Rattle.unit.specs.Unit.{majorVersion, gridOf, highParameters, highBytes, highSlicesOf, scalerOf, planOf, sliceRuns, headBits, lengthOf}
 use Rattle.unit.specs.Unit as unit
 use Rattle.unit.specs.Cut.{cutCount}
-use Rattle.unit.specs.Outcome.{codedOf, tooLong}
+use Rattle.unit.specs.Outcome.{codedOf, codingRefusal}
+use Rattle.unit.specs.Laws.Demand.{not-long}
 use Rattle.unit.specs.Laws.Drop.{Whole, all-high, whole-count}
 use Rattle.unit.specs.Code.Valid.{RateFits}
 use Rattle.unit.specs.Laws.Valid.{target-few}
@@ -49,7 +50,7 @@ use Rattle.picture.specs.Code.Passes.{HighIn, Settles}
 use Rattle.picture.specs.Code.Notes.{Notes}
 use Rattle.picture.specs.Laws.Noted.{high-work, notes-plan, notes-own, runs-alike}
 use Rattle.picture.specs.Code.Coded.{Codes, Coding, CodesAny}
-use Rattle.picture.specs.Laws.Analysed.{called-arranged, grid-is, slices-are, values-in, bands-y, bands-c1, bands-c2, small-by, holds-y, holds-c1, holds-c2, flatten-span, length-parts, not-long, slices-room, codes-refused, codes-written}
+use Rattle.picture.specs.Laws.Analysed.{called-arranged, grid-is, slices-are, values-in, bands-y, bands-c1, bands-c2, small-by, holds-y, holds-c1, holds-c2, flatten-span, length-parts, slices-room, codes-refused, codes-written}
 
 -- ---- a slice's index and plan
 index-by : (g : Grid) (v : List ℕ) (b : Three (List Band)) (x : ℕ) (r : RateControl) (c n k : ℕ)
@@ -168,21 +169,21 @@ module _ {w : List ℤ} {p : Picture} {s : Settings} {m : List ℕ} (k : Coding 
         (ap (λ (p : Picture). codePlan w p s m (r .scaler)) (k .picture) ∙ plan-is s m q w (k .called) a (k .same) r z′) h;
   }
 
-  test-is : (b : Bool) → tooLong (length out) (r .end) ≡ b → tooLong (length out) (lengthOf s (codePlan w p s m (r .scaler))) ≡ b
-  test-is b e = ap (tooLong (length out)) (sym (length-is w p s m r z)) ∙ e
+  refusal-is : codingRefusal (length out) (r .end) ≡ codingRefusal (length out) (lengthOf s (codePlan w p s m (r .scaler)))
+  refusal-is = ap (codingRefusal (length out)) (length-is w p s m r z)
 
-  pub high-refused : tooLong (length out) (r .end) ≡ true → CodesAny s m w out out (Refused 14)
-  high-refused e = any-plan out (codes-refused s (codePlan w p s m (r .scaler)) out (test-is true e))
+  pub high-refused : (n : ℕ) → n ≡ codingRefusal (length out) (r .end) → (n ≡ 0 → ⊥) → CodesAny s m w out out (Refused n)
+  high-refused n e h = any-plan out (codes-refused s (codePlan w p s m (r .scaler)) out n (e ∙ refusal-is) h)
 
   -- n is the length as the answer has it
-  pub high-written : tooLong (length out) (r .end) ≡ false → (t : Terms) (n at end cut : ℕ) (o o′ : List ℕ) → t ≡ termsOf s m (r .scaler) → n ≡ r .end
+  pub high-written : codingRefusal (length out) (r .end) ≡ 0 → (t : Terms) (n at end cut : ℕ) (o o′ : List ℕ) → t ≡ termsOf s m (r .scaler) → n ≡ r .end
       → at ≡ 17 + parameterBytes (majorVersion s) (highParameters s m (r .scaler)) → o ≡ toBytes (headBits s n (highParameters s m (r .scaler))) ++ drop at out
       → Lays o at (highRuns w p t (slicesIn p)) o′ end → cut ≡ 0
       → CodesAny s m w out o′ (Accepted (record { written = n; «cut_slices» = cut; «slice_size_scaler» = r .scaler }))
   high-written e t n at end cut o o′ et en ea eo l ec =
       let c = r .scaler in
       let f : n ≡ lengthOf s (codePlan w p s m c) = en ∙ length-is w p s m r z in
-      any-plan o′ (codes-written s (codePlan w p s m c) out n at end o o′ (record { written = n; «cut_slices» = cut; «slice_size_scaler» = c }) (test-is false e) f ea eo
+      any-plan o′ (codes-written s (codePlan w p s m c) out n at end o o′ (record { written = n; «cut_slices» = cut; «slice_size_scaler» = c }) (sym refusal-is ∙ e) f ea eo
       (subst (λ (b : List ℕ). Lays o at b o′ end) (ap (λ (t : Terms). highRuns w p t (slicesIn p)) et ∙ runs-are w p s m c) l) (coded-is w p s m c n cut f ec))
 
 -- ---- what the calls ask
@@ -219,9 +220,9 @@ module _ {w : List ℤ} {p : Picture} {s : Settings} {m : List ℕ} (k : Coding 
     }
 
     -- where the unit is not too long
-    module _ (out : List ℕ) (e : tooLong (length out) (r .end) ≡ false) where
+    module _ (out : List ℕ) (e : codingRefusal (length out) (r .end) ≡ 0) where
       pub end-fits : (r .end ≤ length out) × (r .end ≤ 4294967295)
-      end-fits = rw (length-is w p s m r z) (not-long (length out) (lengthOf s (codePlan w p s m (r .scaler))) (test-is k z out false e))
+      end-fits = rw (length-is w p s m r z) (not-long (length out) (lengthOf s (codePlan w p s m (r .scaler))) (sym (refusal-is k z out) ∙ e))
 
       pub head-room : 17 + parameterBytes (majorVersion s) (highParameters s m (r .scaler)) ≤ length out
       head-room = omega (arith, end-fits .0, z .end)

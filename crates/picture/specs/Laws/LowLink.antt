@@ -40,7 +40,7 @@ use Rattle.unit.specs.Code.Valid.{RateFits}
 use Rattle.unit.specs.Laws.Valid.{target-few}
 use Rattle.unit.specs.Unit.{majorVersion, gridOf, parametersBy, targetOf, lowParameters, numeratorOf, planBy, planOf, sliceRuns, headBits, lengthOf}
 use Rattle.unit.specs.Cut.{cutOf, cutCount}
-use Rattle.unit.specs.Outcome.{scalerIn, codedOf, tooLong}
+use Rattle.unit.specs.Outcome.{scalerIn, codedOf, codingRefusal}
 use Rattle.unit.specs.Laws.LowDelay.{numerator-least, bytes-all, low-bytes}
 use Rattle.unit.specs.Laws.Soundness.{length-is}
 use Rattle.unit.specs.Laws.Drop.{cut-unfit, alike-of}
@@ -406,25 +406,25 @@ module _ {s : Settings} {m : List ℕ} {p : Picture} {w : List ℤ} {n d l : ℕ
       h .long ∙ ap₂ (λ (t : Parameters) (n : ℕ). 17 + parameterBytes (majorVersion s) t + n) same-parameters (h .numerator)
       ∙ sym (length-low (h .coding .called) (h .coding .same) pl)
 
-  same-test : (out : List ℕ) (t : Bool) (pl : Three (List ℕ)) → tooLong (length out) l ≡ t → tooLong (length out) (lengthOf s (planOf s m pl)) ≡ t
-  same-test out t pl e = ap (tooLong (length out)) (sym (same-length pl)) ∙ e
+  same-refusal : (out : List ℕ) (pl : Three (List ℕ)) → codingRefusal (length out) l ≡ codingRefusal (length out) (lengthOf s (planOf s m pl))
+  same-refusal out pl = ap (codingRefusal (length out)) (same-length pl)
 
   -- the slices can be coded
   pub low-ready : LowIn p n w
   low-ready = rw (h .coding .picture, h .numerator) (low-in (h .coding .called) (h .coding .same) w (h .coding .small))
 
-  -- the unit is too long
-  pub low-refused : (out : List ℕ) → tooLong (length out) l ≡ true → CodesAny s m w out out (Refused 14)
-  low-refused out e = record { codes = λ pl an. codes-refused s (planOf s m pl) out (same-test out true pl e) }
+  -- coding refuses the unit
+  pub low-refused : (out : List ℕ) (r : ℕ) → r ≡ codingRefusal (length out) l → (r ≡ 0 → ⊥) → CodesAny s m w out out (Refused r)
+  low-refused out r e h = record { codes = λ pl an. codes-refused s (planOf s m pl) out r (e ∙ same-refusal out pl) h }
 
   -- the head at the output's start, and the slices behind it
-  pub low-written : (out o o′ : List ℕ) (at r c : ℕ) → tooLong (length out) l ≡ false → at ≡ 17 + parameterBytes (majorVersion s) (parametersBy s m (lowDelay n d))
+  pub low-written : (out o o′ : List ℕ) (at r c : ℕ) → codingRefusal (length out) l ≡ 0 → at ≡ 17 + parameterBytes (majorVersion s) (parametersBy s m (lowDelay n d))
       → o ≡ toBytes (headBits s l (parametersBy s m (lowDelay n d))) ++ drop at out → Lays o at (lowRuns p n w (slicesIn p)) o′ r → c ≡ cutsIn p n w (slicesIn p)
       → CodesAny s m w out o′ (Accepted (record { written = l; «cut_slices» = c; «slice_size_scaler» = s .«slice_size_scaler» }))
   low-written out o o′ at r c e ea eo lays ec = record {
     codes = λ pl an.
         let et = same-parameters ∙ parameters-are called low pl in
-        codes-written s (planOf s m pl) out l at r o o′ (codedBy l c (s .«slice_size_scaler»)) (same-test out false pl e) (same-length pl)
+        codes-written s (planOf s m pl) out l at r o o′ (codedBy l c (s .«slice_size_scaler»)) (sym (same-refusal out pl) ∙ e) (same-length pl)
         (ea ∙ ap (λ (t : Parameters). 17 + parameterBytes (majorVersion s) t) et)
         (eo ∙ ap (λ (t : Parameters). toBytes (headBits s l t) ++ drop at out) et)
         (subst (λ (v : List ℕ). Lays o at v o′ r)

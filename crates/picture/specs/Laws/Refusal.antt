@@ -1,8 +1,8 @@
--- Laws of the refusals: a loop that looks for a value that is too large, and the first rule that is broken.
-use mathlib.Core.Path.{_≡_, refl}
-use mathlib.Core.Bool.{Bool, true, false}
-use mathlib.Core.List.{List, _∷_}
-use Prim.Native.Nat.{ℕ, suc, _+_, _≤_, _<_}
+-- Laws of the refusals: a loop that looks for a value that is too large, and the groups of rules one after the other.
+use mathlib.Core.Path.{_≡_, refl, sym, ap, _∙_}
+use mathlib.Core.Bool.{true, false}
+use mathlib.Core.List.{List, _++_}
+use Prim.Native.Nat.{ℕ, _+_, _≤_, _<_}
 use native.Mathlib.Numerals.{add-one}
 use lib.Dec.{ltb}
 use lib.IntN.{ℤ}
@@ -13,7 +13,9 @@ use Rattle.wavelet.specs.Depth.{depthLimit}
 use Rattle.wavelet.specs.Laws.Depth.{few-levels}
 use Rattle.unit.specs.declared.Settings.{Settings}
 use Rattle.unit.specs.Three.{Three}
-use Rattle.unit.specs.Refusal.{outside, anyAbove, broken, firstFrom}
+use Rattle.unit.specs.Rules.{first, orElse}
+use Rattle.unit.specs.Refusal.{outside, anyAbove, shapeRules, rateRules, frameRules, matrixRules, memoryRules, refusalOf}
+use Rattle.unit.specs.Laws.Rules.{first-append, none-of}
 use Rattle.unit.specs.Laws.Test.{or-none, at-most, between}
 use Rattle.picture.specs.Code.Sides.{Measured}
 
@@ -28,27 +30,41 @@ module _ (most : ℕ) (vs : List ℕ) (i : ℕ) where
   pub above-none : length vs ≤ i → false ≡ anyAbove most (drop i vs)
   above-none h = rw (drop-of-length-le vs {i = i} h) refl
 
--- ---- the first n rules are kept
-abbrev pub Passed : ℕ → List Bool → Type 0
-Passed n rules = firstFrom (suc n) (drop n rules) ≡ firstFrom 1 rules
-
--- the next rule is b, with the rules bs behind it, and r is what the code finds for it
-module _ (n : ℕ) (bs : List Bool) {b r : Bool} (e : r ≡ b) where
-  pub stops : r ≡ true → suc n ≡ firstFrom (suc n) (b ∷ bs)
-  stops t = rw (← e, t) refl
-
-  pub goes-on : r ≡ false → firstFrom (suc (suc n)) bs ≡ firstFrom (suc n) (b ∷ bs)
-  goes-on f = rw (← e, f) refl
-
--- rules 2 and 8 bound the depths and the frame
-pub measured : (s : Settings) (m : List ℕ) (p : Three (List ℕ)) (work : List ℤ) → getD (broken s m p work) 1 false ≡ false → getD (broken s m p work) 7 false ≡ false → Measured s
-measured s m p work d f =
-    let a = or-none (ltb 2 (s .«color_diff_format»)) _ .0 f in
+-- ---- what rules 11 and 13 rest on: rules 2 and 8 bound the depths and the frame
+pub measured : (s : Settings) → first (shapeRules s) ≡ 0 → first (frameRules s) ≡ 0 → Measured s
+measured s d f =
+    let shape = none-of (shapeRules s) (tt, (tt, (tt, (tt, tt)))) .0 d in
+    let frame = none-of (frameRules s) (tt, tt) .0 f in
+    let a = or-none (ltb 2 (s .«color_diff_format»)) _ .0 (frame .0) in
     let b = or-none (ltb 1 (s .«picture_coding_mode»)) _ .0 (a .1) in
     let w = or-none (outside 65535 (s .«frame_width»)) _ .0 (b .1) in
     let h = or-none (outside 65535 (s .«frame_height»)) _ .0 (w .1) in
+    let limit = depthLimit (s .«wavelet_index_ho») (s .«wavelet_index») in
     record {
-      depths = few-levels (s .«wavelet_index_ho») (s .«wavelet_index») (at-most (depthLimit (s .«wavelet_index_ho») (s .«wavelet_index»)) (s .«dwt_depth» + s .«dwt_depth_ho») .0 d);
+      depths = few-levels (s .«wavelet_index_ho») (s .«wavelet_index») (at-most limit (s .«dwt_depth» + s .«dwt_depth_ho») .0 (shape .1 .0));
       width = between 65535 (s .«frame_width») .0 (w .0) .few;
       height = between 65535 (s .«frame_height») .0 (h .0) .few;
     }
+
+-- ---- the groups, one after the other
+module _ (s : Settings) (m : List ℕ) (p : Three (List ℕ)) (work : List ℤ) where
+  -- the first broken rule from a group on
+  abbrev pub fromMatrix : ℕ
+  fromMatrix = orElse (first (matrixRules s m)) (first (memoryRules s p work))
+
+  abbrev pub fromFrame : ℕ
+  fromFrame = orElse (first (frameRules s)) fromMatrix
+
+  abbrev pub fromRate : ℕ
+  fromRate = orElse (first (rateRules (s .kind) (s .rate))) fromFrame
+
+  pub by-groups : orElse (first (shapeRules s)) fromRate ≡ refusalOf s m p work
+  unfolding refusalOf
+  by-groups =
+      let lent = first-append (matrixRules s m) (memoryRules s p work) (tt, (tt, tt)) in
+      let framed = first-append (frameRules s) (matrixRules s m ++ memoryRules s p work) (tt, tt) ∙ ap (orElse (first (frameRules s))) lent in
+      let rated =
+      first-append (rateRules (s .kind) (s .rate)) (frameRules s ++ (matrixRules s m ++ memoryRules s p work)) (tt, (tt, (tt, tt)))
+      ∙ ap (orElse (first (rateRules (s .kind) (s .rate)))) framed in
+      sym (first-append (shapeRules s) (rateRules (s .kind) (s .rate) ++ (frameRules s ++ (matrixRules s m ++ memoryRules s p work))) (tt, (tt, (tt, (tt, tt))))
+      ∙ ap (orElse (first (shapeRules s))) rated)

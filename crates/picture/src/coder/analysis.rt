@@ -12,7 +12,7 @@ ghost use lib.IntN.{pos};
 ghost use lib.ListN.{length, replicate};
 ghost use Rattle.unit.specs.Sizes.{area, offsetOf, intlog2};
 ghost use Rattle.picture.specs.Code.Sides.{sizeIn};
-ghost use Rattle.picture.specs.Encoded.{planes};
+ghost use Rattle.unit.specs.Three.{planes};
 ghost use Rattle.picture.specs.Code.Analysed.{isLow, layoutOf, pictureOf, Called, Ready, Analysed};
 
 // Whether level 0 is predicted.

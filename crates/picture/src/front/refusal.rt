@@ -1,4 +1,4 @@
-// Which of refusals 1 to 13 turns a call away: document 01, "Answers that turn a call away"; document 02, (iii).
+// Which rule turns a call away: document 01, "Answers that turn a call away"; document 02, (iii).
 use crate::front::sizes::Sides;
 use crate::front::sizes::colour_size;
 use crate::front::sizes::luma_size;
@@ -17,11 +17,14 @@ ghost use Rattle.wavelet.specs.Depth.{tooDeep};
 ghost use Rattle.unit.specs.Sizes.{area, lumaSize, colourSize};
 ghost use Rattle.unit.specs.Subbands.{subbandCount};
 ghost use Rattle.unit.specs.Matrix.{defaultOf};
-ghost use Rattle.unit.specs.Refusal.{outside, noTarget, badIndex, badTarget, anyAbove, isNone, paddedArea, workNeeded, refusalOf};
+ghost use Rattle.unit.specs.Rules.{first};
+ghost use Rattle.unit.specs.Refusal.{outside, noTarget, badIndex, badTarget, anyAbove, isNone, paddedArea, workNeeded, shapeRules, rateRules, frameRules, matrixRules, memoryRules, refusalOf};
+ghost use Rattle.unit.specs.Outcome.{codingRefusal};
 ghost use Rattle.picture.specs.Code.Sides.{sizeIn, Measured, Within};
-ghost use Rattle.picture.specs.Encoded.{planes};
+ghost use Rattle.unit.specs.Three.{planes};
 
-// The number of the first rule that is broken, 0 where none is. Each rule is a function below.
+// The number of the first rule of 1 to 13 that is broken, 0 where none is. The rules stand in groups, and each is a
+// function below. A new rule goes into its group, here and in `unit`'s Refusal.
 pub(crate) fn refusal(
     s: Settings,
     matrix: &[u32],
@@ -31,6 +34,43 @@ pub(crate) fn refusal(
     work: &[i64],
 ) -> u32
     ensures { λ r. ⌜ r ≡ refusalOf s (now (matrix .entry)) (planes (now (y .entry)) (now (c1 .entry)) (now (c2 .entry))) (now (work .entry)) ⌝ }
+{
+    let shape = shape_refusal(s);
+    if shape != 0 {
+        return shape;
+    }
+    let kind = s.kind;
+    let rate = s.rate;
+    let rates = rate_refusal(kind, rate);
+    if rates != 0 {
+        return rates;
+    }
+    let frame = frame_refusal(s);
+    if frame != 0 {
+        return frame;
+    }
+    let values = matrix_refusal(s, matrix);
+    if values != 0 {
+        return values;
+    }
+    memory_refusal(s, y, c1, c2, work)
+}
+
+// The number of the first rule that is decided while coding, and is broken by a unit of n bytes for an output of len
+// bytes, 0 where none is: 14, the unit is longer than the output, or than 4,294,967,295 bytes.
+pub(crate) fn coding_refusal(len: usize, n: u64) -> u32
+    ensures { λ r. ⌜ r ≡ codingRefusal len n ⌝ }
+{
+    if ((len as u64) < n) | (n > 4294967295) {
+        14
+    } else {
+        0
+    }
+}
+
+// Wavelets, depths and slices: rules 1 to 4.
+fn shape_refusal(s: Settings) -> u32
+    ensures { λ r. ⌜ r ≡ first (shapeRules s) ⌝ }
 {
     if bad_wavelets(s) {
         return 1;
@@ -44,8 +84,13 @@ pub(crate) fn refusal(
     if bad_sizes(s) {
         return 4;
     }
-    let kind = s.kind;
-    let rate = s.rate;
+    0
+}
+
+// Kind and rate: rules 5 to 7.
+fn rate_refusal(kind: PictureKind, rate: RateControl) -> u32
+    ensures { λ r. ⌜ r ≡ first (rateRules kind rate) ⌝ }
+{
     if no_target(kind, rate) {
         return 5;
     }
@@ -55,15 +100,34 @@ pub(crate) fn refusal(
     if bad_target(rate) {
         return 7;
     }
-    if bad_frame(s) {
-        return 8;
-    }
+    0
+}
+
+// The frame and its samples: rule 8.
+fn frame_refusal(s: Settings) -> u32
+    ensures { λ r. ⌜ r ≡ first (frameRules s) ⌝ }
+{
+    if bad_frame(s) { 8 } else { 0 }
+}
+
+// The matrix: rules 9 and 10.
+fn matrix_refusal(s: Settings, matrix: &[u32]) -> u32
+    ensures { λ r. ⌜ r ≡ first (matrixRules s (now (matrix .entry))) ⌝ }
+{
     if bad_matrix(s, matrix) {
         return 9;
     }
     if no_matrix(s) {
         return 10;
     }
+    0
+}
+
+// The padded area and what is lent: rules 11 to 13.
+fn memory_refusal(s: Settings, y: &[u16], c1: &[u16], c2: &[u16], work: &[i64]) -> u32
+    requires { ⌜ Measured s ⌝ }
+    ensures { λ r. ⌜ r ≡ first (memoryRules s (planes (now (y .entry)) (now (c1 .entry)) (now (c2 .entry))) (now (work .entry))) ⌝ }
+{
     if bad_area(s) {
         return 11;
     }

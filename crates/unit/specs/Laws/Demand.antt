@@ -4,13 +4,13 @@ use mathlib.Core.Logic.{_↔_}
 use mathlib.Core.Bool.{Bool, true, false}
 use mathlib.Core.List.{List, [], _∷_, map}
 use mathlib.Core.Option.{Option, none, some, Option·getD}
-use Prim.Native.Nat.{ℕ, suc, _+_, _*_, _-_, _^_, _≤_, _<_, min}
+use Prim.Native.Nat.{ℕ, zero, suc, _+_, _*_, _-_, _^_, _≤_, _<_, min}
 use native.Mathlib.Omega.{arith}
 use lib.IntN.{ℤ, pos, _+ℤ_}
-use lib.Dec.{eqb, ltb}
+use lib.Dec.{ltb}
 use lib.ListN.{length, getD, take, drop}
 use lib.Seq.{take-at}
-use borrow.Author.Tests.{eqb-true, ltb-false}
+use borrow.Author.Tests.{ltb-false}
 use Rattle.laws.specs.Laws.Integer.{sub-add}
 use Rattle.wavelet.specs.Lifting.{exact, Keeps}
 use Rattle.wavelet.specs.Planes.{Band, dwt, idwt}
@@ -34,7 +34,7 @@ use Rattle.unit.specs.Quantised.{sizeOf}
 use Rattle.unit.specs.Plan.{Plan}
 use Rattle.unit.specs.Unit.{majorVersion, gridOf, parametersBy, planBy, planOf, lengthOf, unitOf}
 use Rattle.unit.specs.Cut.{cutCount}
-use Rattle.unit.specs.Outcome.{tells, lengthIn, codedOf, tooLong, codedIf, outcomeIf, outcomeOf}
+use Rattle.unit.specs.Outcome.{tells, lengthIn, codedOf, codingRules, codingRefusal, codedIf, outcomeIf, outcomeOf}
 use Rattle.unit.specs.Reader.{Reading, gridIn, bandSizesIn, valuesBy, valuesIn, readBands, readSamplesOf, readSamples}
 use Rattle.unit.specs.Demand.{SameSlices, Follow, Undropped, AllZero, planIndex, NearBands, SameSamples, Demand3}
 use Rattle.unit.specs.Code.Valid.{Between, Valid}
@@ -49,6 +49,7 @@ use Rattle.unit.specs.Laws.Intlog2.{offset-range}
 use Rattle.unit.specs.Laws.Padded.{padded-wide, padded-high, padded-is}
 use Rattle.unit.specs.Laws.Drop.{drops-of, cut-none}
 use Rattle.unit.specs.Laws.Test.{no-truth, or-none}
+use Rattle.unit.specs.Laws.Rules.{none-of}
 use Rattle.unit.specs.Laws.Valid.{valid, sample-depths}
 
 -- a call's numbers as its types have them: samples of 16 bits, picture number and previous length of 32
@@ -232,6 +233,12 @@ pub coefficients-below : (s : Settings) (m : List ℕ) (p : Three (List ℕ)) (w
 coefficients-below s m p work t e = below s m p work (valid s m p work e) t
 
 -- ---- the outcome of a call
+-- a unit that coding does not refuse fits the output, and its length 32 bits
+pub not-long : (len n : ℕ) → codingRefusal len n ≡ 0 → (n ≤ len) × (n ≤ 4294967295)
+not-long len n e =
+    let h = or-none (ltb len n) (ltb 4294967295 n) .0 (none-of (codingRules len n) (tt, tt) .0 e .0) in
+    (ltb-false len n (h .0), ltb-false 4294967295 n (h .1))
+
 abbrev pub isAccepted : Answer → Bool
 isAccepted (Accepted c) = true
 isAccepted (Refused n) = false
@@ -241,38 +248,37 @@ module _ (s : Settings) (m : List ℕ) (p : Three (List ℕ)) (out : List ℕ) (
   n = lengthOf s (planOf s m p)
 
   module _ (t : Typed s p) (c : Coded) where
-    coded-by : (b : Bool) → tooLong (length out) n ≡ b → refusalOf s m p work ≡ 0 → codedIf s (planOf s m p) out work b .answer ≡ Accepted c
-        → Demand3 s m p (take (c .written) (codedIf s (planOf s m p) out work b .output))
+    coded-by : (r : ℕ) → codingRefusal (length out) n ≡ r → refusalOf s m p work ≡ 0 → codedIf s (planOf s m p) out work r .answer ≡ Accepted c
+        → Demand3 s m p (take (c .written) (codedIf s (planOf s m p) out work r .output))
     unfolding codedOf
-    coded-by true e r a = no-truth (sym (ap isAccepted a))
-    coded-by false e r a =
-        let h = or-none (ltb (length out) n) (ltb 4294967295 n) .0 e in
-        let long : n < 2 ^ 32 = omega (arith, ltb-false 4294967295 n (h .1)) in
+    coded-by zero e r a =
+        let long : n < 2 ^ 32 = omega (arith, not-long (length out) n e .1) in
         let q : n ≡ c .written = ap lengthIn a in
         rw (← q, take-at (unitOf s (planOf s m p)) (drop n out) n (length-unit s (planOf s m p))) (demand s m p work t r long)
+    coded-by (suc k) e r a = no-truth (sym (ap isAccepted a))
 
-    outcome-by : (b : Bool) → eqb (refusalOf s m p work) 0 ≡ b → outcomeIf s m p out work b .answer ≡ Accepted c
-        → Demand3 s m p (take (c .written) (outcomeIf s m p out work b .output))
-    outcome-by true e a = coded-by (tooLong (length out) n) refl (eqb-true (refusalOf s m p work) 0 e) a
-    outcome-by false e a = no-truth (sym (ap isAccepted a))
+    outcome-by : (r : ℕ) → refusalOf s m p work ≡ r → outcomeIf s m p out work r .answer ≡ Accepted c
+        → Demand3 s m p (take (c .written) (outcomeIf s m p out work r .output))
+    outcome-by zero e a = coded-by (codingRefusal (length out) n) refl e a
+    outcome-by (suc k) e a = no-truth (sym (ap isAccepted a))
 
     -- demand 3 holds of an accepted call, for the bytes of the output that its answer counts
     pub accepted : outcomeOf s m p out work .answer ≡ Accepted c → Demand3 s m p (take (c .written) (outcomeOf s m p out work .output))
     unfolding outcomeOf
-    accepted a = outcome-by (eqb (refusalOf s m p work) 0) refl a
+    accepted a = outcome-by (refusalOf s m p work) refl a
 
   module _ (c : Coded) where
     -- the count that an accepted call gives
-    count-if : (b : Bool) → codedIf s (planOf s m p) out work b .answer ≡ Accepted c → c .«cut_slices» ≡ cutCount (planOf s m p)
+    count-if : (r : ℕ) → codedIf s (planOf s m p) out work r .answer ≡ Accepted c → c .«cut_slices» ≡ cutCount (planOf s m p)
     unfolding codedOf
-    count-if true a = no-truth (sym (ap isAccepted a))
-    count-if false a = sym (ap (λ (r : Answer). getD (tells r) 2 0) a)
+    count-if zero a = sym (ap (λ (r : Answer). getD (tells r) 2 0) a)
+    count-if (suc k) a = no-truth (sym (ap isAccepted a))
 
-    count-by : (b : Bool) → outcomeIf s m p out work b .answer ≡ Accepted c → c .«cut_slices» ≡ cutCount (planOf s m p)
-    count-by true a = count-if (tooLong (length out) n) a
-    count-by false a = no-truth (sym (ap isAccepted a))
+    count-by : (r : ℕ) → outcomeIf s m p out work r .answer ≡ Accepted c → c .«cut_slices» ≡ cutCount (planOf s m p)
+    count-by zero a = count-if (codingRefusal (length out) n) a
+    count-by (suc k) a = no-truth (sym (ap isAccepted a))
 
     -- it is 0 just where no slice has dropped a number that is not 0
     pub accepted-uncut : outcomeOf s m p out work .answer ≡ Accepted c → (c .«cut_slices» ≡ 0) ↔ Undropped (planOf s m p)
     unfolding outcomeOf
-    accepted-uncut a = rw (count-by (eqb (refusalOf s m p work) 0) a) (cut-none s m p)
+    accepted-uncut a = rw (count-by (refusalOf s m p work) a) (cut-none s m p)

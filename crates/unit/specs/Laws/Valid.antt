@@ -23,13 +23,14 @@ use Rattle.unit.specs.Sizes.{Size, area, halvedIf, fields, lumaSize, col
 use Rattle.unit.specs.Subbands.{paddedSize, subbandCount}
 use Rattle.unit.specs.Slices.{sliceCount}
 use Rattle.unit.specs.Matrix.{defaultOf, carriedMatrix}
-use Rattle.unit.specs.Refusal.{noTarget, badIndex, badTarget, anyAbove, isNone, paddedArea, workNeeded, broken, firstFrom, refusalOf}
+use Rattle.unit.specs.Refusal.{noTarget, badIndex, badTarget, anyAbove, isNone, paddedArea, workNeeded, rules, refusalOf}
 use Rattle.unit.specs.Code.Valid.{Between, RateFits, MatrixFits, Valid, Sides}
 use Rattle.unit.specs.Parameters.{SliceParameters}
 use Rattle.unit.specs.Unit.{versionBy, majorVersion, gridOf, parametersBy, targetOf}
 use Rattle.unit.specs.Laws.Sound.{SliceFits, CarriedFits, Legal}
 use Rattle.unit.specs.Laws.Intlog2.{depth-range}
 use Rattle.unit.specs.Laws.Padded.{padded-wide, padded-high, wide-few, high-few, padded-mono}
+use Rattle.unit.specs.Laws.Rules.{Numbered, NoneOf, none-of}
 use Rattle.unit.specs.Laws.Test.{no-truth, or-none, both, at-most, same, some-of, between, all-most}
 
 -- rules 5 to 7 are not broken
@@ -68,19 +69,12 @@ matrix-fits s m true d =
 matrix-fits s m false none = (λ h. no-truth (h .default), absurd)
 matrix-fits s m false (some vs) = (λ h. tt, λ h. record { own = refl; default = refl })
 
--- ---- no rule is broken
-abbrev pub NoneOf : List Bool → Type 0
-NoneOf [] = Unit {0}
-NoneOf (b ∷ bs) = (b ≡ false) × NoneOf bs
-
-pub none-of : (bs : List Bool) (n : ℕ) → (firstFrom (suc n) bs ≡ 0) ↔ NoneOf bs
-none-of [] n = (λ e. tt, λ t. refl)
-none-of (true ∷ bs) n = (λ e. absurd (omega arith), λ t. no-truth (t .0))
-none-of (false ∷ bs) n = (λ e. (refl, none-of bs (suc n) .0 e), λ t. none-of bs (suc n) .1 (t .1))
-
 -- ---- the rules, one by one
 module _ (s : Settings) (m : List ℕ) (p : Three (List ℕ)) (work : List ℤ) where
-  kept : NoneOf (broken s m p work) ↔ Valid s m p work
+  pub numbered : Numbered (rules s m p work)
+  numbered = (tt, (tt, (tt, (tt, (tt, (tt, (tt, (tt, (tt, (tt, (tt, (tt, (tt, tt)))))))))))))
+
+  kept : NoneOf (rules s m p work) ↔ Valid s m p work
   kept =
       let z = area (lumaSize s) in
       let c = area (colourSize s) in
@@ -133,15 +127,15 @@ module _ (s : Settings) (m : List ℕ) (p : Three (List ℕ)) (work : List ℤ) 
             let k8 = r8 .1 (v .format, (v .mode, (v .width, (v .height, (v .luma, (v .colour, (v .luma-some, v .colour-some))))))) in
             let k10 = r10 .1 (v .matrix) in
             let k12 = r12 .1 (v .long-y, (v .long-c1, v .long-c2)) in
-            let from9 : NoneOf (drop 8 (broken s m p work)) = (k10 .own, (k10 .default, (r11 .1 (v .padded), (k12, (r13 .1 (v .work-room), tt))))) in
-            let from5 : NoneOf (drop 4 (broken s m p work)) = (k7 .target, (k7 .index, (k7 .bytes, (k8, from9)))) in
+            let from9 : NoneOf (drop 8 (rules s m p work)) = (k10 .own, (k10 .default, (r11 .1 (v .padded), (k12, (r13 .1 (v .work-room), tt))))) in
+            let from5 : NoneOf (drop 4 (rules s m p work)) = (k7 .target, (k7 .index, (k7 .bytes, (k8, from9)))) in
             let k3 = r3 .1 (v .across, (v .down, v .slices)) in
             (r1 .1 (v .wavelet, v .wavelet-ho), (r2 .1 (v .depths), (k3, (r4 .1 (v .scaler, v .prefix), from5)))),
       )
 
   pub valid : refusalOf s m p work ≡ 0 → Valid s m p work
   unfolding refusalOf
-  valid e = kept .0 (none-of (broken s m p work) 0 .0 e)
+  valid e = kept .0 (none-of (rules s m p work) numbered .0 e)
 
 -- ---- sizes
 halved-le : (b : Bool) (n : ℕ) → halvedIf b n ≤ n

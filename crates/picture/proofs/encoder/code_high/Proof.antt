@@ -1,25 +1,24 @@
 -- `encoder::code_high` meets its contract.
 use mathlib.Core.Path.{_≡_, refl, sym, ap, _∙_}
-use mathlib.Core.Bool.{false}
 use native.Mathlib.Omega.{arith}
 use borrow.Author.Needs.{needs}
 use lib.ListN.{length}
 use Rattle.picture.proofs.encoder.code_high.Statement.{statement}
 use Rattle.picture.proofs.encoder.code_high.Tie as tie
-use Rattle.unit.specs.Outcome.{tooLong}
+use Rattle.unit.specs.Outcome.{codingRefusal}
 use Rattle.picture.specs.Laws.Analysed.{called-carry}
 use Rattle.picture.specs.Laws.HighLink.{high-in, end-fits, head-room, slices-noted, noted-laid, high-refused, high-written}
 
 -- the unit is not too long
 fits : (c : tie.After-put-header-arg)
-    → tooLong (length (c .before .before .before .before .before .before .before .before .args .out .now)) (c .before .before .before .before .settle .result .end) ≡ false
-fits c = sym (c .before .before .too-long .ensures) ∙ c .before .if1 .left
+    → codingRefusal (length (c .before .before .before .before .before .before .before .before .args .out .now)) (c .before .before .before .before .settle .result .end) ≡ 0
+fits c = sym (c .before .before .coding-refusal .ensures) ∙ c .before .if1 .left
 
 settle-requires : tie.Need-settle-requires
 settle-requires c κs = let st = c .before .before .before in (high-in (st .pre), called-carry (st .pre .called))
 
-too-long-requires : tie.Need-too-long-requires
-too-long-requires c κs = search needs
+coding-refusal-requires : tie.Need-coding-refusal-requires
+coding-refusal-requires c κs = search needs
 
 same-length : tie.Need-same-length
 same-length c = search needs
@@ -28,7 +27,7 @@ returns : tie.Need-returns
 returns c =
     let st = c .before .before .before .before .before .before .before in
     let z = c .before .before .before .settle in
-    (high-refused (st .pre) (z .ensures .0) (st .args .out .now) (sym (c .before .too-long .ensures) ∙ c .if1 .taken), z .ensures .1 .size)
+    (high-refused (st .pre) (z .ensures .0) (st .args .out .now) (c .before .coding-refusal .result) (c .before .coding-refusal .ensures) (λ e. omega (arith, c .if1 .taken)), z .ensures .1 .size)
 
 cast-put-header : tie.Need-cast-put-header
 cast-put-header c =
@@ -53,8 +52,8 @@ put-hq-slices-requires c κs =
     slices-noted (st .pre) (z .ensures .0) (st .args .out .now) (fits a) (z .ensures .1)
     (t .result) (z .result .end) (h .result) (h .last .0) (t .ensures) refl (h .ensures .0) (h .ensures .1)
 
-cast-t18 : tie.Need-cast-t18
-cast-t18 c = cast-put-header (c .before .before .before .before .before .before .before .before .before .before)
+cast-t19 : tie.Need-cast-t19
+cast-t19 c = cast-put-header (c .before .before .before .before .before .before .before .before .before .before)
 
 same-length-2 : tie.Need-same-length-2
 same-length-2 c = search needs
@@ -81,14 +80,14 @@ code-high-spec =
     tie.close
     (tie.spec
     settle-requires
-    too-long-requires
+    coding-refusal-requires
     same-length
     returns
     cast-put-header
     put-header-requires
     terms-of-requires
     put-hq-slices-requires
-    cast-t18
+    cast-t19
     same-length-2
     same-length-3
     returns-2)

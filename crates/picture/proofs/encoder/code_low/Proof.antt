@@ -1,20 +1,20 @@
 -- `picture::encoder::code_low` meets its contract.
 use mathlib.Core.Path.{_≡_, refl, sym, ap, _∙_}
-use mathlib.Core.Bool.{false}
 use Prim.Native.Nat.{ℕ, _+_, _≤_}
 use native.Mathlib.Omega.{arith}
 use lib.ListN.{length}
-use Rattle.picture.specs.Laws.Analysed.{called-arranged, called-carry, not-long}
+use Rattle.unit.specs.Laws.Demand.{not-long}
+use Rattle.picture.specs.Laws.Analysed.{called-arranged, called-carry}
 use Rattle.picture.specs.Laws.LowLink.{Worked, low-refused, low-ready, low-written}
 use borrow.Author.Needs.{needs}
 use Rattle.picture.proofs.encoder.code_low.Statement.{statement}
 use Rattle.picture.proofs.encoder.code_low.Tie as tie
 
 -- the unit's length, as it is worked out
-abbrev long : tie.After-too-long → ℕ
+abbrev long : tie.After-coding-refusal → ℕ
 long c = c .before .overhead .result + c .before .before .before .numerator .result
 
-worked : (c : tie.After-too-long) → let a = c .before .before .before .before .before .before .args in
+worked : (c : tie.After-coding-refusal) → let a = c .before .before .before .before .before .before .args in
     Worked (a .s) (a .matrix .now) (a .p) (a .work .now) (c .before .before .before .numerator .result) (c .before .before .slice-count .result) (long c)
 worked c =
     let n = c .before .before .before .numerator in
@@ -26,8 +26,8 @@ worked c =
     }
 
 -- it fits the output, and 32 bits
-fits : (c : tie.After-too-long) → c .too-long .result ≡ false → (long c ≤ length (c .before .before .before .before .before .before .args .out .now)) × (long c ≤ 4294967295)
-fits c e = not-long (length (c .before .before .before .before .before .before .args .out .now)) (long c) (sym (c .too-long .ensures) ∙ e)
+fits : (c : tie.After-coding-refusal) → c .coding-refusal .result ≡ 0 → (long c ≤ length (c .before .before .before .before .before .before .args .out .now)) × (long c ≤ 4294967295)
+fits c e = not-long (length (c .before .before .before .before .before .before .args .out .now)) (long c) (sym (c .coding-refusal .ensures) ∙ e)
 
 numerator-requires : tie.Need-numerator-requires
 numerator-requires c κs = called-carry (c .before .before .pre .called)
@@ -44,13 +44,13 @@ cast-length c = search needs
 add-length : tie.Need-add-length
 add-length c = search needs
 
-too-long-requires : tie.Need-too-long-requires
-too-long-requires c κs = search needs
+coding-refusal-requires : tie.Need-coding-refusal-requires
+coding-refusal-requires c κs = search needs
 
 returns : tie.Need-returns
 returns c =
     let t = c .before in
-    (low-refused (worked t) (t .before .before .before .before .before .before .args .out .now) (sym (t .too-long .ensures) ∙ c .if1 .taken), refl)
+    (low-refused (worked t) (t .before .before .before .before .before .before .args .out .now) (t .coding-refusal .result) (t .coding-refusal .ensures) (λ e. omega (arith, c .if1 .taken)), refl)
 
 cast-put-header : tie.Need-cast-put-header
 cast-put-header c = let f = fits (c .before .before) (c .before .if1 .left) in omega arith
@@ -66,8 +66,8 @@ put-ld-slices-requires c κs =
     let f = fits t (c .before .before .before .before .before .before .if1 .left) in
     (low-ready (worked t), omega (arith, t .before .overhead .ensures .0, c .before .before .before .before .put-header .ensures .0, f .0, c .before .before .before .out .given))
 
-cast-t11 : tie.Need-cast-t11
-cast-t11 c =
+cast-t12 : tie.Need-cast-t12
+cast-t12 c =
     let e = c .before .before .before .before .before .before .before .before .before .before in
     let f = fits (e .before) (e .if1 .left) in
     omega arith
@@ -85,7 +85,7 @@ returns-2 c =
     let h = c .before .before .before .before .before .before .before .before .put-header in
     let r = c .before .before .before .put-ld-slices in (
       low-written (worked t) (t .before .before .before .before .before .before .args .out .now) (h .last .0) (r .last .0) (h .result) (r .result .at) (r .result .«cut_slices»)
-          (sym (t .too-long .ensures) ∙ e .if1 .left) (h .ensures .0) (h .ensures .1) (r .ensures .0) (r .ensures .1 .0),
+          (sym (t .coding-refusal .ensures) ∙ e .if1 .left) (h .ensures .0) (h .ensures .1) (r .ensures .0) (r .ensures .1 .0),
       c .work .given,
     )
 
@@ -98,12 +98,12 @@ code-low-spec =
     overhead-requires
     cast-length
     add-length
-    too-long-requires
+    coding-refusal-requires
     returns
     cast-put-header
     put-header-requires
     put-ld-slices-requires
-    cast-t11
+    cast-t12
     same-length
     same-length-2
     returns-2)

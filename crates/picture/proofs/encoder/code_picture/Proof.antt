@@ -1,6 +1,6 @@
 -- `encoder::code_picture` meets its contract.
 use mathlib.Core.Path.{_∙_}
-use Rattle.picture.specs.Encoded.{planes}
+use Rattle.unit.specs.Three.{planes}
 use Rattle.picture.specs.Laws.Analysed.{called, ready}
 use borrow.Author.Needs.{needs}
 use Rattle.picture.proofs.encoder.code_picture.Statement.{statement}

@@ -3,7 +3,7 @@ use mathlib.Core.Path.{_≡_, sym, _∙_}
 use native.Mathlib.Omega.{arith}
 use Rattle.unit.specs.Laws.Valid.{valid}
 use Rattle.unit.specs.Laws.Demand.{Typed}
-use Rattle.picture.specs.Encoded.{planes}
+use Rattle.unit.specs.Three.{planes}
 use Rattle.picture.specs.Laws.Encoded.{typed-by, encodes-refused, encodes-coded}
 use borrow.Author.Needs.{needs}
 use Rattle.picture.proofs.encoder.encode_picture.Statement.{statement}

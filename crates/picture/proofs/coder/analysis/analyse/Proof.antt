@@ -3,7 +3,7 @@ use Prim.Native.Nat.{ℕ, _+_, _-_, _*_}
 use lib.ListN.{drop}
 use Rattle.wavelet.specs.Laws.Depth.{few-levels}
 use Rattle.unit.specs.Sizes.{lumaSize, colourSize}
-use Rattle.picture.specs.Encoded.{planes}
+use Rattle.unit.specs.Three.{planes}
 use Rattle.picture.specs.Laws.Analysis.{padded-asks, taken-is, Taken, taken-of, front-is, components-in, Sampled, front-room, analysed-of}
 use native.Mathlib.Omega.{arith}
 use borrow.Author.Needs.{needs}
