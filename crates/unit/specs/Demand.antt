@@ -16,7 +16,7 @@ use Rattle.unit.specs.Three.{Three}
 use Rattle.unit.specs.Sizes.{Size, sizesOf, depthsOf}
 use Rattle.unit.specs.Slices.{Grid, sliceOf}
 use Rattle.unit.specs.Matrix.{matrixValues}
-use Rattle.unit.specs.Parameters.{SliceParameters, lowDelay, highQuality, parameterBytes}
+use Rattle.unit.specs.Parameters.{SliceParameters, lowDelay, highQuality, overhead}
 use Rattle.unit.specs.LowDelay.{sliceBytes, roomOf, alternated}
 use Rattle.unit.specs.Trim.{trimmedCost}
 use Rattle.unit.specs.Coefficients.{coefficientsOf}
@@ -116,7 +116,7 @@ pub record Demand3 (s : Settings) (m : List ℕ) (p : Three (List ℕ)) (unit : 
   pub slices : SameSlices (planOf s m p .slices) (reading .slices)
   -- what is kept of a slice's numbers is all of them, unless it is of low delay, carries index 127 and does not fit
   pub drops : All (Drops (s .kind)) (planOf s m p .slices)
-  pub places : Follow (17 + parameterBytes (majorVersion s) (reading .parameters)) (reading .slices) (length unit)
+  pub places : Follow (overhead (majorVersion s) (reading .parameters)) (reading .slices) (length unit)
   pub bytes : Bytes (reading .parameters .sliceParameters) (reading .slices)
   pub near : Undropped (planOf s m p)
       → let b = coefficientsOf s p in let r = readBands (sizesOf s) reading in let i = planIndex (planOf s m p) in let v = matrixValues s m in

@@ -4,7 +4,7 @@ use mathlib.Core.List.{List, [], _∷_, _++_}
 use Prim.Native.Nat.{ℕ, zero, suc, _+_, _*_, _-_, _/_, _%_, max}
 use lib.Dec.{leb, ltb}
 use lib.IntN.{ℤ}
-use Rattle.laws.specs.Ceiling.{ceiling}
+use Rattle.laws.specs.Ceiling.{ceiling, roundedUp}
 use Rattle.codewords.specs.Bit.{Bits, lit, oneBits, zeroBits}
 use Rattle.codewords.specs.Code.{codes}
 use Rattle.laws.specs.Rows.{span}
@@ -34,9 +34,13 @@ componentBits c xs = lit 8 (scalersOf c xs) ++ (codes (trimmed xs) ++ oneBits (8
 unfoldable pub highBits : ℕ → ℕ → ℕ → Three (List ℤ) → Bits
 highBits p c q z = zeroBits (8 * p) ++ (lit 8 q ++ (componentBits c (z .y) ++ (componentBits c (z .c1) ++ componentBits c (z .c2))))
 
--- a slice's size: 4, prefix and components, each rounded up to whole scalers
+-- a slice's size by the bytes y, c1 and c2 that its components need: 4, prefix, and each of them rounded up to whole
+-- scalers
+abbrev pub sliceSizeBy : ℕ → ℕ → ℕ → ℕ → ℕ → ℕ
+sliceSizeBy p c y c1 c2 = 4 + p + (roundedUp c y + roundedUp c c1 + roundedUp c c2)
+
 unfoldable pub sliceSize : ℕ → ℕ → Three (List ℤ) → ℕ
-sliceSize p c z = 4 + p + (scalersOf c (z .y) * c + scalersOf c (z .c1) * c + scalersOf c (z .c2) * c)
+sliceSize p c z = sliceSizeBy p c (needOf (z .y)) (needOf (z .c1)) (needOf (z .c2))
 
 -- document 01's share: that of slice k in n bytes among d slices; the earlier ones are larger by at most one
 unfoldable pub shareOf : ℕ → ℕ → ℕ → ℕ

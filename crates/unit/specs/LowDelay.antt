@@ -12,7 +12,7 @@ use Rattle.wavelet.specs.Planes.{Band}
 use Rattle.unit.specs.Three.{Three}
 use Rattle.unit.specs.Sizes.{intlog2}
 use Rattle.unit.specs.Slices.{Grid, sliceCount}
-use Rattle.unit.specs.Parameters.{Parameters, parameterBytes}
+use Rattle.unit.specs.Parameters.{Parameters, overhead}
 use Rattle.unit.specs.Trim.{trimmed, bitsOf, trimmedCost, fitPrefix}
 use Rattle.unit.specs.Elect.{elect}
 use Rattle.unit.specs.Quantised.{numbersLD, leftLD}
@@ -35,7 +35,7 @@ roomOf n = 8 * n - 7 - lengthBits n
 -- numerator.
 module _ (version target slices : ℕ) (t : ℕ → Parameters) where
   abbrev pub numeratorBy : ℕ → ℕ
-  numeratorBy n = max (target - (17 + parameterBytes version (t n))) slices
+  numeratorBy n = max (target - (overhead version (t n))) slices
 
   unfoldable pub numerator : ℕ
   numerator = numeratorBy (numeratorBy target)

@@ -2,7 +2,7 @@
 use mathlib.Core.Bool.{Bool, true, false, not, cond}
 use mathlib.Core.List.{List, [], _∷_, _++_}
 use mathlib.Core.Option.{Option, none, some}
-use Prim.Native.Nat.{ℕ}
+use Prim.Native.Nat.{ℕ, _+_}
 use lib.Dec.{eqb, leb}
 use lib.ListN.{length}
 use Rattle.laws.specs.Ceiling.{ceiling}
@@ -63,3 +63,7 @@ fill n = zeroBits (padding n)
 -- how many bytes the transform parameters take
 unfoldable pub parameterBytes : ℕ → Parameters → ℕ
 parameterBytes version t = ceiling (length (parameterBits version t)) 8
+
+-- the bytes of a unit before its slices: parse information and picture number, 17 bytes, and the transform parameters
+abbrev pub overhead : ℕ → Parameters → ℕ
+overhead version t = 17 + parameterBytes version t

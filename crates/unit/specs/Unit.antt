@@ -17,7 +17,7 @@ use Rattle.unit.specs.Sizes.{lumaSize}
 use Rattle.unit.specs.Slices.{Grid, sliceCount}
 use Rattle.unit.specs.Refusal.{paddedArea}
 use Rattle.unit.specs.Matrix.{matrixValues, carriedMatrix}
-use Rattle.unit.specs.Parameters.{SliceParameters, lowDelay, highQuality, Parameters, parameterBits, parameterBytes, fill}
+use Rattle.unit.specs.Parameters.{SliceParameters, lowDelay, highQuality, Parameters, parameterBits, overhead, fill}
 use Rattle.unit.specs.Coefficients.{coefficientsOf}
 use Rattle.unit.specs.Plan.{SlicePlan, Plan}
 use Rattle.unit.specs.LowDelay.{numerator, lowSlices, zeroPlanes}
@@ -72,7 +72,7 @@ module _ (s : Settings) (m : List ℕ) where
 
   -- the bytes for all high-quality slices: the target less overhead, or 0 below that
   abbrev pub highBytes : ℕ → ℕ
-  highBytes c = targetOf (s .rate) - (17 + parameterBytes (majorVersion s) (highParameters c))
+  highBytes c = targetOf (s .rate) - (overhead (majorVersion s) (highParameters c))
 
   abbrev pub highSlicesOf : Three (List Band) → ℕ → List SlicePlan
   highSlicesOf b c = highSlices (gridOf s) (matrixValues s m) b (s .«slice_prefix_bytes») (s .rate) c (highBytes c)
@@ -110,7 +110,7 @@ headBits s n t =
 
 -- the length of the unit
 unfoldable pub lengthOf : Settings → Plan → ℕ
-lengthOf s a = 17 + parameterBytes (majorVersion s) (a .parameters) + length (flatten (sliceRuns (a .slices)))
+lengthOf s a = overhead (majorVersion s) (a .parameters) + length (flatten (sliceRuns (a .slices)))
 
 -- the unit: its head, and the slices' bytes
 unfoldable pub unitOf : Settings → Plan → List ℕ

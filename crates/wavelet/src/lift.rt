@@ -1,6 +1,6 @@
 // Lifting stages (ST 2042-1, 15.4.4.1) and the analysis of a row by all stages of a filter.
 ghost use mathlib.Core.Path.{_≡_};
-ghost use Prim.Native.Nat.{_+_, _*_, _/_, _^_, _<_, _≤_};
+ghost use Prim.Native.Nat.{_+_, _/_, _^_, _<_, _≤_};
 ghost use lib.IntN.{pos, _+ℤ_};
 ghost use lib.Signed.{shrZ};
 ghost use lib.ListN.{length};

@@ -2,7 +2,7 @@
 use mathlib.Core.Bool.{not, cond, true}
 use mathlib.Core.List.{List, [], _++_}
 use mathlib.Core.Path.{_≡_}
-use Prim.Native.Nat.{ℕ, _+_, _*_, _≤_}
+use Prim.Native.Nat.{ℕ, _*_, _≤_}
 use lib.Dec.{eqb, leb}
 use lib.ListN.{length}
 use Rattle.codewords.specs.Bit.{Bits, lit}
@@ -10,7 +10,7 @@ use Rattle.codewords.specs.Code.{codeU}
 use Rattle.unit.specs.declared.Settings.{Settings}
 use Rattle.unit.specs.declared.PictureKind.{PictureKind}
 use Rattle.unit.specs.Slices.{sliceCount}
-use Rattle.unit.specs.Parameters.{flagged, SliceParameters, lowDelay, highQuality, parameterBytes}
+use Rattle.unit.specs.Parameters.{flagged, SliceParameters, lowDelay, highQuality, overhead}
 use Rattle.unit.specs.LowDelay.{numeratorBy}
 use Rattle.unit.specs.Unit.{majorVersion, gridOf, targetOf, lowParameters, parseCode, parametersBy}
 use Rattle.picture.specs.declared.front.header.SliceParameters as code
@@ -47,4 +47,4 @@ pub record CanCarry (s : Settings) (m : List ℕ) : Type 0 where
 
 -- the head fits the output
 abbrev pub HeadRoom : Settings → List ℕ → code.SliceParameters → List ℕ → Type 0
-HeadRoom s m p out = 17 + parameterBytes (majorVersion s) (parametersBy s m (sliceIn p)) ≤ length out
+HeadRoom s m p out = overhead (majorVersion s) (parametersBy s m (sliceIn p)) ≤ length out

@@ -5,15 +5,14 @@ use mathlib.Core.List.{List}
 use Prim.Native.Nat.{ℕ, _+_, _*_, _^_, _≤_, max}
 use lib.IntN.{ℤ}
 use lib.ListN.{length}
-use Rattle.laws.specs.Ceiling.{ceiling}
 use Rattle.laws.specs.Rows.{at}
 use Rattle.codewords.specs.Bytes.{toBytes}
 use Rattle.unit.specs.declared.Settings.{Settings}
 use Rattle.unit.specs.declared.PictureKind.the-variants.{HighQuality}
 use Rattle.unit.specs.Plan.{SlicePlan}
 use Rattle.unit.specs.Code.Valid.{RateFits}
-use Rattle.unit.specs.Parameters.{parameterBytes}
-use Rattle.unit.specs.HighQuality.{needOf, largestNeed, scalerFrom}
+use Rattle.unit.specs.Parameters.{overhead}
+use Rattle.unit.specs.HighQuality.{sliceSizeBy, needOf, largestNeed, scalerFrom}
 use Rattle.unit.specs.Unit.{majorVersion, highParameters}
 use Rattle.picture.specs.declared.slices.layout.Picture.{Picture}
 use Rattle.picture.specs.declared.high.choice.Choice.{Choice}
@@ -29,7 +28,7 @@ abbrev pub plannedBy : Terms → Choice → SliceCoder → SliceCoder
 plannedBy t c b =
     let n = needsBy (c .y .bits) (c .c1 .bits) (c .c2 .bits) in
     record {
-      at = b .at + (4 + t .prefix + (ceiling (n .y) (t .scaler) * t .scaler + ceiling (n .c1) (t .scaler) * t .scaler + ceiling (n .c2) (t .scaler) * t .scaler));
+      at = b .at + sliceSizeBy (t .prefix) (t .scaler) (n .y) (n .c1) (n .c2);
       «cut_slices» = b .«cut_slices»;
       largest = max (max (n .y) (max (n .c1) (n .c2))) (b .largest);
       index = c .index;
@@ -71,4 +70,4 @@ pub record Settles (w : List ℤ) (p : Picture) (s : Settings) (m : List ℕ) (r
   pub some : 1 ≤ r .scaler
   pub few : r .scaler ≤ 2 ^ 24
   pub fits : largestNeed (slicesBy w p s m (r .scaler)) ≤ 255 * r .scaler
-  pub end : r .end ≡ 17 + parameterBytes (majorVersion s) (highParameters s m (r .scaler)) + length (highRuns w p (termsOf s m (r .scaler)) (slicesIn p))
+  pub end : r .end ≡ overhead (majorVersion s) (highParameters s m (r .scaler)) + length (highRuns w p (termsOf s m (r .scaler)) (slicesIn p))

@@ -7,7 +7,6 @@ use mathlib.Core.Option.{Option, none, some, Option·getD}
 use Prim.Native.Nat.{ℕ, zero, suc, _+_, _*_, _-_, _^_, _≤_, _<_}
 use native.Mathlib.Nat.{mul-comm}
 use native.Mathlib.Omega.{arith}
-use lib.Dec.{ltb}
 use lib.IntN.{ℤ}
 use lib.ListN.{length, drop, take, getD, replicate, length-append, length-replicate, length-drop, List·getD-append}
 use lib.Seq.{take-at, drop-at, drop-drop}
@@ -30,7 +29,7 @@ use Rattle.unit.specs.Slices.{sliceCount}
 use Rattle.unit.specs.Subbands.{subbandCount}
 use Rattle.unit.specs.Matrix.{defaultOf, matrixValues}
 use Rattle.unit.specs.Laws.Matrix.{MatrixIf, default-matrix}
-use Rattle.unit.specs.Parameters.{parameterBytes}
+use Rattle.unit.specs.Parameters.{overhead}
 use Rattle.unit.specs.Coefficients.{bandsOf, coefficientsOf}
 use Rattle.unit.specs.Plan.{SlicePlan, Plan}
 use Rattle.unit.specs.Unit.{majorVersion, gridOf, sliceRuns, headBits, lengthOf, unitOf}
@@ -39,7 +38,6 @@ use Rattle.unit.specs.Outcome.{codedOf, codingRefusal}
 use Rattle.unit.specs.Laws.Demand.{not-long}
 use Rattle.unit.specs.Code.Valid.{MatrixFits, Valid, Sides}
 use Rattle.unit.specs.Laws.Valid.{luma-sides, colour-sides}
-use Rattle.unit.specs.Laws.Test.{or-none, at-most}
 use Rattle.picture.specs.Code.Head.{CanCarry}
 use Rattle.picture.specs.Code.Strip.{Small}
 use Rattle.picture.specs.Code.Layout.{bandCount, gridIn, LayoutIn, ComponentIn}
@@ -278,16 +276,16 @@ module _ (s : Settings) (a : Plan) where
   unfolding unitOf
   unit-parts = refl
 
-  pub length-parts : lengthOf s a ≡ 17 + parameterBytes (majorVersion s) (a .parameters) + length (flatten (sliceRuns (a .slices)))
+  pub length-parts : lengthOf s a ≡ overhead (majorVersion s) (a .parameters) + length (flatten (sliceRuns (a .slices)))
   unfolding lengthOf
   length-parts = refl
 
-  head-long : length head ≡ 17 + parameterBytes (majorVersion s) (a .parameters)
+  head-long : length head ≡ overhead (majorVersion s) (a .parameters)
   head-long = omega (arith, ap length unit-parts, length-unit s a, length-append head runs, length-parts)
 
   module _ (out : List ℕ) where
     -- the head at the output's start
-    module _ (n at : ℕ) (o : List ℕ) (fits : lengthOf s a ≤ length out) (en : n ≡ lengthOf s a) (ea : at ≡ 17 + parameterBytes (majorVersion s) (a .parameters))
+    module _ (n at : ℕ) (o : List ℕ) (fits : lengthOf s a ≤ length out) (en : n ≡ lengthOf s a) (ea : at ≡ overhead (majorVersion s) (a .parameters))
         (eo : o ≡ toBytes (headBits s n (a .parameters)) ++ drop at out) where
       head-at : length head ≡ at
       head-at = head-long ∙ sym ea
@@ -324,7 +322,7 @@ module _ (s : Settings) (a : Plan) where
     }
 
     pub codes-written : (n at r : ℕ) (o o′ : List ℕ) (c : Coded) → codingRefusal (length out) (lengthOf s a) ≡ 0 → n ≡ lengthOf s a
-        → at ≡ 17 + parameterBytes (majorVersion s) (a .parameters) → o ≡ toBytes (headBits s n (a .parameters)) ++ drop at out
+        → at ≡ overhead (majorVersion s) (a .parameters) → o ≡ toBytes (headBits s n (a .parameters)) ++ drop at out
         → Lays o at (flatten (sliceRuns (a .slices))) o′ r → c ≡ codedOf s a → Codes s a out o′ (Accepted c)
     codes-written n at r o o′ c e en ea eo l ec = record {
       answer = ap Accepted ec ∙ ap (answerBy s a) (sym e);

@@ -23,7 +23,7 @@ use Rattle.unit.specs.Elect.{elect}
 use Rattle.unit.specs.Laws.Elect.{elected}
 use Rattle.unit.specs.Laws.Test.{no-truth}
 use Rattle.unit.specs.Code.Valid.{RateFits}
-use Rattle.unit.specs.HighQuality.{needOf, sliceSize, shareOf}
+use Rattle.unit.specs.HighQuality.{sliceSizeBy, needOf, sliceSize, shareOf}
 use Rattle.picture.specs.declared.slices.layout.Component.{Component}
 use Rattle.picture.specs.declared.slices.layout.Layout.{Layout}
 use Rattle.picture.specs.declared.slices.layout.Picture.{Picture}
@@ -94,13 +94,13 @@ own-few w p t k c a h e = subst FewBits (sym e) (choice-few w p k (indexIn w p t
 
 -- a size by the needs is the size by the numbers
 pub fits-is : (z : Three (List ℤ)) (n : Needs) (p c share size : ℕ) → NeedsOf z n
-    → size ≡ 4 + p + (ceiling (n .y) c * c + ceiling (n .c1) c * c + ceiling (n .c2) c * c) → leb size share ≡ leb (sliceSize p c z) share
+    → size ≡ sliceSizeBy p c (n .y) (n .c1) (n .c2) → leb size share ≡ leb (sliceSize p c z) share
 unfolding sliceSize
 fits-is z n p c share size h e =
     ap (λ (s : ℕ). leb s share)
-    (e ∙ ap (λ (y : ℕ). 4 + p + (ceiling y c * c + ceiling (n .c1) c * c + ceiling (n .c2) c * c)) (h .y)
-    ∙ ap (λ (c1 : ℕ). 4 + p + (ceiling (needOf (z .y)) c * c + ceiling c1 c * c + ceiling (n .c2) c * c)) (h .c1)
-    ∙ ap (λ (c2 : ℕ). 4 + p + (ceiling (needOf (z .y)) c * c + ceiling (needOf (z .c1)) c * c + ceiling c2 c * c)) (h .c2))
+    (e ∙ ap (λ (y : ℕ). sliceSizeBy p c y (n .c1) (n .c2)) (h .y)
+    ∙ ap (λ (c1 : ℕ). sliceSizeBy p c (needOf (z .y)) c1 (n .c2)) (h .c1)
+    ∙ ap (λ (c2 : ℕ). sliceSizeBy p c (needOf (z .y)) (needOf (z .c1)) c2) (h .c2))
 
 -- the bytes that the runs of a slice need, by their bits
 module _ (w : List ℤ) (p : Picture) (k q : ℕ) (a : Arranged p) (y c1 c2 : Trimmed) (ey : y ≡ trimmedOf (runOf w p (p .y) k q))
@@ -119,7 +119,7 @@ module _ (w : List ℤ) (p : Picture) (k q : ℕ) (a : Arranged p) (y c1 c2 : Tr
 
   -- the slice fits by their size
   pub fits-by : (n : Needs) (x c share size : ℕ) → n ≡ needsBy (y .bits) (c1 .bits) (c2 .bits)
-      → size ≡ 4 + x + (ceiling (n .y) c * c + ceiling (n .c1) c * c + ceiling (n .c2) c * c) → leb size share ≡ fitsBy x c share (numbersIn w p k) q
+      → size ≡ sliceSizeBy x c (n .y) (n .c1) (n .c2) → leb size share ≡ fitsBy x c share (numbersIn w p k) q
   fits-by n x c share size e d = fits-is (numbersIn w p k q) n x c share size (subst (NeedsOf (numbersIn w p k q)) (sym e) needs-are) d
 
 -- the bytes that a choice needs are those that its numbers need
@@ -144,7 +144,7 @@ ceiling-near n c h l = omega (arith, div-mul-le-self (n + (c - 1)) c)
 
 pub size-is : (z : Needs) (p c y c1 c2 : ℕ) → p ≤ 255 → (y ≡ ceiling (z .y) c) × (y * c ≤ 2 ^ 31) → (c1 ≡ ceiling (z .c1) c) × (c1 * c ≤ 2 ^ 31)
     → (c2 ≡ ceiling (z .c2) c) × (c2 * c ≤ 2 ^ 31)
-    → let r = 4 + p + (y * c + c1 * c + c2 * c) in (r ≡ 4 + p + (ceiling (z .y) c * c + ceiling (z .c1) c * c + ceiling (z .c2) c * c)) × (r ≤ 2 ^ 34)
+    → let r = 4 + p + (y * c + c1 * c + c2 * c) in (r ≡ sliceSizeBy p c (z .y) (z .c1) (z .c2)) × (r ≤ 2 ^ 34)
 size-is z p c y c1 c2 h a b d = (
   ap (λ (y : ℕ). 4 + p + (y * c + c1 * c + c2 * c)) (a .0)
       ∙ ap (λ (c1 : ℕ). 4 + p + (ceiling (z .y) c * c + c1 * c + c2 * c)) (b .0)
@@ -158,7 +158,7 @@ ceiling-none c h = let e : 0 + (c - 1) < c = omega arith in rw (div-eq-of-lt e, 
 
 -- where luma alone does not fit, the slice does not
 pub fits-not : (w : List ℤ) (p : Picture) (k q y x c share size : ℕ) → 1 ≤ c → y ≡ needOf (runOf w p (p .y) k q)
-    → size ≡ 4 + x + (ceiling y c * c + ceiling 0 c * c + ceiling 0 c * c) → share < size → false ≡ fitsBy x c share (numbersIn w p k) q
+    → size ≡ sliceSizeBy x c y 0 0 → share < size → false ≡ fitsBy x c share (numbersIn w p k) q
 unfolding sliceSize numbersIn
 fits-not w p k q y x c share size h e f l =
     let z = numbersIn w p k q in
@@ -166,11 +166,11 @@ fits-not w p k q y x c share size h e f l =
     sym (lt-leb (sliceSize x c z) share (omega (arith, f, l, n, ceiling-none c h)))
 
 pub alone-not : (w : List ℤ) (p : Picture) (k q : ℕ) (y : Trimmed) (n : Needs) (x c share size : ℕ) → 1 ≤ c → y ≡ trimmedOf (runOf w p (p .y) k q)
-    → n ≡ needsBy (y .bits) 0 0 → size ≡ 4 + x + (ceiling (n .y) c * c + ceiling (n .c1) c * c + ceiling (n .c2) c * c) → share < size
+    → n ≡ needsBy (y .bits) 0 0 → size ≡ sliceSizeBy x c (n .y) (n .c1) (n .c2) → share < size
     → false ≡ fitsBy x c share (numbersIn w p k) q
 alone-not w p k q y n x c share size h e d f l =
     fits-not w p k q (ceiling (y .bits) 8) x c share size h (ap (λ (t : Trimmed). ceiling (t .bits) 8) e)
-    (f ∙ ap (λ (n : Needs). 4 + x + (ceiling (n .y) c * c + ceiling (n .c1) c * c + ceiling (n .c2) c * c)) d) l
+    (f ∙ ap (λ (n : Needs). sliceSizeBy x c (n .y) (n .c1) (n .c2)) d) l
 
 -- ---- shares
 module _ (n d k : ℕ) where

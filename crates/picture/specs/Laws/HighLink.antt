@@ -1,7 +1,7 @@
 -- High quality: the slices that the code makes of the work slice are the unit's, and so are its scaler, its length and
 -- its bytes.
 use mathlib.Core.Path.{_≡_, refl, sym, ap, ap₂, _∙_, subst, fun-ext}
-use mathlib.Core.Bool.{Bool, true, false}
+use mathlib.Core.Bool.{false}
 use mathlib.Core.List.{List, _++_, flatten}
 use Prim.Native.Nat.{ℕ, _+_, _*_, _≤_, _<_}
 use native.Mathlib.Omega.{arith}
@@ -23,7 +23,7 @@ use Rattle.unit.specs.Sizes.{lumaSize}
 use Rattle.unit.specs.Slices.{Grid, sliceCount}
 use Rattle.unit.specs.Matrix.{matrixValues}
 use Rattle.unit.specs.Refusal.{paddedArea}
-use Rattle.unit.specs.Parameters.{parameterBytes}
+use Rattle.unit.specs.Parameters.{overhead}
 use Rattle.unit.specs.Coefficients.{coefficientsOf}
 use Rattle.unit.specs.Quantised.{numbersHQ}
 use Rattle.unit.specs.Plan.{SlicePlan, Plan}
@@ -144,7 +144,7 @@ module _ (w : List ℤ) (p : Picture) (s : Settings) (m : List ℕ) where
 
   pub length-is : (r : Settled) → Settles w p s m r → r .end ≡ lengthOf s (codePlan w p s m (r .scaler))
   length-is r z =
-      z .end ∙ ap (λ (b : List ℕ). 17 + parameterBytes (majorVersion s) (highParameters s m (r .scaler)) + length b) (runs-are (r .scaler))
+      z .end ∙ ap (λ (b : List ℕ). overhead (majorVersion s) (highParameters s m (r .scaler)) + length b) (runs-are (r .scaler))
       ∙ sym (length-parts s (codePlan w p s m (r .scaler)))
 
   -- no slice drops a number
@@ -177,7 +177,7 @@ module _ {w : List ℤ} {p : Picture} {s : Settings} {m : List ℕ} (k : Coding 
 
   -- n is the length as the answer has it
   pub high-written : codingRefusal (length out) (r .end) ≡ 0 → (t : Terms) (n at end cut : ℕ) (o o′ : List ℕ) → t ≡ termsOf s m (r .scaler) → n ≡ r .end
-      → at ≡ 17 + parameterBytes (majorVersion s) (highParameters s m (r .scaler)) → o ≡ toBytes (headBits s n (highParameters s m (r .scaler))) ++ drop at out
+      → at ≡ overhead (majorVersion s) (highParameters s m (r .scaler)) → o ≡ toBytes (headBits s n (highParameters s m (r .scaler))) ++ drop at out
       → Lays o at (highRuns w p t (slicesIn p)) o′ end → cut ≡ 0
       → CodesAny s m w out o′ (Accepted (record { written = n; «cut_slices» = cut; «slice_size_scaler» = r .scaler }))
   high-written e t n at end cut o o′ et en ea eo l ec =
@@ -224,11 +224,11 @@ module _ {w : List ℤ} {p : Picture} {s : Settings} {m : List ℕ} (k : Coding 
       pub end-fits : (r .end ≤ length out) × (r .end ≤ 4294967295)
       end-fits = rw (length-is w p s m r z) (not-long (length out) (lengthOf s (codePlan w p s m (r .scaler))) (sym (refusal-is k z out) ∙ e))
 
-      pub head-room : 17 + parameterBytes (majorVersion s) (highParameters s m (r .scaler)) ≤ length out
+      pub head-room : overhead (majorVersion s) (highParameters s m (r .scaler)) ≤ length out
       head-room = omega (arith, end-fits .0, z .end)
 
       -- behind the head there is room for the slices
-      runs-room : (n at : ℕ) (o : List ℕ) → n ≡ r .end → at ≡ 17 + parameterBytes (majorVersion s) (highParameters s m (r .scaler))
+      runs-room : (n at : ℕ) (o : List ℕ) → n ≡ r .end → at ≡ overhead (majorVersion s) (highParameters s m (r .scaler))
           → o ≡ toBytes (headBits s n (highParameters s m (r .scaler))) ++ drop at out
           → at + length (highRuns w p (termsOf s m (r .scaler)) (slicesIn p)) ≤ length o
       runs-room n at o en ea eo =
@@ -237,7 +237,7 @@ module _ {w : List ℤ} {p : Picture} {s : Settings} {m : List ℕ} (k : Coding 
           rw (runs-are w p s m (r .scaler)) (slices-room s a out n at o (rw (← f) (end-fits .0)) (en ∙ f) ea eo)
 
       pub slices-ready : (t : Terms) (n at : ℕ) (o : List ℕ) → t ≡ termsOf s m (r .scaler) → n ≡ r .end
-          → at ≡ 17 + parameterBytes (majorVersion s) (highParameters s m (r .scaler))
+          → at ≡ overhead (majorVersion s) (highParameters s m (r .scaler))
           → o ≡ toBytes (headBits s n (highParameters s m (r .scaler))) ++ drop at out
           → PlanIn p t w × (at + length (highRuns w p t (slicesIn p)) ≤ length o)
       slices-ready t n at o et en ea eo =
@@ -245,7 +245,7 @@ module _ {w : List ℤ} {p : Picture} {s : Settings} {m : List ℕ} (k : Coding 
 
       -- what writing the slices asks, where the choices are noted in v
       pub slices-noted : {v : List ℤ} → Notes w p (termsOf s m (r .scaler)) (slicesIn p) v → (t : Terms) (n at : ℕ) (o : List ℕ) → t ≡ termsOf s m (r .scaler) → n ≡ r .end
-          → at ≡ 17 + parameterBytes (majorVersion s) (highParameters s m (r .scaler))
+          → at ≡ overhead (majorVersion s) (highParameters s m (r .scaler))
           → o ≡ toBytes (headBits s n (highParameters s m (r .scaler))) ++ drop at out
           → PlanIn p t v
           × (Notes v p t (slicesIn p) v × (at + length (highRuns v p t (slicesIn p)) ≤ length o))

@@ -23,8 +23,8 @@ use Rattle.unit.specs.declared.RateControl.the-variants.{Lossless, FixedQuantIn
 use Rattle.unit.specs.Three.{Three}
 use Rattle.unit.specs.Plan.{SlicePlan}
 use Rattle.unit.specs.Laws.Valid.{target-few}
-use Rattle.unit.specs.Parameters.{parameterBytes}
-use Rattle.unit.specs.HighQuality.{needOf, sliceSize, highBits, largestNeed, scalerFrom}
+use Rattle.unit.specs.Parameters.{overhead}
+use Rattle.unit.specs.HighQuality.{sliceSizeBy, needOf, sliceSize, highBits, largestNeed, scalerFrom}
 use Rattle.unit.specs.Laws.HighQuality.{length-high, next-rises}
 use Rattle.unit.specs.Unit.{majorVersion, highParameters, targetOf}
 use Rattle.picture.specs.declared.slices.layout.Picture.{Picture}
@@ -45,13 +45,13 @@ bytes-high p c q z h = length-toBytes (highBits p c q z) ∙ ap (λ (k : ℕ). k
 
 -- a slice's size by the needs of its components
 pub size-needs : (p c : ℕ) (z : Three (List ℤ)) (n : Needs) → NeedsOf z n
-    → sliceSize p c z ≡ 4 + p + (ceiling (n .y) c * c + ceiling (n .c1) c * c + ceiling (n .c2) c * c)
+    → sliceSize p c z ≡ sliceSizeBy p c (n .y) (n .c1) (n .c2)
 unfolding sliceSize
 size-needs p c z n h = rw (h .y, h .c1, h .c2)
 
 -- planned behind others, by its numbers z, which need n, and its index q
 plans-on : (p c q : ℕ) (z : Three (List ℤ)) (n : Needs) (b : SliceCoder) (size most words : ℕ) → 1 ≤ c → NeedsOf z n
-    → size ≡ 4 + p + (ceiling (n .y) c * c + ceiling (n .c1) c * c + ceiling (n .c2) c * c) → size ≤ 2 ^ 34
+    → size ≡ sliceSizeBy p c (n .y) (n .c1) (n .c2) → size ≤ 2 ^ 34
     → most ≡ max (max (n .y) (max (n .c1) (n .c2))) (b .largest) → words ≡ length (sliceWords z)
     → PlansOn (record { index = q; numbers = z; kept = z; bits = highBits p c q z }) b
     (record { at = b .at + size; «cut_slices» = b .«cut_slices»; largest = most; index = q; words = b .words + words })
@@ -72,14 +72,14 @@ words-are z q =
 
 -- as the code puts it together, by the needs n of choice c
 pub planned-is : (t : Terms) (c : Choice) (b : SliceCoder) (n : Needs) (size most words : ℕ) → n ≡ needsBy (c .y .bits) (c .c1 .bits) (c .c2 .bits)
-    → size ≡ 4 + t .prefix + (ceiling (n .y) (t .scaler) * t .scaler + ceiling (n .c1) (t .scaler) * t .scaler + ceiling (n .c2) (t .scaler) * t .scaler)
+    → size ≡ sliceSizeBy (t .prefix) (t .scaler) (n .y) (n .c1) (n .c2)
     → size ≤ 2 ^ 34 → most ≡ max (max (n .y) (max (n .c1) (n .c2))) (b .largest) → words ≡ wordsOf c
     → (_≡_ {A = SliceCoder} (record { at = b .at + size; «cut_slices» = b .«cut_slices»; largest = most; index = c .index; words = b .words + words }) (plannedBy t c b))
     × (b .at + size ≤ b .at + 2 ^ 34)
 planned-is t c b n size most words e d l m k = (
   ap (λ (k : ℕ). record { at = b .at + size; «cut_slices» = b .«cut_slices»; largest = most; index = c .index; words = b .words + k }) k
       ∙ ap₂ (λ (s m : ℕ). record { at = b .at + s; «cut_slices» = b .«cut_slices»; largest = m; index = c .index; words = b .words + wordsOf c })
-      (d ∙ ap (λ (n : Needs). 4 + t .prefix + (ceiling (n .y) (t .scaler) * t .scaler + ceiling (n .c1) (t .scaler) * t .scaler + ceiling (n .c2) (t .scaler) * t .scaler)) e)
+      (d ∙ ap (λ (n : Needs). sliceSizeBy (t .prefix) (t .scaler) (n .y) (n .c1) (n .c2)) e)
       (m ∙ ap (λ (n : Needs). max (max (n .y) (max (n .c1) (n .c2))) (b .largest)) e),
   omega (arith, l),
 )
@@ -94,7 +94,7 @@ slice-planned w p t k c b r some few e d near =
     let c = choiceBy z i in
     let n : Needs = needsBy (c .y .bits) (c .c1 .bits) (c .c2 .bits) in
     let s : ℕ = t .scaler in
-    let size : ℕ = 4 + t .prefix + (ceiling (n .y) s * s + ceiling (n .c1) s * s + ceiling (n .c2) s * s) in
+    let size : ℕ = sliceSizeBy (t .prefix) s (n .y) (n .c1) (n .c2) in
     let f : r ≡ plannedBy t (choiceIn w p t k) b = d ∙ ap (λ (c : Choice). plannedBy t c b) e in
     let l : b .at + size ≤ b .at + 2 ^ 34 = subst (λ (r : SliceCoder). r .at ≤ b .at + 2 ^ 34) f near in
     subst (PlansOn (planIn w p t k) b) (sym f)
@@ -151,7 +151,7 @@ plans-same w p t u i j n r e f h = subst (λ (k : ℕ). PlansTo w p u k n r) f (
 -- ---- a call's terms
 -- where the slices begin with scaler c
 abbrev pub slicesFrom : Settings → List ℕ → ℕ → ℕ
-slicesFrom s m c = 17 + parameterBytes (majorVersion s) (highParameters s m c)
+slicesFrom s m c = overhead (majorVersion s) (highParameters s m c)
 
 -- the terms with scaler c, by the target and by where the slices begin
 pub terms-are : (s : Settings) (m : List ℕ) (c bytes target taken : ℕ) → bytes ≡ target - taken → target ≡ targetOf (s .rate) → taken ≡ slicesFrom s m c

@@ -33,7 +33,7 @@ use Rattle.unit.specs.declared.PictureKind.{PictureKind}
 use Rattle.unit.specs.declared.PictureKind.the-variants.{LowDelay}
 use Rattle.unit.specs.declared.Coded.{Coded}
 use Rattle.unit.specs.declared.Answer.the-variants.{Accepted, Refused}
-use Rattle.unit.specs.Parameters.{lowDelay, Parameters, parameterBytes}
+use Rattle.unit.specs.Parameters.{lowDelay, Parameters, overhead}
 use Rattle.unit.specs.Matrix.{matrixValues}
 use Rattle.unit.specs.Coefficients.{coefficientsOf}
 use Rattle.unit.specs.Code.Valid.{RateFits}
@@ -352,11 +352,11 @@ module _ {s : Settings} {m : List ℕ} (called : Called s m) (low : s .kind ≡ 
         ∙ ap (codedBy (lengthOf s (planOf s m pl)) (cutCount (planOf s m pl))) scaler-is
 
     -- the slices take the numerator
-    length-low : lengthOf s (planOf s m pl) ≡ 17 + parameterBytes (majorVersion s) (lowParameters s m (numeratorOf s m)) + numeratorOf s m
+    length-low : lengthOf s (planOf s m pl) ≡ overhead (majorVersion s) (lowParameters s m (numeratorOf s m)) + numeratorOf s m
     length-low =
         let n = numeratorOf s m in
         let g = gridOf s in
-        let o : ℕ = 17 + parameterBytes (majorVersion s) (lowParameters s m n) in
+        let o : ℕ = overhead (majorVersion s) (lowParameters s m n) in
         ap (lengthOf s) plan-is ∙ length-is s (planBy s m LowDelay bands)
         ∙ ap (λ (k : ℕ). o + k) (ap total (low-bytes g (matrixValues s m) bands n zeroPlanes 0 (sliceCount g) slices-some numerator-some) ∙ bytes-all n (sliceCount g) slices-some)
 
@@ -390,7 +390,7 @@ pub record Worked (s : Settings) (m : List ℕ) (p : Picture) (w : List ℤ) (n 
   pub coding : Coding s m LowDelay p w
   pub numerator : n ≡ numeratorOf s m
   pub slices : d ≡ slicesIn p
-  pub long : l ≡ 17 + parameterBytes (majorVersion s) (parametersBy s m (lowDelay n d)) + n
+  pub long : l ≡ overhead (majorVersion s) (parametersBy s m (lowDelay n d)) + n
 
 module _ {s : Settings} {m : List ℕ} {p : Picture} {w : List ℤ} {n d l : ℕ} (h : Worked s m p w n d l) where
   abbrev worked-parameters : Parameters
@@ -403,7 +403,7 @@ module _ {s : Settings} {m : List ℕ} {p : Picture} {w : List ℤ} {n d l : ℕ
   -- the length, whatever the planes
   same-length : (pl : Three (List ℕ)) → l ≡ lengthOf s (planOf s m pl)
   same-length pl =
-      h .long ∙ ap₂ (λ (t : Parameters) (n : ℕ). 17 + parameterBytes (majorVersion s) t + n) same-parameters (h .numerator)
+      h .long ∙ ap₂ (λ (t : Parameters) (n : ℕ). overhead (majorVersion s) t + n) same-parameters (h .numerator)
       ∙ sym (length-low (h .coding .called) (h .coding .same) pl)
 
   same-refusal : (out : List ℕ) (pl : Three (List ℕ)) → codingRefusal (length out) l ≡ codingRefusal (length out) (lengthOf s (planOf s m pl))
@@ -418,14 +418,14 @@ module _ {s : Settings} {m : List ℕ} {p : Picture} {w : List ℤ} {n d l : ℕ
   low-refused out r e h = record { codes = λ pl an. codes-refused s (planOf s m pl) out r (e ∙ same-refusal out pl) h }
 
   -- the head at the output's start, and the slices behind it
-  pub low-written : (out o o′ : List ℕ) (at r c : ℕ) → codingRefusal (length out) l ≡ 0 → at ≡ 17 + parameterBytes (majorVersion s) (parametersBy s m (lowDelay n d))
+  pub low-written : (out o o′ : List ℕ) (at r c : ℕ) → codingRefusal (length out) l ≡ 0 → at ≡ overhead (majorVersion s) (parametersBy s m (lowDelay n d))
       → o ≡ toBytes (headBits s l (parametersBy s m (lowDelay n d))) ++ drop at out → Lays o at (lowRuns p n w (slicesIn p)) o′ r → c ≡ cutsIn p n w (slicesIn p)
       → CodesAny s m w out o′ (Accepted (record { written = l; «cut_slices» = c; «slice_size_scaler» = s .«slice_size_scaler» }))
   low-written out o o′ at r c e ea eo lays ec = record {
     codes = λ pl an.
         let et = same-parameters ∙ parameters-are called low pl in
         codes-written s (planOf s m pl) out l at r o o′ (codedBy l c (s .«slice_size_scaler»)) (sym (same-refusal out pl) ∙ e) (same-length pl)
-        (ea ∙ ap (λ (t : Parameters). 17 + parameterBytes (majorVersion s) t) et)
+        (ea ∙ ap (λ (t : Parameters). overhead (majorVersion s) t) et)
         (eo ∙ ap (λ (t : Parameters). toBytes (headBits s l t) ++ drop at out) et)
         (subst (λ (v : List ℕ). Lays o at v o′ r)
         (ap₂ (λ (p : Picture) (n : ℕ). lowRuns p n w (slicesIn p)) (h .coding .picture) (h .numerator) ∙ runs-are called low pl w an) lays)

@@ -23,7 +23,7 @@ use Rattle.codewords.specs.Bytes.{toBytes}
 use Rattle.unit.specs.declared.Settings.{Settings}
 use Rattle.unit.specs.Three.{Three}
 use Rattle.unit.specs.HighQuality.{shareOf, largestNeed, scalerFrom}
-use Rattle.unit.specs.Parameters.{parameterBytes}
+use Rattle.unit.specs.Parameters.{overhead}
 use Rattle.unit.specs.Unit.{majorVersion, highParameters}
 use Rattle.unit.specs.Plan.{SlicePlan}
 use Rattle.picture.specs.declared.slices.layout.Component.{Component}
@@ -441,5 +441,5 @@ settles-after {w} {v} {p} {t} {n} {s} {m} {r} h o z =
       some = z .some;
       few = z .few;
       fits = subst (λ (F : ℕ → List SlicePlan). largestNeed (F (r .scaler)) ≤ 255 * r .scaler) e (z .fits);
-      end = z .end ∙ ap (λ (b : List ℕ). 17 + parameterBytes (majorVersion s) (highParameters s m (r .scaler)) + length b) (runs-alike p w v h (o .same) (termsOf s m (r .scaler)));
+      end = z .end ∙ ap (λ (b : List ℕ). overhead (majorVersion s) (highParameters s m (r .scaler)) + length b) (runs-alike p w v h (o .same) (termsOf s m (r .scaler)));
     }

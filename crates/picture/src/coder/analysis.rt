@@ -7,7 +7,7 @@ use unit::PictureKind;
 use unit::Settings;
 use wavelet::component::Transform;
 ghost use mathlib.Core.Path.{_≡_};
-ghost use Prim.Native.Nat.{_+_, _*_, _≤_, _<_, _^_};
+ghost use Prim.Native.Nat.{_+_, _≤_, _^_};
 ghost use lib.IntN.{pos};
 ghost use lib.ListN.{length, replicate};
 ghost use Rattle.unit.specs.Sizes.{area, offsetOf, intlog2};

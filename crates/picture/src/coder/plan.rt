@@ -6,8 +6,8 @@ use crate::slices::layout::Picture;
 use unit::RateControl;
 use unit::Settings;
 ghost use mathlib.Core.Path.{_≡_};
-ghost use Prim.Native.Nat.{_+_, _^_, _≤_};
-ghost use Rattle.unit.specs.Parameters.{parameterBytes};
+ghost use Prim.Native.Nat.{_^_, _≤_};
+ghost use Rattle.unit.specs.Parameters.{overhead};
 ghost use Rattle.unit.specs.Unit.{majorVersion, highParameters};
 ghost use Rattle.picture.specs.Code.Head.{CanCarry};
 ghost use Rattle.picture.specs.Code.Picture.{slicesIn};
@@ -45,7 +45,7 @@ pub(crate) fn terms_of(s: Settings, matrix: &[u32], c: u32) -> Terms
 fn plan_picture(s: Settings, matrix: &[u32], work: &mut [i64], p: Picture, c: u32) -> SliceCoder
     requires { ⌜ HighIn s p (now work) × (CanCarry s (now matrix) × ((1 ≤ c) × (c ≤ 2 ^ 24))) ⌝ }
     ensures { λ r. ⌜ PlansTo (now (work .entry)) p (termsOf s (now (matrix .entry)) c)
-        (17 + parameterBytes (majorVersion s) (highParameters s (now (matrix .entry)) c)) (slicesIn p) r
+        (overhead (majorVersion s) (highParameters s (now (matrix .entry)) c)) (slicesIn p) r
         × Notes (now (work .entry)) p (termsOf s (now (matrix .entry)) c) (slicesIn p) (now (work .exit)) ⌝ }
 {
     let t = terms_of(s, matrix, c);
@@ -74,7 +74,7 @@ fn plan_again(s: Settings, matrix: &[u32], work: &mut [i64], p: Picture, c: u32)
     requires { ⌜ HighIn s p (now work) × (CanCarry s (now matrix) × (((1 ≤ c) × (c ≤ 2 ^ 24))
         × Standing s p (now work))) ⌝ }
     ensures { λ r. ⌜ PlansTo (now (work .entry)) p (termsOf s (now (matrix .entry)) c)
-        (17 + parameterBytes (majorVersion s) (highParameters s (now (matrix .entry)) c)) (slicesIn p) r
+        (overhead (majorVersion s) (highParameters s (now (matrix .entry)) c)) (slicesIn p) r
         × Notes (now (work .entry)) p (termsOf s (now (matrix .entry)) c) (slicesIn p) (now (work .exit)) ⌝ }
 {
     let rate = s.rate;

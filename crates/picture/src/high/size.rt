@@ -1,9 +1,9 @@
 // The bytes of a high-quality slice: what its components need, its size, and its share of the target.
 use unit::RateControl;
 ghost use mathlib.Core.Path.{_≡_};
-ghost use Prim.Native.Nat.{_+_, _*_, _^_, _≤_, max};
+ghost use Prim.Native.Nat.{_*_, _^_, _≤_, max};
 ghost use Rattle.laws.specs.Ceiling.{ceiling};
-ghost use Rattle.unit.specs.HighQuality.{shareOf};
+ghost use Rattle.unit.specs.HighQuality.{sliceSizeBy, shareOf};
 ghost use Rattle.picture.specs.Code.Choice.{needsBy, TermsIn};
 
 // The bytes that the components of a slice need.
@@ -66,7 +66,7 @@ pub(crate) fn scalers(n: u64, c: u32) -> u64
 // The bytes of a slice, by the needs of its components.
 pub(crate) fn slice_size(z: Needs, t: Terms) -> u64
     requires { ⌜ ((z .y ≤ 2 ^ 30) × ((z .c1 ≤ 2 ^ 30) × (z .c2 ≤ 2 ^ 30))) × TermsIn t ⌝ }
-    ensures { λ r. ⌜ (r ≡ 4 + t .prefix + (ceiling (z .y) (t .scaler) * t .scaler + ceiling (z .c1) (t .scaler) * t .scaler + ceiling (z .c2) (t .scaler) * t .scaler)) × (r ≤ 2 ^ 34) ⌝ }
+    ensures { λ r. ⌜ (r ≡ sliceSizeBy (t .prefix) (t .scaler) (z .y) (z .c1) (z .c2)) × (r ≤ 2 ^ 34) ⌝ }
 {
     let c = t.scaler as u64;
     let y = scalers(z.y, t.scaler) * c;

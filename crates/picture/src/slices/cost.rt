@@ -1,7 +1,7 @@
 // What a slice's numbers cost, in bits.
 use crate::slices::strip::Strip;
 ghost use mathlib.Core.Path.{_≡_};
-ghost use Prim.Native.Nat.{_+_, _*_, _-_, _≤_, _<_, _^_};
+ghost use Prim.Native.Nat.{_*_, _-_, _≤_, _<_, _^_};
 ghost use Rattle.picture.specs.Code.Strip.{secondNumber, placeNumbers, rowNumbers, stripNumbers, Small, Within, Inside};
 ghost use Rattle.picture.specs.Code.Cost.{noCost, fitted, addLen, addAll, Countable, Kept};
 

@@ -28,7 +28,7 @@ use Rattle.unit.specs.Sizes.{Size, sizesOf, depthsOf, offsetOf}
 use Rattle.unit.specs.Subbands.{paddedSize}
 use Rattle.unit.specs.Matrix.{defaultOf, matrixValues, carriedMatrix}
 use Rattle.unit.specs.Refusal.{refusalOf}
-use Rattle.unit.specs.Parameters.{SliceParameters, Parameters, parameterBytes}
+use Rattle.unit.specs.Parameters.{SliceParameters, Parameters, overhead}
 use Rattle.unit.specs.Coefficients.{bandsOf, coefficientsOf}
 use Rattle.unit.specs.Quantised.{sizeOf}
 use Rattle.unit.specs.Plan.{Plan}
@@ -172,11 +172,11 @@ module _ (s : Settings) (m : List ℕ) (p : Three (List ℕ)) (work : List ℤ) 
 
     same : SameSlices (plan .slices) (reading .slices)
     unfolding readingOf
-    same = same-slices (17 + parameterBytes (majorVersion s) (plan .parameters)) (plan .slices)
+    same = same-slices (overhead (majorVersion s) (plan .parameters)) (plan .slices)
 
-    placed : Follow (17 + parameterBytes (majorVersion s) (plan .parameters)) (reading .slices) (length (unitOf s plan))
+    placed : Follow (overhead (majorVersion s) (plan .parameters)) (reading .slices) (length (unitOf s plan))
     unfolding readingOf lengthOf
-    placed = rw (length-unit s plan) (follow-on (17 + parameterBytes (majorVersion s) (plan .parameters)) (plan .slices) (fulls s plan sound))
+    placed = rw (length-unit s plan) (follow-on (overhead (majorVersion s) (plan .parameters)) (plan .slices) (fulls s plan sound))
 
     near-all : Undropped plan → (c : Component)
         → NearBands (gridOf s) (matrixValues s m) (planIndex plan) 0 (pick c (coefficientsOf s p)) (pick c (readBands (sizesOf s) reading))

@@ -6,7 +6,6 @@ use mathlib.Core.List.{List, [], _∷_, _++_}
 use Prim.Native.Nat.{ℕ, zero, suc}
 use native.Mathlib.Omega.{arith}
 use Rattle.unit.specs.Rules.{Rule, rule, first, orElse}
-use Rattle.unit.specs.Laws.Test.{no-truth}
 
 abbrev pub Some : ℕ → Type 0
 Some zero = ⊥

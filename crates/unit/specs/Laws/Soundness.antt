@@ -21,7 +21,7 @@ use Rattle.unit.specs.Sizes.{Size, lumaSize, sizesOf}
 use Rattle.unit.specs.Slices.{Grid, sliceCount}
 use Rattle.unit.specs.Matrix.{matrixValues}
 use Rattle.unit.specs.Refusal.{paddedArea}
-use Rattle.unit.specs.Parameters.{SliceParameters, lowDelay, highQuality, parameterBytes}
+use Rattle.unit.specs.Parameters.{SliceParameters, lowDelay, highQuality, overhead}
 use Rattle.unit.specs.Coefficients.{bandsOf, coefficientsOf}
 use Rattle.unit.specs.Quantised.{sizeOf}
 use Rattle.unit.specs.Plan.{SlicePlan, Plan}
@@ -150,7 +150,7 @@ length-runs [] = refl
 length-runs (a ∷ ss) = length-append (toBytes (a .bits)) (flatten (sliceRuns ss)) ∙ ap₂ _+_ (length-toBytes (a .bits)) (length-runs ss)
 
 -- a unit is its overhead and its slices' bytes
-pub length-is : (s : Settings) (a : Plan) → lengthOf s a ≡ 17 + parameterBytes (majorVersion s) (a .parameters) + total (map bytesOf (a .slices))
+pub length-is : (s : Settings) (a : Plan) → lengthOf s a ≡ overhead (majorVersion s) (a .parameters) + total (map bytesOf (a .slices))
 unfolding lengthOf
 length-is s a = rw (length-runs (a .slices))
 
@@ -180,7 +180,7 @@ module _ (s : Settings) (m : List ℕ) (p : Three (List ℕ)) where
       takes (gridOf s) (matrixValues s m) b (s .«slice_prefix_bytes») (s .rate) c (highBytes s m c)
 
   abbrev pub highOverhead : ℕ
-  highOverhead = 17 + parameterBytes (majorVersion s) (highParameters s m (scalerOf s m (coefficientsOf s p)))
+  highOverhead = overhead (majorVersion s) (highParameters s m (scalerOf s m (coefficientsOf s p)))
 
 -- a slice takes at least 4 bytes, and a share of 0 bytes is 0
 taken-some : (s : Settings) (m : List ℕ) (p : Three (List ℕ)) (k : ℕ) → 4 ≤ takenBy s m p k

@@ -18,7 +18,7 @@ use Rattle.unit.specs.declared.PictureKind.the-variants.{LowDelay, HighQ
 use Rattle.unit.specs.Three.{Three}
 use Rattle.unit.specs.Sizes.{Size, sizesOf}
 use Rattle.unit.specs.Slices.{sliceCount}
-use Rattle.unit.specs.Parameters.{Parameters, parameterBits, parameterBytes, fill}
+use Rattle.unit.specs.Parameters.{Parameters, parameterBits, parameterBytes, overhead, fill}
 use Rattle.unit.specs.Laws.Parameter.{reads-parameters}
 use Rattle.unit.specs.Plan.{SlicePlan, Plan}
 use Rattle.unit.specs.Unit.{majorVersion, parseCode, sliceRuns, headBits, lengthOf, unitOf}
@@ -117,7 +117,7 @@ full-head s n t =
     (full-fill (parameterBits (majorVersion s) t))))))
 
 -- how many bits the head has
-length-head : (s : Settings) (n : ℕ) (t : Parameters) → length (headBits s n t) ≡ 8 * (17 + parameterBytes (majorVersion s) t)
+length-head : (s : Settings) (n : ℕ) (t : Parameters) → length (headBits s n t) ≡ 8 * (overhead (majorVersion s) t)
 unfolding headBits parameterBytes
 length-head s n t =
     let b = parameterBits (majorVersion s) t in
@@ -181,7 +181,7 @@ readingOf s a = record {
   kind = s .kind;
   number = s .«picture_number»;
   parameters = a .parameters;
-  slices = readsFrom (17 + parameterBytes (majorVersion s) (a .parameters)) (a .slices);
+  slices = readsFrom (overhead (majorVersion s) (a .parameters)) (a .slices);
 }
 
 length-runs : (ss : List SlicePlan) → AllFull ss → 8 * length (flatten (sliceRuns ss)) ≡ length (allBits ss)
@@ -193,8 +193,8 @@ length-runs (a ∷ more) f =
 pub length-unit : (s : Settings) (a : Plan) → length (unitOf s a) ≡ lengthOf s a
 unfolding unitOf lengthOf
 length-unit s a =
-    let h = headBits s (17 + parameterBytes (majorVersion s) (a .parameters) + length (flatten (sliceRuns (a .slices)))) (a .parameters) in
-    omega (arith, length-append (toBytes h) (flatten (sliceRuns (a .slices))), length-toBytes h, length-head s (17 + parameterBytes (majorVersion s) (a .parameters) + length (flatten (sliceRuns (a .slices)))) (a .parameters))
+    let h = headBits s (overhead (majorVersion s) (a .parameters) + length (flatten (sliceRuns (a .slices)))) (a .parameters) in
+    omega (arith, length-append (toBytes h) (flatten (sliceRuns (a .slices))), length-toBytes h, length-head s (overhead (majorVersion s) (a .parameters) + length (flatten (sliceRuns (a .slices)))) (a .parameters))
 
 module _ (s : Settings) (a : Plan) (o : Sound s a) where
   pub fulls : AllFull (a .slices)
@@ -211,7 +211,7 @@ module _ (s : Settings) (a : Plan) (o : Sound s a) where
       ∙ ap₂ _++_ (from-to (headBits s (lengthOf s a) (a .parameters)) (full-head s (lengthOf s a) (a .parameters))) (from-flatten (a .slices) fulls)
       ∙ simp append-assoc
 
-  unit-long : 8 * lengthOf s a ≡ 8 * (17 + parameterBytes (majorVersion s) (a .parameters)) + length (allBits (a .slices))
+  unit-long : 8 * lengthOf s a ≡ 8 * (overhead (majorVersion s) (a .parameters)) + length (allBits (a .slices))
   unfolding lengthOf
   unit-long = omega (arith, length-runs (a .slices) fulls)
 
@@ -221,8 +221,8 @@ module _ (s : Settings) (a : Plan) (o : Sound s a) where
   reads-unit =
       ap₂ (λ (n : ℕ) (w : Bits). readPicture (sizesOf s) (majorVersion s) n w) (length-unit s a) unit-bits
       ∙ read-all (sizesOf s) (majorVersion s) (lengthOf s a) (s .«prev_unit_len») (s .«picture_number») (s .kind) (a .parameters) (a .slices)
-      (o .long) (o .previous) (o .number) (o .legal) (o .many) (o .slices) (17 + parameterBytes (majorVersion s) (a .parameters)) unit-long .is
-      ∙ ap (λ (k : PictureKind). got (record { kind = k; number = s .«picture_number»; parameters = a .parameters; slices = readsFrom (17 + parameterBytes (majorVersion s) (a .parameters)) (a .slices) }) [])
+      (o .long) (o .previous) (o .number) (o .legal) (o .many) (o .slices) (overhead (majorVersion s) (a .parameters)) unit-long .is
+      ∙ ap (λ (k : PictureKind). got (record { kind = k; number = s .«picture_number»; parameters = a .parameters; slices = readsFrom (overhead (majorVersion s) (a .parameters)) (a .slices) }) [])
       (code-kind (s .kind))
 
 -- ---- what is read of the slices is what was planned
