@@ -1,3 +1,4 @@
+pub mod Limits
 pub mod Three
 pub mod Sizes
 pub mod Subbands

@@ -9,6 +9,7 @@ use Rattle.unit.specs.declared.Settings.{Settings}
 use Rattle.unit.specs.declared.Coded.{Coded}
 use Rattle.unit.specs.declared.Answer.{Answer}
 use Rattle.unit.specs.declared.Answer.the-variants.{Accepted, Refused}
+use Rattle.unit.specs.Limits.{unitLimit}
 use Rattle.unit.specs.Three.{Three}
 use Rattle.unit.specs.Rules.{Rule, rule, first}
 use Rattle.unit.specs.Refusal.{refusalOf}
@@ -54,7 +55,7 @@ pub record Outcome : Type 0 where
 -- the rules that are decided while coding, by the length n of the unit and len of the output: 14, the unit is longer
 -- than the output, or than 4,294,967,295 bytes
 abbrev pub codingRules : ℕ → ℕ → List Rule
-codingRules len n = rule 14 (ltb len n || ltb 4294967295 n) ∷ []
+codingRules len n = rule 14 (ltb len n || ltb unitLimit n) ∷ []
 
 -- the number of the first of them that is broken; 0 where none is
 abbrev pub codingRefusal : ℕ → ℕ → ℕ

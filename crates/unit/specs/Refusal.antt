@@ -12,6 +12,7 @@ use Rattle.unit.specs.declared.PictureKind.{PictureKind}
 use Rattle.unit.specs.declared.PictureKind.the-variants.{LowDelay, HighQuality}
 use Rattle.unit.specs.declared.RateControl.{RateControl}
 use Rattle.unit.specs.declared.RateControl.the-variants.{Lossless, FixedQuantIndex, PictureBytes}
+use Rattle.unit.specs.Limits.{lastWavelet, sideLimit, sliceLimit, prefixLimit, lastIndex, targetLimit, lastFormat, lastMode, valueLimit, areaLimit}
 use Rattle.unit.specs.Three.{Three}
 use Rattle.unit.specs.Sizes.{Size, area, lumaSize, colourSize}
 use Rattle.unit.specs.Subbands.{paddedSize, subbandCount}
@@ -21,25 +22,6 @@ use Rattle.unit.specs.Rules.{Rule, rule, first}
 -- whether n is not from 1 to most
 abbrev pub outside : ℕ → ℕ → Bool
 outside most n = eqb n 0 || ltb most n
-
--- rule 5: low delay without a picture's bytes
-abbrev pub noTarget : PictureKind → RateControl → Bool
-noTarget HighQuality r = false
-noTarget LowDelay Lossless = true
-noTarget LowDelay (FixedQuantIndex i) = true
-noTarget LowDelay (PictureBytes n) = false
-
--- rule 6: the fixed index
-abbrev pub badIndex : RateControl → Bool
-badIndex Lossless = false
-badIndex (FixedQuantIndex i) = ltb 255 i
-badIndex (PictureBytes n) = false
-
--- rule 7: the picture's bytes
-abbrev pub badTarget : RateControl → Bool
-badTarget Lossless = false
-badTarget (FixedQuantIndex i) = false
-badTarget (PictureBytes n) = ltb 1073741824 n
 
 -- whether a value is above most
 abbrev pub anyAbove : ℕ → List ℕ → Bool
@@ -58,15 +40,77 @@ paddedArea s z = area (paddedSize (s .«dwt_depth_ho») (s .«dwt_depth») z)
 unfoldable pub workNeeded : Settings → ℕ
 workNeeded s = 3 * (paddedArea s (lumaSize s) + paddedArea s (colourSize s) + paddedArea s (colourSize s))
 
+-- ---- what breaks each rule
+-- 1: a wavelet index
+abbrev pub badWavelets : Settings → Bool
+badWavelets s = ltb lastWavelet (s .«wavelet_index») || ltb lastWavelet (s .«wavelet_index_ho»)
+
+-- 2: the depths
+abbrev pub badDepths : Settings → Bool
+badDepths s = tooDeep (s .«wavelet_index») (s .«wavelet_index_ho») (s .«dwt_depth») (s .«dwt_depth_ho»)
+
+-- 3: slices across, down, and all of them
+abbrev pub badSlices : Settings → Bool
+badSlices s = outside sideLimit (s .«slices_x») || (outside sideLimit (s .«slices_y») || ltb sliceLimit (s .«slices_x» * s .«slices_y»))
+
+-- 4: scaler and prefix bytes
+abbrev pub badSizes : Settings → Bool
+badSizes s = outside sideLimit (s .«slice_size_scaler») || ltb prefixLimit (s .«slice_prefix_bytes»)
+
+-- 5: low delay without a picture's bytes
+abbrev pub noTarget : PictureKind → RateControl → Bool
+noTarget HighQuality r = false
+noTarget LowDelay Lossless = true
+noTarget LowDelay (FixedQuantIndex i) = true
+noTarget LowDelay (PictureBytes n) = false
+
+-- 6: the fixed index
+abbrev pub badIndex : RateControl → Bool
+badIndex Lossless = false
+badIndex (FixedQuantIndex i) = ltb (lastIndex HighQuality) i
+badIndex (PictureBytes n) = false
+
+-- 7: the picture's bytes
+abbrev pub badTarget : RateControl → Bool
+badTarget Lossless = false
+badTarget (FixedQuantIndex i) = false
+badTarget (PictureBytes n) = ltb targetLimit n
+
+-- 8: format, mode, frame, excursions, or a component without samples
+abbrev pub badFrame : Settings → Bool
+badFrame s =
+    ltb lastFormat (s .«color_diff_format») || (ltb lastMode (s .«picture_coding_mode»)
+    || (outside sideLimit (s .«frame_width») || (outside sideLimit (s .«frame_height»)
+    || (outside sideLimit (s .«luma_excursion») || (outside sideLimit (s .«color_diff_excursion»)
+    || (eqb (area (lumaSize s)) 0 || eqb (area (colourSize s)) 0))))))
+
+-- 9: a custom matrix of another count, or with a value that is too large
+abbrev pub badMatrix : Settings → List ℕ → Bool
+badMatrix s m =
+    s .«custom_matrix» && (not (eqb (length m) (subbandCount (s .«dwt_depth_ho») (s .«dwt_depth»))) || anyAbove valueLimit m)
+
+-- 10: the default matrix is asked for, and Annex D has none
+abbrev pub noMatrix : Settings → Bool
+noMatrix s = not (s .«custom_matrix») && isNone (defaultOf s)
+
+-- 11: luma's padded area
+abbrev pub badArea : Settings → Bool
+badArea s = ltb areaLimit (paddedArea s (lumaSize s))
+
+-- 12: a plane of another length
+abbrev pub badPlanes : Settings → Three (List ℕ) → Bool
+badPlanes s p =
+    not (eqb (length (p .y)) (area (lumaSize s)))
+    || (not (eqb (length (p .c1)) (area (colourSize s))) || not (eqb (length (p .c2)) (area (colourSize s))))
+
+-- 13: the work slice
+abbrev pub shortWork : Settings → List ℤ → Bool
+shortWork s work = ltb (length work) (workNeeded s)
+
 -- ---- the rules, in checking order
 -- wavelets, depths and slices
 abbrev pub shapeRules : Settings → List Rule
-shapeRules s =
-    rule 1 (ltb 6 (s .«wavelet_index») || ltb 6 (s .«wavelet_index_ho»))
-    ∷ rule 2 (tooDeep (s .«wavelet_index») (s .«wavelet_index_ho») (s .«dwt_depth») (s .«dwt_depth_ho»))
-    ∷ rule 3 (outside 65535 (s .«slices_x») || (outside 65535 (s .«slices_y») || ltb 1048576 (s .«slices_x» * s .«slices_y»)))
-    ∷ rule 4 (outside 65535 (s .«slice_size_scaler») || ltb 255 (s .«slice_prefix_bytes»))
-    ∷ []
+shapeRules s = rule 1 (badWavelets s) ∷ rule 2 (badDepths s) ∷ rule 3 (badSlices s) ∷ rule 4 (badSizes s) ∷ []
 
 -- kind and rate
 abbrev pub rateRules : PictureKind → RateControl → List Rule
@@ -74,29 +118,15 @@ rateRules k r = rule 5 (noTarget k r) ∷ rule 6 (badIndex r) ∷ rule 7 (badTar
 
 -- the frame and its samples
 abbrev pub frameRules : Settings → List Rule
-frameRules s =
-    rule 8 (ltb 2 (s .«color_diff_format») || (ltb 1 (s .«picture_coding_mode»)
-    || (outside 65535 (s .«frame_width») || (outside 65535 (s .«frame_height»)
-    || (outside 65535 (s .«luma_excursion») || (outside 65535 (s .«color_diff_excursion»)
-    || (eqb (area (lumaSize s)) 0 || eqb (area (colourSize s)) 0)))))))
-    ∷ []
+frameRules s = rule 8 (badFrame s) ∷ []
 
 -- the matrix, lent or of Annex D
 abbrev pub matrixRules : Settings → List ℕ → List Rule
-matrixRules s m =
-    rule 9 (s .«custom_matrix» && (not (eqb (length m) (subbandCount (s .«dwt_depth_ho») (s .«dwt_depth»))) || anyAbove 255 m))
-    ∷ rule 10 (not (s .«custom_matrix») && isNone (defaultOf s))
-    ∷ []
+matrixRules s m = rule 9 (badMatrix s m) ∷ rule 10 (noMatrix s) ∷ []
 
 -- the padded area, and what is lent: the planes and the work slice
 abbrev pub memoryRules : Settings → Three (List ℕ) → List ℤ → List Rule
-memoryRules s p work =
-    let z = area (lumaSize s) in
-    let c = area (colourSize s) in
-    rule 11 (ltb 67108864 (paddedArea s (lumaSize s)))
-    ∷ rule 12 (not (eqb (length (p .y)) z) || (not (eqb (length (p .c1)) c) || not (eqb (length (p .c2)) c)))
-    ∷ rule 13 (ltb (length work) (workNeeded s))
-    ∷ []
+memoryRules s p work = rule 11 (badArea s) ∷ rule 12 (badPlanes s p) ∷ rule 13 (shortWork s work) ∷ []
 
 abbrev pub rules : Settings → List ℕ → Three (List ℕ) → List ℤ → List Rule
 rules s m p work = shapeRules s ++ (rateRules (s .kind) (s .rate) ++ (frameRules s ++ (matrixRules s m ++ memoryRules s p work)))

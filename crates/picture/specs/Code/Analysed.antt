@@ -12,6 +12,7 @@ use Rattle.wavelet.specs.Depth.{depthLimit, deepest}
 use Rattle.unit.specs.declared.Settings.{Settings}
 use Rattle.unit.specs.declared.PictureKind.{PictureKind}
 use Rattle.unit.specs.declared.PictureKind.the-variants.{LowDelay, HighQuality}
+use Rattle.unit.specs.Limits.{sideLimit, sliceLimit}
 use Rattle.unit.specs.Three.{Three}
 use Rattle.unit.specs.Sizes.{Size, area, lumaSize, colourSize}
 use Rattle.unit.specs.Subbands.{paddedSize}
@@ -75,10 +76,10 @@ pictureOf s m = record {
 -- what an accepted call's settings and matrix are
 pub record Called (s : Settings) (m : List ℕ) : Type 0 where
   pub depths : s .«dwt_depth» + s .«dwt_depth_ho» ≤ deepest
-  pub across : Between 65535 (s .«slices_x»)
-  pub down : Between 65535 (s .«slices_y»)
-  pub slices : s .«slices_x» * s .«slices_y» ≤ 1048576
-  pub scaler : Between 65535 (s .«slice_size_scaler»)
+  pub across : Between sideLimit (s .«slices_x»)
+  pub down : Between sideLimit (s .«slices_y»)
+  pub slices : s .«slices_x» * s .«slices_y» ≤ sliceLimit
+  pub scaler : Between sideLimit (s .«slice_size_scaler»)
   pub prefix : s .«slice_prefix_bytes» ≤ 255
   pub rate : RateFits (s .kind) (s .rate)
   pub luma : Sides s (lumaSize s)
@@ -92,8 +93,8 @@ pub record Ready (s : Settings) (p : Three (List ℕ)) (w : List ℤ) : Type 0 w
   pub depths : s .«dwt_depth» + s .«dwt_depth_ho» ≤ depthLimit (s .«wavelet_index_ho») (s .«wavelet_index»)
   pub luma : Sides s (lumaSize s)
   pub colour : Sides s (colourSize s)
-  pub luma-excursion : Between 65535 (s .«luma_excursion»)
-  pub colour-excursion : Between 65535 (s .«color_diff_excursion»)
+  pub luma-excursion : Between sideLimit (s .«luma_excursion»)
+  pub colour-excursion : Between sideLimit (s .«color_diff_excursion»)
   pub long-y : length (p .y) ≡ area (lumaSize s)
   pub long-c1 : length (p .c1) ≡ area (colourSize s)
   pub long-c2 : length (p .c2) ≡ area (colourSize s)

@@ -9,6 +9,7 @@ use Rattle.codewords.specs.Bit.{Bits, lit}
 use Rattle.codewords.specs.Code.{codeU}
 use Rattle.unit.specs.declared.Settings.{Settings}
 use Rattle.unit.specs.declared.PictureKind.{PictureKind}
+use Rattle.unit.specs.Limits.{sliceLimit}
 use Rattle.unit.specs.Slices.{sliceCount}
 use Rattle.unit.specs.Parameters.{flagged, SliceParameters, lowDelay, highQuality, overhead}
 use Rattle.unit.specs.LowDelay.{numeratorBy}
@@ -43,7 +44,7 @@ sliceIn (HighQuality p c) = highQuality p c
 -- what an accepted call has: few matrix values where one is asked for, and few slices
 pub record CanCarry (s : Settings) (m : List ℕ) : Type 0 where
   pub few : s .«custom_matrix» ≡ true → length m ≤ 25
-  pub slices : s .«slices_x» * s .«slices_y» ≤ 1048576
+  pub slices : s .«slices_x» * s .«slices_y» ≤ sliceLimit
 
 -- the head fits the output
 abbrev pub HeadRoom : Settings → List ℕ → code.SliceParameters → List ℕ → Type 0

@@ -8,6 +8,7 @@ use lib.IntN.{ℤ}
 use lib.ListN.{length, getD}
 use Rattle.quantiser.specs.Quant.{quantFactor, quantOffset, bandIndex}
 use Rattle.wavelet.specs.Depth.{deepest}
+use Rattle.unit.specs.Limits.{sideLimit}
 use Rattle.unit.specs.Sizes.{Size, area}
 use Rattle.unit.specs.Subbands.{levelSize}
 use Rattle.unit.specs.Slices.{Grid, sliceCount, top, bottom, left, right}
@@ -87,8 +88,8 @@ restNumbers w l c second pair k q (suc n) =
 -- ---- conditions
 pub record LayoutIn (l : Layout) : Type 0 where
   pub depths : l .depth + l .«depth_ho» ≤ deepest
-  pub across : (1 ≤ l .across) × (l .across ≤ 65535)
-  pub down : (1 ≤ l .down) × (l .down ≤ 65535)
+  pub across : (1 ≤ l .across) × (l .across ≤ sideLimit)
+  pub down : (1 ≤ l .down) × (l .down ≤ sideLimit)
   -- as many as the largest matrix has, 1 + 3 * deepest
   pub values : length (l .values) ≡ 25
 

@@ -4,6 +4,7 @@ use mathlib.Core.Bool.{false}
 use mathlib.Core.List.{List}
 use Prim.Native.Nat.{ℕ, _+_, _*_, _≤_, _<_}
 use lib.IntN.{ℤ}
+use Rattle.unit.specs.Limits.{areaLimit, sliceLimit}
 use Rattle.unit.specs.Three.{Three}
 use Rattle.unit.specs.Slices.{sliceCount}
 use Rattle.picture.specs.declared.slices.layout.Component.{Component}
@@ -27,14 +28,14 @@ numbersIn w p k q = record { y = runOf w p (p .y) k q; c1 = runOf w p (p .c1) k 
 -- a component lies in the picture's parts
 pub record Placed (p : Picture) (c : Component) : Type 0 where
   pub fits : ComponentIn c
-  pub area : c .width * c .height ≤ 67108864
+  pub area : c .width * c .height ≤ areaLimit
   pub coefs : (p .front ≤ c .coefs) × (c .coefs + c .width * c .height ≤ p .end)
   pub rebuilt : c .rebuilt + c .width * c .height ≤ p .front
 
 -- the components lie one behind the other, and the two colours are alike
 pub record Arranged (p : Picture) : Type 0 where
   pub layout : LayoutIn (p .layout)
-  pub slices : slicesIn p ≤ 1048576
+  pub slices : slicesIn p ≤ sliceLimit
   pub y : Placed p (p .y)
   pub c1 : Placed p (p .c1)
   pub c2 : Placed p (p .c2)

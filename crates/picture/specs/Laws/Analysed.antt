@@ -23,6 +23,7 @@ use Rattle.wavelet.specs.Pad.{padded}
 use Rattle.unit.specs.declared.Settings.{Settings}
 use Rattle.unit.specs.declared.Coded.{Coded}
 use Rattle.unit.specs.declared.Answer.the-variants.{Accepted, Refused}
+use Rattle.unit.specs.Limits.{sliceLimit}
 use Rattle.unit.specs.Three.{Three}
 use Rattle.unit.specs.Sizes.{Size, lumaSize, colourSize, depthsOf, offsetOf}
 use Rattle.unit.specs.Slices.{sliceCount}
@@ -135,10 +136,10 @@ module _ {s : Settings} {m : List ℕ} (c : Called s m) where
     values = places-many;
   }
 
-  pub count-few : sliceCount (gridOf s) ≤ 1048576
+  pub count-few : sliceCount (gridOf s) ≤ sliceLimit
   count-few = omega (arith, c .slices, mul-comm (s .«slices_x») (s .«slices_y»))
 
-  slices-few : slicesIn (pictureOf s m) ≤ 1048576
+  slices-few : slicesIn (pictureOf s m) ≤ sliceLimit
   unfolding pictureOf layoutOf
   slices-few = count-few
 

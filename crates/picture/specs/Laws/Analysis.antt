@@ -22,6 +22,7 @@ use Rattle.wavelet.specs.Code.Component.{ComponentsIn}
 use Rattle.wavelet.specs.declared.component.Component as below
 use Rattle.wavelet.specs.declared.component.Transform.{Transform}
 use Rattle.unit.specs.declared.Settings.{Settings}
+use Rattle.unit.specs.Limits.{areaLimit, sideLimit}
 use Rattle.unit.specs.Three.{Three}
 use Rattle.unit.specs.Sizes.{Size, area, lumaSize, colourSize, intlog2, depthsOf, offsetOf}
 use Rattle.unit.specs.Subbands.{paddedSize}
@@ -50,11 +51,11 @@ zeros-row n = zeros-span 0 n
 
 -- ---- sample offsets
 -- r is the depth of an excursion e
-pub depth-of : (e r : ℕ) → (1 ≤ e) × (e ≤ 65535) → r ≡ intlog2 (e + 1) → Between 16 r
+pub depth-of : (e r : ℕ) → (1 ≤ e) × (e ≤ sideLimit) → r ≡ intlog2 (e + 1) → Between 16 r
 depth-of e r h q = rw q (depth-range e (record { some = h .0; few = h .1 }))
 
 -- 1 shifted up by one place less than the depth
-pub offset-of : (e r : ℕ) → (1 ≤ e) × (e ≤ 65535) → r ≡ intlog2 (e + 1)
+pub offset-of : (e r : ℕ) → (1 ≤ e) × (e ≤ sideLimit) → r ≡ intlog2 (e + 1)
     → (1 * 2 ^ (r - 1) % 65536 ≡ offsetOf (intlog2 (e + 1))) × (1 * 2 ^ (r - 1) % 65536 ≤ 2 ^ 15)
 offset-of e r h q = let p = by r (depth-of e r h q) in (p .0 ∙ ap offsetOf q, p .1)
   where
@@ -73,7 +74,7 @@ module _ (s : Settings) where
 
   -- what padding asks of sides r, which are z
   pub padded-asks : (r : code.Sides) (z : Size) → s .«dwt_depth» + s .«dwt_depth_ho» ≤ deepest → valid.Sides s z → sizeIn r ≡ z
-      → (s .«dwt_depth» + s .«dwt_depth_ho» ≤ deepest) × ((r .width ≤ 65535) × (r .height ≤ 65535))
+      → (s .«dwt_depth» + s .«dwt_depth_ho» ≤ deepest) × ((r .width ≤ sideLimit) × (r .height ≤ sideLimit))
   padded-asks r z d h e =
       let w : r .width ≡ z .width = ap (λ (z : Size). z .width) e in
       let v : r .height ≡ z .height = ap (λ (z : Size). z .height) e in
@@ -90,8 +91,8 @@ pub record Measures (s : Settings) (z c : code.Sides) (m n : ℕ) : Type 0 where
   pub colour : sizeIn c ≡ paddedIn s (colourSize s)
   pub luma-area : m ≡ lumaArea s
   pub colour-area : n ≡ colourArea s
-  pub luma-few : m ≤ 67108864
-  pub colour-few : n ≤ 67108864
+  pub luma-few : m ≤ areaLimit
+  pub colour-few : n ≤ areaLimit
 
 pub measures-of : (s : Settings) (m : List ℕ) → Called s m → (l k z c : code.Sides) (a b : ℕ)
     → sizeIn l ≡ lumaSize s → sizeIn z ≡ paddedIn s (sizeIn l) → sizeIn k ≡ colourSize s → sizeIn c ≡ paddedIn s (sizeIn k)
@@ -168,8 +169,8 @@ pub record Taken (s : Settings) (l c : below.Component) : Type 0 where
   pub colour : c ≡ takenOf s (colourSize s) (s .«color_diff_excursion»)
   pub luma-area : l .pw * l .ph ≡ lumaArea s
   pub colour-area : c .pw * c .ph ≡ colourArea s
-  pub luma-few : l .pw * l .ph ≤ 67108864
-  pub colour-few : c .pw * c .ph ≤ 67108864
+  pub luma-few : l .pw * l .ph ≤ areaLimit
+  pub colour-few : c .pw * c .ph ≤ areaLimit
 
 pub taken-of : (s : Settings) (p : Three (List ℕ)) (w : List ℤ) → Ready s p w → (l c : below.Component)
     → l ≡ takenOf s (lumaSize s) (s .«luma_excursion») → c ≡ takenOf s (colourSize s) (s .«color_diff_excursion») → Taken s l c
@@ -240,7 +241,7 @@ record Listed (bs : List Band) (n : ℕ) (l : List ℤ) : Type 0 where
   long : length l ≡ n
   small : (k : ℕ) → natAbs (at l k) ≤ most
 
-listed : (s : Settings) (p : Three (List ℕ)) (w : List ℤ) → Ready s p w → (z : Size) (e : ℕ) → Between 65535 e → (samples : List ℕ) → ((n : ℕ) → getD samples n 0 < 2 ^ 16)
+listed : (s : Settings) (p : Three (List ℕ)) (w : List ℤ) → Ready s p w → (z : Size) (e : ℕ) → Between sideLimit e → (samples : List ℕ) → ((n : ℕ) → getD samples n 0 < 2 ^ 16)
     → Listed (bandsOf s z (intlog2 (e + 1)) samples) (paddedArea s z) (listOf s samples (takenOf s z e))
 unfolding bandsOf
 listed s p w k z e he samples hs =

@@ -14,6 +14,7 @@ use Rattle.laws.specs.Ceiling.{ceiling}
 use Rattle.unit.specs.declared.PictureKind.the-variants.{HighQuality}
 use Rattle.unit.specs.declared.RateControl.{RateControl}
 use Rattle.unit.specs.declared.RateControl.the-variants.{Lossless, FixedQuantIndex, PictureBytes}
+use Rattle.unit.specs.Limits.{areaLimit}
 use Rattle.unit.specs.Three.{Three}
 use Rattle.unit.specs.Slices.{partSize}
 use Rattle.unit.specs.Laws.Slice.{partSize-most}
@@ -61,14 +62,14 @@ module _ (w : List ℤ) (l : Layout) (c : Component) (k q : ℕ) where
       omega (arith, run-many (bandCount l), ap (startOf l c) e, start-next l c n, band-fits l c n (omega arith))
 
 -- a component's run is short
-run-few : (w : List ℤ) (p : Picture) (c : Component) (k q : ℕ) → c .width * c .height ≤ 67108864
+run-few : (w : List ℤ) (p : Picture) (c : Component) (k q : ℕ) → c .width * c .height ≤ areaLimit
     → (length (packed 0 (runOf w p c k q)) ≤ 2 ^ 33) × (trimmedCost (runOf w p c k q) ≤ 2 ^ 33)
 run-few w p c k q few =
     let xs = runOf w p c k q in
     let m = run-most w (p .layout) c k q in
     (omega (arith, packed-few xs, m), omega (arith, cost-most xs (run-small w (p .layout) c c false k q (bandCount (p .layout))), m))
 
-pub run-bits : (w : List ℤ) (p : Picture) (c : Component) (k q : ℕ) → c .width * c .height ≤ 67108864 → (t : Trimmed) → t ≡ trimmedOf (runOf w p c k q) → t .bits ≤ 2 ^ 33
+pub run-bits : (w : List ℤ) (p : Picture) (c : Component) (k q : ℕ) → c .width * c .height ≤ areaLimit → (t : Trimmed) → t ≡ trimmedOf (runOf w p c k q) → t .bits ≤ 2 ^ 33
 run-bits w p c k q few t e = omega (arith, run-few w p c k q few .1, ap (λ (t : Trimmed). t .bits) e)
 
 -- a slice's choices have few bits

@@ -18,6 +18,7 @@ use Rattle.unit.specs.declared.PictureKind.the-variants.{HighQuality}
 use Rattle.unit.specs.declared.RateControl.{RateControl}
 use Rattle.unit.specs.declared.RateControl.the-variants.{Lossless, FixedQuantIndex, PictureBytes}
 use Rattle.unit.specs.declared.Answer.the-variants.{Accepted, Refused}
+use Rattle.unit.specs.Limits.{unitLimit}
 use Rattle.unit.specs.Three.{Three}
 use Rattle.unit.specs.Sizes.{lumaSize}
 use Rattle.unit.specs.Slices.{Grid, sliceCount}
@@ -221,7 +222,7 @@ module _ {w : List ℤ} {p : Picture} {s : Settings} {m : List ℕ} (k : Coding 
 
     -- where the unit is not too long
     module _ (out : List ℕ) (e : codingRefusal (length out) (r .end) ≡ 0) where
-      pub end-fits : (r .end ≤ length out) × (r .end ≤ 4294967295)
+      pub end-fits : (r .end ≤ length out) × (r .end ≤ unitLimit)
       end-fits = rw (length-is w p s m r z) (not-long (length out) (lengthOf s (codePlan w p s m (r .scaler))) (sym (refusal-is k z out) ∙ e))
 
       pub head-room : overhead (majorVersion s) (highParameters s m (r .scaler)) ≤ length out

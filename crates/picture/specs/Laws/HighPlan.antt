@@ -20,6 +20,7 @@ use Rattle.unit.specs.declared.Settings.{Settings}
 use Rattle.unit.specs.declared.PictureKind.the-variants.{HighQuality}
 use Rattle.unit.specs.declared.RateControl.{RateControl}
 use Rattle.unit.specs.declared.RateControl.the-variants.{Lossless, FixedQuantIndex, PictureBytes}
+use Rattle.unit.specs.Limits.{sideLimit}
 use Rattle.unit.specs.Three.{Three}
 use Rattle.unit.specs.Plan.{SlicePlan}
 use Rattle.unit.specs.Laws.Valid.{target-few}
@@ -237,7 +238,7 @@ pub record Settling (w : List ℤ) (p : Picture) (s : Settings) (m : List ℕ) (
 
 module _ (w : List ℤ) (p : Picture) (s : Settings) (m : List ℕ) where
   -- settling before the first turn
-  pub settling-first : (r : SliceCoder) → s .«slice_size_scaler» ≤ 65535
+  pub settling-first : (r : SliceCoder) → s .«slice_size_scaler» ≤ sideLimit
       → PlansTo w p (termsOf s m (s .«slice_size_scaler»)) (slicesFrom s m (s .«slice_size_scaler»)) (slicesIn p) r
       → Settling w p s m (s .«slice_size_scaler») r
   settling-first r few h = record { turns = λ most f b l. refl; rises = omega arith; few = omega arith; plan = h }

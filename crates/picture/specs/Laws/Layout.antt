@@ -15,6 +15,7 @@ use lib.ListN.{length, getD, length-append}
 use Rattle.laws.specs.Code.Chunks.{chunks}
 use Rattle.quantiser.specs.Quant.{quantFactor, quantOffset, bandIndex}
 use Rattle.codewords.specs.Writer.{Sound, Room}
+use Rattle.unit.specs.Limits.{areaLimit}
 use Rattle.unit.specs.Sizes.{Size, area}
 use Rattle.unit.specs.Slices.{bound, sliceCount, partSize}
 use Rattle.unit.specs.Laws.Subband.{half, quarter}
@@ -434,7 +435,7 @@ module _ (w : List ℤ) (l : Layout) (c second : Component) (pair : Bool) (k q :
       omega (arith, ap length (run-first n), length-append (stripNumbers w firstStrip) (restNumbers w l c second pair k q n), run-length w l c second pair k q (suc n))
 
   -- the tally of the subbands so far
-  pub first-addable : {a e : ℕ} → RunIn l c second a e k q w → c .width * c .height ≤ 67108864 → (t : Tally) → t ≡ tallyAll noTally (stripNumbers w firstStrip)
+  pub first-addable : {a e : ℕ} → RunIn l c second a e k q w → c .width * c .height ≤ areaLimit → (t : Tally) → t ≡ tallyAll noTally (stripNumbers w firstStrip)
       → Addable t (2 * (c .width * c .height))
   first-addable h m t e =
       let xs = stripNumbers w firstStrip in
@@ -483,7 +484,7 @@ first-within h pair s e = rw e (strip-within h pair 0 (omega arith))
 
 -- the numbers of the first strip can be counted
 pub first-ready : (w : List ℤ) (l : Layout) (c second : Component) (pair : Bool) (k q : ℕ) {a e : ℕ} → RunIn l c second a e k q w → (s : Strip)
-    → c .width * c .height ≤ 67108864 → s ≡ stripOf l c second pair 0 0 k q
+    → c .width * c .height ≤ areaLimit → s ≡ stripOf l c second pair 0 0 k q
     → Small a e w × (Within a e s × Countable (noCost 0) (2 * ((s .bottom - s .top) * (s .right - s .left))))
 unfolding startOf stripOf
 first-ready w l c second pair k q h s m e =

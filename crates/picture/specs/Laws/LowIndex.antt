@@ -7,6 +7,7 @@ use native.Mathlib.Nat.{suc-mul, mul-le-mul-left, mul-one, add-mul-div-right}
 use native.Mathlib.Numerals.{add-one}
 use native.Mathlib.Omega.{arith}
 use lib.IntN.{ℤ}
+use Rattle.unit.specs.Limits.{areaLimit}
 use Rattle.unit.specs.Laws.Slice.{div-rises}
 use Rattle.unit.specs.Laws.Intlog2.{intlog2-least, intlog2-most}
 use Rattle.unit.specs.LowDelay.{sliceBytes, lengthBits}
@@ -55,7 +56,7 @@ planes-rebuilt w a b r p k q e f g =
     g ∙ ap (λ (b : List ℤ). rebuiltStrip b (strip0 p (p .c2) k q)) (f ∙ ap (λ (a : List ℤ). rebuiltStrip a (strip0 p (p .c1) k q)) e)
 
 -- ---- costs
-none-countable : (room n : ℕ) → n ≤ 67108864 → Countable (noCost room) (2 * n)
+none-countable : (room n : ℕ) → n ≤ areaLimit → Countable (noCost room) (2 * n)
 none-countable room n h = record { bits = omega arith; count = omega arith }
 
 pub luma-ready : {p : Picture} {w : List ℤ} {k q : ℕ} (room : ℕ) → SliceIn p w k q

@@ -18,6 +18,7 @@ use Rattle.laws.specs.Code.Laid.{Lays}
 use Rattle.codewords.specs.Bytes.{toBytes}
 use Rattle.quantiser.specs.Quant.{bandIndex}
 use Rattle.wavelet.specs.Planes.{Band, bandAt}
+use Rattle.unit.specs.Limits.{targetLimit}
 use Rattle.unit.specs.Three.{Three}
 use Rattle.unit.specs.Sizes.{Size}
 use Rattle.unit.specs.Slices.{Grid, sliceCount}
@@ -306,11 +307,11 @@ module _ {s : Settings} {m : List ℕ} (called : Called s m) (low : s .kind ≡ 
   unfolding numeratorOf
   numerator-some = numerator-least (majorVersion s) (targetOf (s .rate)) (sliceCount (gridOf s)) (lowParameters s m)
 
-  pub numerator-few : numeratorOf s m ≤ 1073741824
+  pub numerator-few : numeratorOf s m ≤ targetLimit
   unfolding numeratorOf
   numerator-few =
       let f : RateFits LowDelay (s .rate) = subst (λ (k : PictureKind). RateFits k (s .rate)) low (called .rate) in
-      numerator-most (majorVersion s) (targetOf (s .rate)) (sliceCount (gridOf s)) (lowParameters s m) 1073741824 (target-few LowDelay (s .rate) f) (omega (arith, count-few called))
+      numerator-most (majorVersion s) (targetOf (s .rate)) (sliceCount (gridOf s)) (lowParameters s m) targetLimit (target-few LowDelay (s .rate) f) (omega (arith, count-few called))
 
   pub low-in : (w : List ℤ) → Small (frontOf s) (frontOf s + frontOf s) w → LowIn (pictureOf s m) (numeratorOf s m) w
   low-in w h = record {

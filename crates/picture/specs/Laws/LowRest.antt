@@ -12,6 +12,7 @@ use lib.ListN.{length, length-append}
 use Rattle.laws.specs.Rows.{at}
 use Rattle.codewords.specs.Code.{codes}
 use Rattle.codewords.specs.Laws.Code.{codes-append}
+use Rattle.unit.specs.Limits.{areaLimit}
 use Rattle.unit.specs.Trim.{trimCons, trimmed, bitsOf, trimmedCost}
 use Rattle.unit.specs.Laws.Trim.{length-trimmed, bits-most, cost-most}
 use Rattle.unit.specs.Laws.Trim as trim
@@ -95,7 +96,7 @@ within-is a b s t h e = rw (le-leb a b h, e)
 -- ---- a slice's numbers in two parts
 module _ (w : List ℤ) (l : Layout) (c second : Component) (pair : Bool) (k q : ℕ) where
   -- the numbers of the first subband and of the others are few
-  parts-few : c .width * c .height ≤ 67108864
+  parts-few : c .width * c .height ≤ areaLimit
       → length (stripNumbers w (firstStrip w l c second pair k q)) + length (restNumbers w l c second pair k q (bandCount l - 1)) ≤ 2 ^ 27
   parts-few h =
       let n : ℕ = bandCount l - 1 in

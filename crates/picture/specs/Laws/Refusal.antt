@@ -12,6 +12,7 @@ use borrow.Author.Tests.{lt-ltb, le-ltb}
 use Rattle.wavelet.specs.Depth.{depthLimit}
 use Rattle.wavelet.specs.Laws.Depth.{few-levels}
 use Rattle.unit.specs.declared.Settings.{Settings}
+use Rattle.unit.specs.Limits.{sideLimit}
 use Rattle.unit.specs.Three.{Three}
 use Rattle.unit.specs.Rules.{first, orElse}
 use Rattle.unit.specs.Refusal.{outside, anyAbove, shapeRules, rateRules, frameRules, matrixRules, memoryRules, refusalOf}
@@ -37,13 +38,13 @@ measured s d f =
     let frame = none-of (frameRules s) (tt, tt) .0 f in
     let a = or-none (ltb 2 (s .«color_diff_format»)) _ .0 (frame .0) in
     let b = or-none (ltb 1 (s .«picture_coding_mode»)) _ .0 (a .1) in
-    let w = or-none (outside 65535 (s .«frame_width»)) _ .0 (b .1) in
-    let h = or-none (outside 65535 (s .«frame_height»)) _ .0 (w .1) in
+    let w = or-none (outside sideLimit (s .«frame_width»)) _ .0 (b .1) in
+    let h = or-none (outside sideLimit (s .«frame_height»)) _ .0 (w .1) in
     let limit = depthLimit (s .«wavelet_index_ho») (s .«wavelet_index») in
     record {
       depths = few-levels (s .«wavelet_index_ho») (s .«wavelet_index») (at-most limit (s .«dwt_depth» + s .«dwt_depth_ho») .0 (shape .1 .0));
-      width = between 65535 (s .«frame_width») .0 (w .0) .few;
-      height = between 65535 (s .«frame_height») .0 (h .0) .few;
+      width = between sideLimit (s .«frame_width») .0 (w .0) .few;
+      height = between sideLimit (s .«frame_height») .0 (h .0) .few;
     }
 
 -- ---- the groups, one after the other

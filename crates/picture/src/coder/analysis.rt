@@ -10,6 +10,7 @@ ghost use mathlib.Core.Path.{_≡_};
 ghost use Prim.Native.Nat.{_+_, _≤_, _^_};
 ghost use lib.IntN.{pos};
 ghost use lib.ListN.{length, replicate};
+ghost use Rattle.unit.specs.Limits.{sideLimit};
 ghost use Rattle.unit.specs.Sizes.{area, offsetOf, intlog2};
 ghost use Rattle.picture.specs.Code.Sides.{sizeIn};
 ghost use Rattle.unit.specs.Three.{planes};
@@ -88,7 +89,7 @@ pub(crate) fn picture_of(s: Settings, matrix: &[u32]) -> Picture
 
 // The offset of samples of an excursion.
 fn offset_of(excursion: u32) -> u16
-    requires { ⌜ (1 ≤ excursion) × (excursion ≤ 65535) ⌝ }
+    requires { ⌜ (1 ≤ excursion) × (excursion ≤ sideLimit) ⌝ }
     ensures { λ r. ⌜ (r ≡ offsetOf (intlog2 (excursion + 1))) × (r ≤ 2 ^ 15) ⌝ }
 {
     let d = crate::front::sizes::intlog2(excursion as u64 + 1);
@@ -98,7 +99,7 @@ fn offset_of(excursion: u32) -> u16
 
 // A component of sides z, padded sides q and an excursion, as the layer below takes it.
 fn sides_of(z: Sides, q: Sides, excursion: u32) -> wavelet::component::Component
-    requires { ⌜ (1 ≤ excursion) × (excursion ≤ 65535) ⌝ }
+    requires { ⌜ (1 ≤ excursion) × (excursion ≤ sideLimit) ⌝ }
     ensures { λ r. ⌜ (r .w ≡ z .width) × ((r .h ≡ z .height) × ((r .pw ≡ q .width) × ((r .ph ≡ q .height)
         × ((r .offset ≡ offsetOf (intlog2 (excursion + 1))) × (r .offset ≤ 2 ^ 15))))) ⌝ }
 {

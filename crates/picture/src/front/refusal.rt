@@ -9,16 +9,11 @@ use unit::RateControl;
 use unit::Settings;
 use wavelet::depth::too_deep;
 ghost use mathlib.Core.Path.{_≡_};
-ghost use mathlib.Core.Bool.{not, _||_, _&&_};
 ghost use Prim.Native.Nat.{_*_, _≤_};
-ghost use lib.Dec.{eqb, ltb};
-ghost use lib.ListN.{length};
-ghost use Rattle.wavelet.specs.Depth.{tooDeep};
-ghost use Rattle.unit.specs.Sizes.{area, lumaSize, colourSize};
+ghost use Rattle.unit.specs.Sizes.{area};
 ghost use Rattle.unit.specs.Subbands.{subbandCount};
-ghost use Rattle.unit.specs.Matrix.{defaultOf};
 ghost use Rattle.unit.specs.Rules.{first};
-ghost use Rattle.unit.specs.Refusal.{outside, noTarget, badIndex, badTarget, anyAbove, isNone, paddedArea, workNeeded, shapeRules, rateRules, frameRules, matrixRules, memoryRules, refusalOf};
+ghost use Rattle.unit.specs.Refusal.{outside, anyAbove, badWavelets, badDepths, badSlices, badSizes, noTarget, badIndex, badTarget, badFrame, badMatrix, noMatrix, badArea, badPlanes, shortWork, paddedArea, shapeRules, rateRules, frameRules, matrixRules, memoryRules, refusalOf};
 ghost use Rattle.unit.specs.Outcome.{codingRefusal};
 ghost use Rattle.picture.specs.Code.Sides.{sizeIn, Measured, Within};
 ghost use Rattle.unit.specs.Three.{planes};
@@ -162,14 +157,14 @@ fn area(z: Sides) -> u64
 
 // Whether rule 1 is broken.
 fn bad_wavelets(s: Settings) -> bool
-    ensures { λ r. ⌜ r ≡ (ltb 6 (s .«wavelet_index») || ltb 6 (s .«wavelet_index_ho»)) ⌝ }
+    ensures { λ r. ⌜ r ≡ badWavelets s ⌝ }
 {
     (s.wavelet_index > 6) | (s.wavelet_index_ho > 6)
 }
 
 // Whether rule 2 is broken.
 fn bad_depths(s: Settings) -> bool
-    ensures { λ r. ⌜ r ≡ tooDeep (s .«wavelet_index») (s .«wavelet_index_ho») (s .«dwt_depth») (s .«dwt_depth_ho») ⌝ }
+    ensures { λ r. ⌜ r ≡ badDepths s ⌝ }
 {
     too_deep(
         s.wavelet_index,
@@ -181,7 +176,7 @@ fn bad_depths(s: Settings) -> bool
 
 // Whether rule 3 is broken.
 fn bad_slices(s: Settings) -> bool
-    ensures { λ r. ⌜ r ≡ (outside 65535 (s .«slices_x») || (outside 65535 (s .«slices_y») || ltb 1048576 (s .«slices_x» * s .«slices_y»))) ⌝ }
+    ensures { λ r. ⌜ r ≡ badSlices s ⌝ }
 {
     outside(65535, s.slices_x)
         | outside(65535, s.slices_y)
@@ -190,7 +185,7 @@ fn bad_slices(s: Settings) -> bool
 
 // Whether rule 4 is broken.
 fn bad_sizes(s: Settings) -> bool
-    ensures { λ r. ⌜ r ≡ (outside 65535 (s .«slice_size_scaler») || ltb 255 (s .«slice_prefix_bytes»)) ⌝ }
+    ensures { λ r. ⌜ r ≡ badSizes s ⌝ }
 {
     outside(65535, s.slice_size_scaler) | (s.slice_prefix_bytes > 255)
 }
@@ -233,10 +228,7 @@ fn bad_target(rate: RateControl) -> bool
 
 // Whether rule 8 is broken.
 fn bad_frame(s: Settings) -> bool
-    ensures { λ r. ⌜ r ≡ (ltb 2 (s .«color_diff_format») || (ltb 1 (s .«picture_coding_mode»)
-        || (outside 65535 (s .«frame_width») || (outside 65535 (s .«frame_height»)
-        || (outside 65535 (s .«luma_excursion») || (outside 65535 (s .«color_diff_excursion»)
-        || (eqb (area (lumaSize s)) 0 || eqb (area (colourSize s)) 0))))))) ⌝ }
+    ensures { λ r. ⌜ r ≡ badFrame s ⌝ }
 {
     (s.color_diff_format > 2)
         | (s.picture_coding_mode > 1)
@@ -271,7 +263,7 @@ fn subband_count(s: Settings) -> u64
 
 // Whether rule 9 is broken: the matrix is looked at only where a custom one is asked for.
 fn bad_matrix(s: Settings, matrix: &[u32]) -> bool
-    ensures { λ r. ⌜ r ≡ (s .«custom_matrix» && (not (eqb (length (now (matrix .entry))) (subbandCount (s .«dwt_depth_ho») (s .«dwt_depth»))) || anyAbove 255 (now (matrix .entry)))) ⌝ }
+    ensures { λ r. ⌜ r ≡ badMatrix s (now (matrix .entry)) ⌝ }
 {
     if !s.custom_matrix {
         return false;
@@ -284,7 +276,7 @@ fn bad_matrix(s: Settings, matrix: &[u32]) -> bool
 
 // Whether rule 10 is broken.
 fn no_matrix(s: Settings) -> bool
-    ensures { λ r. ⌜ r ≡ (not (s .«custom_matrix») && isNone (defaultOf s)) ⌝ }
+    ensures { λ r. ⌜ r ≡ noMatrix s ⌝ }
 {
     if s.custom_matrix {
         return false;
@@ -309,14 +301,14 @@ fn padded_area(s: Settings, z: Sides) -> u64
 // Whether rule 11 is broken.
 fn bad_area(s: Settings) -> bool
     requires { ⌜ Measured s ⌝ }
-    ensures { λ r. ⌜ r ≡ ltb 67108864 (paddedArea s (lumaSize s)) ⌝ }
+    ensures { λ r. ⌜ r ≡ badArea s ⌝ }
 {
     padded_area(s, luma_size(s)) > 67108864
 }
 
 // Whether rule 12 is broken.
 fn bad_planes(s: Settings, y: &[u16], c1: &[u16], c2: &[u16]) -> bool
-    ensures { λ r. ⌜ r ≡ (not (eqb (length (now (y .entry))) (area (lumaSize s))) || (not (eqb (length (now (c1 .entry))) (area (colourSize s))) || not (eqb (length (now (c2 .entry))) (area (colourSize s))))) ⌝ }
+    ensures { λ r. ⌜ r ≡ badPlanes s (planes (now (y .entry)) (now (c1 .entry)) (now (c2 .entry))) ⌝ }
 {
     let luma = area(luma_size(s));
     let colour = area(colour_size(s));
@@ -326,7 +318,7 @@ fn bad_planes(s: Settings, y: &[u16], c1: &[u16], c2: &[u16]) -> bool
 // Whether rule 13 is broken.
 fn short_work(s: Settings, work: &[i64]) -> bool
     requires { ⌜ Measured s ⌝ }
-    ensures { λ r. ⌜ r ≡ ltb (length (now (work .entry))) (workNeeded s) ⌝ }
+    ensures { λ r. ⌜ r ≡ shortWork s (now (work .entry)) ⌝ }
 {
     let luma = padded_area(s, luma_size(s));
     let colour = padded_area(s, colour_size(s));

@@ -7,6 +7,7 @@ use crate::slices::tally::Trimmed;
 use unit::RateControl;
 ghost use mathlib.Core.Path.{_≡_};
 ghost use Prim.Native.Nat.{_*_, _≤_, _<_};
+ghost use Rattle.unit.specs.Limits.{areaLimit};
 ghost use Rattle.unit.specs.Elect.{elect};
 ghost use Rattle.picture.specs.Code.Layout.{RunIn};
 ghost use Rattle.picture.specs.Code.Picture.{slicesIn, runOf, numbersIn, SliceIn};
@@ -15,7 +16,7 @@ ghost use Rattle.picture.specs.Code.Choice.{fitsBy, indexIn, TermsIn, Pl
 
 // The run of a component of slice k at index q, without its trailing zeros.
 fn trimmed_run(work: &[i64], p: Picture, c: Component, k: u32, q: u32) -> Trimmed
-    requires { ⌜ RunIn (p .layout) c c (p .front) (p .end) k q (now work) × (c .width * c .height ≤ 67108864) ⌝ }
+    requires { ⌜ RunIn (p .layout) c c (p .front) (p .end) k q (now work) × (c .width * c .height ≤ areaLimit) ⌝ }
     ensures { λ r. ⌜ r ≡ trimmedOf (runOf (now (work .entry)) p c k q) ⌝ }
 {
     let l = p.layout;

@@ -8,6 +8,7 @@ ghost use Prim.Native.Nat.{_+_, _*_, _-_, _/_, _^_, _≤_, _<_};
 ghost use lib.Dec.{eqb, leb};
 ghost use Rattle.quantiser.specs.Quant.{bandIndex};
 ghost use Rattle.wavelet.specs.Depth.{deepest};
+ghost use Rattle.unit.specs.Limits.{sliceLimit};
 ghost use Rattle.unit.specs.Slices.{bound};
 ghost use Rattle.picture.specs.Code.Sides.{sizeIn};
 ghost use Rattle.picture.specs.Code.Layout.{levelOf, bandSize, windowOf, stripOf, LayoutIn, WindowIn, StripIn};
@@ -234,7 +235,7 @@ pub(crate) fn strip_at(
 // How many slices there are.
 pub(crate) fn slice_count(p: Picture) -> u32
     requires { ⌜ Arranged p ⌝ }
-    ensures { λ r. ⌜ (r ≡ slicesIn p) × (r ≤ 1048576) ⌝ }
+    ensures { λ r. ⌜ (r ≡ slicesIn p) × (r ≤ sliceLimit) ⌝ }
 {
     let l = p.layout;
     l.down * l.across

@@ -7,6 +7,7 @@ use crate::slices::tally::Tally;
 ghost use mathlib.Core.Path.{_≡_};
 ghost use mathlib.Core.Bool.{false};
 ghost use Prim.Native.Nat.{_*_, _-_, _≤_};
+ghost use Rattle.unit.specs.Limits.{areaLimit};
 ghost use Rattle.picture.specs.Code.Strip.{stripNumbers, rebuiltStrip, Small};
 ghost use Rattle.picture.specs.Code.Cost.{addAll, Countable};
 ghost use Rattle.picture.specs.Code.Tally.{noTally, tallyAll, Addable};
@@ -54,7 +55,7 @@ pub(crate) fn first_tally(
     q: u32,
     v: Window,
 ) -> Tally
-    requires { ⌜ RunIn l c second a e k q (now work) × ((c .width * c .height ≤ 67108864) × (v ≡ windowOf l c 0 k)) ⌝ }
+    requires { ⌜ RunIn l c second a e k q (now work) × ((c .width * c .height ≤ areaLimit) × (v ≡ windowOf l c 0 k)) ⌝ }
     ensures { λ r. ⌜ r ≡ tallyAll noTally (stripNumbers (now (work .entry)) (stripOf l c second pair 0 0 k q)) ⌝ }
 {
     let none = crate::slices::cost::no_cost(0);

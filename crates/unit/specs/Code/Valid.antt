@@ -12,6 +12,7 @@ use Rattle.unit.specs.declared.PictureKind.{PictureKind}
 use Rattle.unit.specs.declared.PictureKind.the-variants.{LowDelay, HighQuality}
 use Rattle.unit.specs.declared.RateControl.{RateControl}
 use Rattle.unit.specs.declared.RateControl.the-variants.{Lossless, FixedQuantIndex, PictureBytes}
+use Rattle.unit.specs.Limits.{areaLimit, sideLimit, sliceLimit, targetLimit}
 use Rattle.unit.specs.Three.{Three}
 use Rattle.unit.specs.Sizes.{area, lumaSize, colourSize, Size}
 use Rattle.unit.specs.Subbands.{subbandCount, paddedSize}
@@ -26,10 +27,10 @@ pub record Between (most n : ℕ) : Type 0 where
 abbrev pub RateFits : PictureKind → RateControl → Type 0
 RateFits LowDelay Lossless = ⊥
 RateFits LowDelay (FixedQuantIndex q) = ⊥
-RateFits LowDelay (PictureBytes n) = n ≤ 1073741824
+RateFits LowDelay (PictureBytes n) = n ≤ targetLimit
 RateFits HighQuality Lossless = Unit {0}
 RateFits HighQuality (FixedQuantIndex q) = q ≤ 255
-RateFits HighQuality (PictureBytes n) = n ≤ 1073741824
+RateFits HighQuality (PictureBytes n) = n ≤ targetLimit
 
 abbrev pub AllMost : ℕ → List ℕ → Type 0
 AllMost most [] = Unit {0}
@@ -44,22 +45,22 @@ pub record Valid (s : Settings) (m : List ℕ) (p : Three (List ℕ)) (work : Li
   pub wavelet : s .«wavelet_index» ≤ 6
   pub wavelet-ho : s .«wavelet_index_ho» ≤ 6
   pub depths : s .«dwt_depth» + s .«dwt_depth_ho» ≤ depthLimit (s .«wavelet_index_ho») (s .«wavelet_index»)
-  pub across : Between 65535 (s .«slices_x»)
-  pub down : Between 65535 (s .«slices_y»)
-  pub slices : s .«slices_x» * s .«slices_y» ≤ 1048576
-  pub scaler : Between 65535 (s .«slice_size_scaler»)
+  pub across : Between sideLimit (s .«slices_x»)
+  pub down : Between sideLimit (s .«slices_y»)
+  pub slices : s .«slices_x» * s .«slices_y» ≤ sliceLimit
+  pub scaler : Between sideLimit (s .«slice_size_scaler»)
   pub prefix : s .«slice_prefix_bytes» ≤ 255
   pub rate : RateFits (s .kind) (s .rate)
   pub format : s .«color_diff_format» ≤ 2
   pub mode : s .«picture_coding_mode» ≤ 1
-  pub width : Between 65535 (s .«frame_width»)
-  pub height : Between 65535 (s .«frame_height»)
-  pub luma : Between 65535 (s .«luma_excursion»)
-  pub colour : Between 65535 (s .«color_diff_excursion»)
+  pub width : Between sideLimit (s .«frame_width»)
+  pub height : Between sideLimit (s .«frame_height»)
+  pub luma : Between sideLimit (s .«luma_excursion»)
+  pub colour : Between sideLimit (s .«color_diff_excursion»)
   pub luma-some : 1 ≤ area (lumaSize s)
   pub colour-some : 1 ≤ area (colourSize s)
   pub matrix : MatrixFits s m (s .«custom_matrix») (defaultOf s)
-  pub padded : paddedArea s (lumaSize s) ≤ 67108864
+  pub padded : paddedArea s (lumaSize s) ≤ areaLimit
   pub long-y : length (p .y) ≡ area (lumaSize s)
   pub long-c1 : length (p .c1) ≡ area (colourSize s)
   pub long-c2 : length (p .c2) ≡ area (colourSize s)
@@ -68,8 +69,8 @@ pub record Valid (s : Settings) (m : List ℕ) (p : Three (List ℕ)) (work : Li
 -- ---- sizes
 -- a component's size z, and its padded size
 pub record Sides (s : Settings) (z : Size) : Type 0 where
-  pub width : Between 65535 (z .width)
-  pub height : Between 65535 (z .height)
+  pub width : Between sideLimit (z .width)
+  pub height : Between sideLimit (z .height)
   pub padded-width : Between 65536 (paddedSize (s .«dwt_depth_ho») (s .«dwt_depth») z .width)
   pub padded-height : Between 65536 (paddedSize (s .«dwt_depth_ho») (s .«dwt_depth») z .height)
-  pub padded-area : Between 67108864 (paddedArea s z)
+  pub padded-area : Between areaLimit (paddedArea s z)

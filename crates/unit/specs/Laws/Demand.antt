@@ -23,6 +23,7 @@ use Rattle.unit.specs.declared.Answer.{Answer}
 use Rattle.unit.specs.declared.Answer.the-variants.{Accepted, Refused}
 use Rattle.unit.specs.declared.PictureKind.{PictureKind}
 use Rattle.unit.specs.declared.PictureKind.the-variants.{LowDelay, HighQuality}
+use Rattle.unit.specs.Limits.{unitLimit}
 use Rattle.unit.specs.Three.{Three}
 use Rattle.unit.specs.Sizes.{Size, sizesOf, depthsOf, offsetOf}
 use Rattle.unit.specs.Subbands.{paddedSize}
@@ -234,10 +235,10 @@ coefficients-below s m p work t e = below s m p work (valid s m p work e) t
 
 -- ---- the outcome of a call
 -- a unit that coding does not refuse fits the output, and its length 32 bits
-pub not-long : (len n : ℕ) → codingRefusal len n ≡ 0 → (n ≤ len) × (n ≤ 4294967295)
+pub not-long : (len n : ℕ) → codingRefusal len n ≡ 0 → (n ≤ len) × (n ≤ unitLimit)
 not-long len n e =
-    let h = or-none (ltb len n) (ltb 4294967295 n) .0 (none-of (codingRules len n) (tt, tt) .0 e .0) in
-    (ltb-false len n (h .0), ltb-false 4294967295 n (h .1))
+    let h = or-none (ltb len n) (ltb unitLimit n) .0 (none-of (codingRules len n) (tt, tt) .0 e .0) in
+    (ltb-false len n (h .0), ltb-false unitLimit n (h .1))
 
 abbrev pub isAccepted : Answer → Bool
 isAccepted (Accepted c) = true

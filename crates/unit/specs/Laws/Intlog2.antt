@@ -8,6 +8,7 @@ use native.Mathlib.Omega.{arith}
 use lib.Dec.{leb}
 use lib.Pow.{pow-pos, pow-mono}
 use borrow.Author.Tests.{leb-true, leb-false}
+use Rattle.unit.specs.Limits.{sideLimit}
 use Rattle.unit.specs.Sizes.{leastFrom, intlog2, offsetOf}
 use Rattle.unit.specs.Code.Valid.{Between}
 
@@ -47,7 +48,7 @@ intlog2-most n = intlog2-least n .least n (self-pow n)
 
 -- ---- samples
 -- the depth of an excursion e from 1 to 65535
-pub depth-range : (e : ℕ) → Between 65535 e → Between 16 (intlog2 (e + 1))
+pub depth-range : (e : ℕ) → Between sideLimit e → Between 16 (intlog2 (e + 1))
 depth-range e b =
     let l = intlog2-least (e + 1) in
     record { some = above {n = e + 1} {m = 0} (omega arith) (intlog2 (e + 1)) (l .enough); few = l .least 16 (omega arith) }

@@ -8,6 +8,7 @@ use Rattle.laws.specs.Ceiling.{roundedUp}
 use Rattle.wavelet.specs.Planes.{Padded}
 use Rattle.wavelet.specs.Depth.{deepest}
 use Rattle.wavelet.specs.Laws.Pad.{padded-sides}
+use Rattle.unit.specs.Limits.{sideLimit}
 use Rattle.unit.specs.Sizes.{Size, area}
 use Rattle.unit.specs.Subbands.{paddedSize}
 use Rattle.unit.specs.Laws.Slice.{div-rises}
@@ -48,11 +49,11 @@ unfolding paddedSize
 padded-high k d z = rounded (2 ^ d) (z .height) (pow-pos d)
 
 -- sides of at most 65535 are padded to at most 65536
-pub wide-few : (k d : ℕ) (z : Size) → k + d ≤ deepest → z .width ≤ 65535 → paddedSize k d z .width ≤ 65536
+pub wide-few : (k d : ℕ) (z : Size) → k + d ≤ deepest → z .width ≤ sideLimit → paddedSize k d z .width ≤ 65536
 unfolding paddedSize
 wide-few k d z h l = rounded-few (k + d) (z .width) (omega arith) (omega arith)
 
-pub high-few : (k d : ℕ) (z : Size) → k + d ≤ deepest → z .height ≤ 65535 → paddedSize k d z .height ≤ 65536
+pub high-few : (k d : ℕ) (z : Size) → k + d ≤ deepest → z .height ≤ sideLimit → paddedSize k d z .height ≤ 65536
 unfolding paddedSize
 high-few k d z h l = rounded-few d (z .height) (omega arith) (omega arith)
 

@@ -18,6 +18,7 @@ use Rattle.unit.specs.declared.PictureKind.{PictureKind}
 use Rattle.unit.specs.declared.PictureKind.the-variants.{LowDelay, HighQuality}
 use Rattle.unit.specs.declared.RateControl.{RateControl}
 use Rattle.unit.specs.declared.RateControl.the-variants.{Lossless, FixedQuantIndex, PictureBytes}
+use Rattle.unit.specs.Limits.{areaLimit, sideLimit, sliceLimit, targetLimit}
 use Rattle.unit.specs.Three.{Three}
 use Rattle.unit.specs.Sizes.{Size, area, halvedIf, fields, lumaSize, colourSize, depthsOf}
 use Rattle.unit.specs.Subbands.{paddedSize, subbandCount}
@@ -42,10 +43,10 @@ record RateKept (k : PictureKind) (r : RateControl) : Type 0 where
 rate-fits : (k : PictureKind) (r : RateControl) → RateKept k r ↔ RateFits k r
 rate-fits LowDelay Lossless = (λ h. no-truth (h .target), absurd)
 rate-fits LowDelay (FixedQuantIndex q) = (λ h. no-truth (h .target), absurd)
-rate-fits LowDelay (PictureBytes n) = (λ h. at-most 1073741824 n .0 (h .bytes), λ h. record { target = refl; index = refl; bytes = at-most 1073741824 n .1 h })
+rate-fits LowDelay (PictureBytes n) = (λ h. at-most targetLimit n .0 (h .bytes), λ h. record { target = refl; index = refl; bytes = at-most targetLimit n .1 h })
 rate-fits HighQuality Lossless = (λ h. tt, λ h. record { target = refl; index = refl; bytes = refl })
 rate-fits HighQuality (FixedQuantIndex q) = (λ h. at-most 255 q .0 (h .index), λ h. record { target = refl; index = at-most 255 q .1 h; bytes = refl })
-rate-fits HighQuality (PictureBytes n) = (λ h. at-most 1073741824 n .0 (h .bytes), λ h. record { target = refl; index = refl; bytes = at-most 1073741824 n .1 h })
+rate-fits HighQuality (PictureBytes n) = (λ h. at-most targetLimit n .0 (h .bytes), λ h. record { target = refl; index = refl; bytes = at-most targetLimit n .1 h })
 
 -- a target is at most 2^30 bytes
 pub target-few : (k : PictureKind) (r : RateControl) → RateFits k r → targetOf r ≤ 2 ^ 30
@@ -80,15 +81,15 @@ module _ (s : Settings) (m : List ℕ) (p : Three (List ℕ)) (work : List ℤ) 
       let c = area (colourSize s) in
       let r1 = both (at-most 6 (s .«wavelet_index»)) (at-most 6 (s .«wavelet_index_ho»)) in
       let r2 = at-most (depthLimit (s .«wavelet_index_ho») (s .«wavelet_index»)) (s .«dwt_depth» + s .«dwt_depth_ho») in
-      let r3 = both (between 65535 (s .«slices_x»)) (both (between 65535 (s .«slices_y»)) (at-most 1048576 (s .«slices_x» * s .«slices_y»))) in
-      let r4 = both (between 65535 (s .«slice_size_scaler»)) (at-most 255 (s .«slice_prefix_bytes»)) in
+      let r3 = both (between sideLimit (s .«slices_x»)) (both (between sideLimit (s .«slices_y»)) (at-most sliceLimit (s .«slices_x» * s .«slices_y»))) in
+      let r4 = both (between sideLimit (s .«slice_size_scaler»)) (at-most 255 (s .«slice_prefix_bytes»)) in
       let r7 = rate-fits (s .kind) (s .rate) in
       let r8 = both (at-most 2 (s .«color_diff_format»)) (both (at-most 1 (s .«picture_coding_mode»))
-      (both (between 65535 (s .«frame_width»)) (both (between 65535 (s .«frame_height»))
-      (both (between 65535 (s .«luma_excursion»)) (both (between 65535 (s .«color_diff_excursion»))
+      (both (between sideLimit (s .«frame_width»)) (both (between sideLimit (s .«frame_height»))
+      (both (between sideLimit (s .«luma_excursion»)) (both (between sideLimit (s .«color_diff_excursion»))
       (both (some-of z) (some-of c))))))) in
       let r10 = matrix-fits s m (s .«custom_matrix») (defaultOf s) in
-      let r11 = at-most 67108864 (paddedArea s (lumaSize s)) in
+      let r11 = at-most areaLimit (paddedArea s (lumaSize s)) in
       let r12 = both (same (length (p .y)) z) (both (same (length (p .c1)) c) (same (length (p .c2)) c)) in
       let r13 = at-most (length work) (workNeeded s) in (
         λ (b1, (b2, (b3, (b4, (b5, (b6, (b7, (b8, (b9, (b10, (b11, (b12, (b13, done))))))))))))).
@@ -151,8 +152,8 @@ some-sides zero b h = absurd (omega arith)
 some-sides (suc a) zero h = absurd (omega (arith, mul-zero (suc a)))
 some-sides (suc a) (suc b) h = omega arith
 
-sides : (s : Settings) (z : Size) → s .«dwt_depth» + s .«dwt_depth_ho» ≤ deepest → z .width ≤ 65535 → z .height ≤ 65535 → 1 ≤ area z
-    → paddedArea s z ≤ 67108864 → Sides s z
+sides : (s : Settings) (z : Size) → s .«dwt_depth» + s .«dwt_depth_ho» ≤ deepest → z .width ≤ sideLimit → z .height ≤ sideLimit → 1 ≤ area z
+    → paddedArea s z ≤ areaLimit → Sides s z
 sides s z d w h a r =
     let k = s .«dwt_depth_ho» in
     let n = s .«dwt_depth» in
@@ -223,7 +224,7 @@ module _ {s : Settings} {m : List ℕ} {p : Three (List ℕ)} {work : List ℤ} 
       record { y = l; c1 = c; c2 = c }
 
   -- ---- slices
-  pub slice-count : Between 1048576 (sliceCount (gridOf s))
+  pub slice-count : Between sliceLimit (sliceCount (gridOf s))
   slice-count = record {
     some = mul-pos {m = s .«slices_y»} {n = s .«slices_x»} (v .down .some) (v .across .some);
     few = omega (arith, v .slices, mul-comm (s .«slices_x») (s .«slices_y»));

@@ -3,6 +3,7 @@ use mathlib.Core.Path.{_≡_, refl, sym, ap, _∙_}
 use Prim.Native.Nat.{ℕ, _+_, _≤_}
 use native.Mathlib.Omega.{arith}
 use lib.ListN.{length}
+use Rattle.unit.specs.Limits.{unitLimit}
 use Rattle.unit.specs.Laws.Demand.{not-long}
 use Rattle.picture.specs.Laws.Analysed.{called-arranged, called-carry}
 use Rattle.picture.specs.Laws.LowLink.{Worked, low-refused, low-ready, low-written}
@@ -26,7 +27,7 @@ worked c =
     }
 
 -- it fits the output, and 32 bits
-fits : (c : tie.After-coding-refusal) → c .coding-refusal .result ≡ 0 → (long c ≤ length (c .before .before .before .before .before .before .args .out .now)) × (long c ≤ 4294967295)
+fits : (c : tie.After-coding-refusal) → c .coding-refusal .result ≡ 0 → (long c ≤ length (c .before .before .before .before .before .before .args .out .now)) × (long c ≤ unitLimit)
 fits c e = not-long (length (c .before .before .before .before .before .before .args .out .now)) (long c) (sym (c .coding-refusal .ensures) ∙ e)
 
 numerator-requires : tie.Need-numerator-requires

@@ -2,6 +2,7 @@
 use mathlib.Core.Path.{ap, _∙_}
 use lib.Dec.{ltb}
 use Prim.Native.Nat.{ℕ}
+use Rattle.unit.specs.Limits.{areaLimit}
 use Rattle.unit.specs.Sizes.{Size}
 use Rattle.unit.specs.Refusal.{paddedArea}
 use Rattle.picture.specs.Code.Sides.{sizeIn}
@@ -23,7 +24,7 @@ padded-area-requires c κs = (c .before .pre, luma-within (c .before .args .s) (
 returns : tie.Need-returns
 returns c =
     let s = c .before .before .args .s in
-    ap (λ (n : ℕ). ltb 67108864 n) (c .padded-area .ensures .0 ∙ ap (λ (z : Size). paddedArea s z) (c .before .luma-size .ensures))
+    ap (λ (n : ℕ). ltb areaLimit n) (c .padded-area .ensures .0 ∙ ap (λ (z : Size). paddedArea s z) (c .before .luma-size .ensures))
 
 pub bad-area-spec : {M : Type 1} → statement M
 bad-area-spec = tie.close (tie.spec luma-size-requires padded-area-requires returns)

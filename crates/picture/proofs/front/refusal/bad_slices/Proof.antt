@@ -3,6 +3,7 @@ use mathlib.Core.Path.{_∙_}
 use mathlib.Core.Bool.{or-assoc}
 use lib.Dec.{ltb}
 use borrow.Author.Needs.{needs}
+use Rattle.unit.specs.Limits.{sliceLimit}
 use Rattle.picture.proofs.front.refusal.bad_slices.Statement.{statement}
 use Rattle.picture.proofs.front.refusal.bad_slices.Tie as tie
 use Rattle.picture.proofs.front.refusal.bad_slices.Reads as reads
@@ -22,7 +23,7 @@ product-requires c κs = search needs
 returns : tie.Need-returns
 returns c =
     let p = c .before in
-    or-assoc (p .before .outside .result) (p .outside2 .result) (ltb 1048576 (c .product .result))
+    or-assoc (p .before .outside .result) (p .outside2 .result) (ltb sliceLimit (c .product .result))
     ∙ rw (p .before .outside .ensures, p .outside2 .ensures, c .product .ensures)
 
 pub bad-slices-spec : {M : Type 1} → statement M
