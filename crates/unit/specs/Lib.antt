@@ -25,5 +25,6 @@ pub mod Encoded
 pub mod Examples
 pub mod DepthExamples
 pub mod CutExamples
+pub mod Wrong
 pub mod Code
 pub mod Laws
