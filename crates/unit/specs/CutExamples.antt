@@ -23,7 +23,7 @@ use Rattle.unit.specs.Elect.{halve, upward, elect}
 use Rattle.unit.specs.Coefficients.{bandsOf, coefficientsOf}
 use Rattle.unit.specs.Quantised.{numbersFrom, rebuilt, numbersLD, leftLD}
 use Rattle.unit.specs.LowDelay.{sliceBytes, numerator, alternated, evens, odds, lowBits, keptRuns, lowIndex, lowPlan, lowSlices}
-use Rattle.unit.specs.HighQuality.{componentBits, highBits, highNumbers, highIndex, highPlan, largestNeed, scalerFrom}
+use Rattle.unit.specs.HighQuality.{componentBits, highBits, highNumbers, highIndex, indexBy, highPlan, largestNeed, scalerFrom}
 use Rattle.unit.specs.Unit.{majorVersion, numeratorOf, scalerOf, planOf, headBits, lengthOf, unitOf}
 use Rattle.unit.specs.Cut.{anyLost, isCut, cutCount}
 use Rattle.unit.specs.Outcome.{Outcome, tells, codedOf, outcomeOf}
@@ -74,7 +74,7 @@ pub record CutExamples : Type 0 where
   pub high : tells (outcome 1 1 1 127 (131 ∷ []) grey grey .answer) ≡ 0 ∷ 26 ∷ 0 ∷ 1 ∷ []
 
 pub cut-examples : CutExamples
-unfolding outcome settingsOf outcomeOf refusalOf workNeeded codedOf anyLost isCut cutCount unitOf flatten headBits lengthOf planOf scalerOf numeratorOf majorVersion matrixValues carriedMatrix codesU parameterBits parameterBytes lumaSize colourSize intlog2 depthsOf paddedSize region coefficientsOf bandsOf predict firstRow scanRows scan trimmed trimmedCost fitPrefix halve upward elect numbersFrom rebuilt numbersLD leftLD sliceBytes numerator alternated evens odds lowBits keptRuns lowIndex lowPlan lowSlices componentBits highBits highNumbers highIndex highPlan largestNeed scalerFrom lit pack log2In log2 interleaved codeU codeS codes zeroFilled factor cap quantFactor quantOffset forwardBy forwardQuant inverseBy inverseQuant depthLimit dwtH dwt
+unfolding outcome settingsOf outcomeOf refusalOf workNeeded codedOf anyLost isCut cutCount unitOf flatten headBits lengthOf planOf scalerOf numeratorOf majorVersion matrixValues carriedMatrix codesU parameterBits parameterBytes lumaSize colourSize intlog2 depthsOf paddedSize region coefficientsOf bandsOf predict firstRow scanRows scan trimmed trimmedCost fitPrefix halve upward elect numbersFrom rebuilt numbersLD leftLD sliceBytes numerator alternated evens odds lowBits keptRuns lowIndex lowPlan lowSlices componentBits highBits highNumbers highIndex indexBy highPlan largestNeed scalerFrom lit pack log2In log2 interleaved codeU codeS codes zeroFilled factor cap quantFactor quantOffset forwardBy forwardQuant inverseBy inverseQuant depthLimit dwtH dwt
 cut-examples = record {
   fits = refl;
   lost = refl;

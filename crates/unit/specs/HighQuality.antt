@@ -1,5 +1,5 @@
 -- High quality: document 01, "Slices and unit"; ST 2042-1, 13.5.4.
-use mathlib.Core.Bool.{true, false, cond}
+use mathlib.Core.Bool.{Bool, true, false, cond}
 use mathlib.Core.List.{List, [], _∷_, _++_}
 use Prim.Native.Nat.{ℕ, zero, suc, _+_, _*_, _-_, _/_, _%_, max}
 use lib.Dec.{leb, ltb}
@@ -9,8 +9,10 @@ use Rattle.codewords.specs.Bit.{Bits, lit, oneBits, zeroBits}
 use Rattle.codewords.specs.Code.{codes}
 use Rattle.laws.specs.Rows.{span}
 use Rattle.wavelet.specs.Planes.{Band}
+use Rattle.unit.specs.declared.PictureKind.the-variants.{HighQuality}
 use Rattle.unit.specs.declared.RateControl.{RateControl}
 use Rattle.unit.specs.declared.RateControl.the-variants.{Lossless, FixedQuantIndex, PictureBytes}
+use Rattle.unit.specs.Limits.{lastIndex, lowestIndex}
 use Rattle.unit.specs.Three.{Three}
 use Rattle.unit.specs.Slices.{Grid, sliceCount}
 use Rattle.unit.specs.Trim.{trimmed, trimmedCost}
@@ -46,6 +48,21 @@ sliceSize p c z = sliceSizeBy p c (needOf (z .y)) (needOf (z .c1)) (needOf (z .c
 unfoldable pub shareOf : ℕ → ℕ → ℕ → ℕ
 shareOf n d k = n / d + cond (ltb k (n % d)) 1 0
 
+-- ---- a slice whose numbers at index q are z q, with p prefix bytes and scaler c
+-- whether it fits its share
+abbrev pub fitsBy : ℕ → ℕ → ℕ → (ℕ → Three (List ℤ)) → ℕ → Bool
+fitsBy p c share z q = leb (sliceSize p c (z q)) share
+
+-- its index by the rate: lossless is index 0, and an election begins at lo
+unfoldable pub indexBy : ℕ → RateControl → ℕ → ℕ → ℕ → (ℕ → Three (List ℤ)) → ℕ
+indexBy lo Lossless p c share z = 0
+indexBy lo (FixedQuantIndex q) p c share z = q
+indexBy lo (PictureBytes t) p c share z = elect lo (lastIndex HighQuality) (fitsBy p c share z)
+
+-- its plan at index q, where z are its numbers: it drops no number
+abbrev pub highPlanOf : ℕ → ℕ → ℕ → Three (List ℤ) → SlicePlan
+highPlanOf p c q z = record { index = q; numbers = z; kept = z; bits = highBits p c q z }
+
 module _ (g : Grid) (m : List ℕ) (b : Three (List Band)) (p : ℕ) where
   -- the quantised numbers of slice k at index q
   unfoldable pub highNumbers : ℕ → ℕ → Three (List ℤ)
@@ -55,15 +72,13 @@ module _ (g : Grid) (m : List ℕ) (b : Three (List Band)) (p : ℕ) where
     c2 = numbersHQ g m (b .c2) q k;
   }
 
-  -- the index of slice k with scaler c and n bytes for all slices: lossless is index 0
+  -- the index of slice k with scaler c and n bytes for all slices
   unfoldable pub highIndex : RateControl → ℕ → ℕ → ℕ → ℕ
-  highIndex Lossless c n k = 0
-  highIndex (FixedQuantIndex q) c n k = q
-  highIndex (PictureBytes t) c n k = elect 0 255 (λ q. leb (sliceSize p c (highNumbers k q)) (shareOf n (sliceCount g) k))
+  highIndex r c n k = indexBy lowestIndex r p c (shareOf n (sliceCount g) k) (highNumbers k)
 
-  -- slice k at index q with scaler c: it drops no number
+  -- slice k at index q with scaler c
   unfoldable pub highPlan : ℕ → ℕ → ℕ → SlicePlan
-  highPlan c k q = let z = highNumbers k q in record { index = q; numbers = z; kept = z; bits = highBits p c q z }
+  highPlan c k q = highPlanOf p c q (highNumbers k q)
 
   -- all slices, with scaler c and n bytes for them
   abbrev pub highSlices : RateControl → ℕ → ℕ → List SlicePlan

@@ -26,6 +26,10 @@ abbrev pub lastIndex : PictureKind → ℕ
 lastIndex LowDelay = 127
 lastIndex HighQuality = 255
 
+-- the index where an election begins: document 01, "Slices and unit"
+abbrev pub lowestIndex : ℕ
+lowestIndex = 0
+
 -- the byte target: rule 7
 abbrev pub targetLimit : ℕ
 targetLimit = 1073741824

@@ -9,6 +9,8 @@ use Rattle.codewords.specs.Bit.{Bits, lit, oneBits}
 use Rattle.codewords.specs.Code.{codes, zeroFilled}
 use Rattle.laws.specs.Plane.{Plane}
 use Rattle.wavelet.specs.Planes.{Band}
+use Rattle.unit.specs.declared.PictureKind.the-variants.{LowDelay}
+use Rattle.unit.specs.Limits.{lastIndex, lowestIndex}
 use Rattle.unit.specs.Three.{Three}
 use Rattle.unit.specs.Sizes.{intlog2}
 use Rattle.unit.specs.Slices.{Grid, sliceCount}
@@ -99,7 +101,7 @@ module _ (g : Grid) (m : List ℕ) (b : Three (List Band)) where
 
   -- the index of slice k, of n bytes
   unfoldable pub lowIndex : ℕ → Three Plane → ℕ → ℕ
-  lowIndex n r k = elect 0 127 (lowFits (roomOf n) r k)
+  lowIndex n r k = elect lowestIndex (lastIndex LowDelay) (lowFits (roomOf n) r k)
 
   -- a slice of n bytes with the numbers z at index q
   abbrev pub lowPlanOf : ℕ → ℕ → Three (List ℤ) → SlicePlan

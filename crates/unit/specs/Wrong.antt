@@ -22,7 +22,6 @@ use Rattle.wavelet.specs.Lifting.{within, dot, delta, lifted, analysis}
 use Rattle.wavelet.specs.Filters.{legall, haar0, fidelity, analysisBy}
 use Rattle.wavelet.specs.Planes.{rowsBy, dwtH, dwt}
 use Rattle.wavelet.specs.RowCall.{answerOf}
-use Rattle.unit.specs.declared.Settings.{Settings}
 use Rattle.unit.specs.declared.Answer.the-variants.{Accepted, Refused}
 use Rattle.unit.specs.Three.{Three, planes}
 use Rattle.unit.specs.Sizes.{lumaSize, colourSize, intlog2, depthsOf}
@@ -37,7 +36,7 @@ use Rattle.unit.specs.Elect.{halve, upward, elect}
 use Rattle.unit.specs.Coefficients.{bandsOf, coefficientsOf}
 use Rattle.unit.specs.Quantised.{numbersFrom, rebuilt, numbersLD, leftLD}
 use Rattle.unit.specs.LowDelay.{sliceBytes, numerator, alternated, evens, odds, lowBits, keptRuns, lowIndex, lowPlan, lowSlices}
-use Rattle.unit.specs.HighQuality.{componentBits, highBits, sliceSize, shareOf, highNumbers, highIndex, highPlan, largestNeed, scalerFrom}
+use Rattle.unit.specs.HighQuality.{componentBits, highBits, sliceSize, shareOf, highNumbers, highIndex, indexBy, highPlan, largestNeed, scalerFrom}
 use Rattle.unit.specs.Unit.{majorVersion, numeratorOf, scalerOf, planOf, headBits, lengthOf, unitOf}
 use Rattle.unit.specs.Cut.{anyLost, isCut, cutCount}
 use Rattle.unit.specs.Outcome.{Outcome, codedOf, outcomeOf, tells}
@@ -408,7 +407,7 @@ pub record WrongRows : Type 0 where
       ∷ [])
 
 pub wrong-encoders : WrongEncoders
-unfolding settingsOf outcomeOf refusalOf workNeeded codedOf anyLost isCut cutCount unitOf headBits lengthOf flatten planOf scalerOf numeratorOf majorVersion matrixValues carriedMatrix extendedBits codesU parameterBits parameterBytes lumaSize colourSize intlog2 depthsOf paddedSize region coefficientsOf bandsOf predict firstRow restRow nextRow nextRows scanRows scan trimmed trimmedCost fitPrefix halve upward elect numbersFrom rebuilt numbersLD leftLD sliceBytes numerator alternated lowBits keptRuns lowIndex lowPlan lowSlices componentBits highBits sliceSize shareOf highNumbers highIndex highPlan largestNeed scalerFrom lit pack log2In log2 interleaved codeU codeS codes zeroFilled factor cap quantFactor quantOffset forwardBy forwardQuant inverseBy inverseQuant tableD2 tableD4 defaultMatrix within dot delta lifted analysis legall rowsBy dwtH dwt depthLimit evens odds haar0
+unfolding settingsOf outcomeOf refusalOf workNeeded codedOf anyLost isCut cutCount unitOf headBits lengthOf flatten planOf scalerOf numeratorOf majorVersion matrixValues carriedMatrix extendedBits codesU parameterBits parameterBytes lumaSize colourSize intlog2 depthsOf paddedSize region coefficientsOf bandsOf predict firstRow restRow nextRow nextRows scanRows scan trimmed trimmedCost fitPrefix halve upward elect numbersFrom rebuilt numbersLD leftLD sliceBytes numerator alternated lowBits keptRuns lowIndex lowPlan lowSlices componentBits highBits sliceSize shareOf highNumbers highIndex indexBy highPlan largestNeed scalerFrom lit pack log2In log2 interleaved codeU codeS codes zeroFilled factor cap quantFactor quantOffset forwardBy forwardQuant inverseBy inverseQuant tableD2 tableD4 defaultMatrix within dot delta lifted analysis legall rowsBy dwtH dwt depthLimit evens odds haar0
 wrong-encoders = record {
   one-sample = record { right = refl; apart = refl };
   longer-output = record { right = refl; apart = refl };

@@ -3,7 +3,6 @@ use mathlib.Core.Path.{_≡_}
 use mathlib.Core.Bool.{Bool, true, false}
 use mathlib.Core.List.{List, _++_}
 use Prim.Native.Nat.{ℕ, _+_, _^_, _≤_}
-use lib.Dec.{leb}
 use lib.IntN.{ℤ}
 use lib.ListN.{length}
 use Rattle.laws.specs.Ceiling.{ceiling}
@@ -15,12 +14,12 @@ use Rattle.unit.specs.declared.Settings.{Settings}
 use Rattle.unit.specs.declared.PictureKind.the-variants.{HighQuality}
 use Rattle.unit.specs.declared.RateControl.{RateControl}
 use Rattle.unit.specs.declared.RateControl.the-variants.{Lossless, FixedQuantIndex, PictureBytes}
+use Rattle.unit.specs.Limits.{lastIndex, lowestIndex}
 use Rattle.unit.specs.Three.{Three}
-use Rattle.unit.specs.Elect.{elect}
 use Rattle.unit.specs.Plan.{SlicePlan}
 use Rattle.unit.specs.Trim.{trimmedCost}
 use Rattle.unit.specs.Code.Valid.{RateFits}
-use Rattle.unit.specs.HighQuality.{needOf, sliceSize, componentBits, highBits, shareOf}
+use Rattle.unit.specs.HighQuality.{needOf, componentBits, shareOf, indexBy, highPlanOf}
 use Rattle.unit.specs.Unit.{highBytes}
 use Rattle.picture.specs.declared.slices.layout.Picture.{Picture}
 use Rattle.picture.specs.declared.high.size.Needs.{Needs}
@@ -32,26 +31,12 @@ use Rattle.picture.specs.Code.Counts.{countOf}
 use Rattle.picture.specs.Code.Packed.{packed}
 use Rattle.picture.specs.Code.Picture.{slicesIn, numbersIn, Arranged}
 
--- whether a slice of prefix p and scaler c whose numbers at index q are z q fits its share
-abbrev pub fitsBy : ℕ → ℕ → ℕ → (ℕ → Three (List ℤ)) → ℕ → Bool
-fitsBy p c share z q = leb (sliceSize p c (z q)) share
-
--- the index of a slice
-unfoldable pub indexBy : RateControl → ℕ → ℕ → ℕ → (ℕ → Three (List ℤ)) → ℕ
-indexBy Lossless p c share z = 0
-indexBy (FixedQuantIndex q) p c share z = q
-indexBy (PictureBytes t) p c share z = elect 0 255 (fitsBy p c share z)
-
--- a slice's plan by its index and its numbers
-abbrev pub planBy : ℕ → ℕ → ℕ → Three (List ℤ) → SlicePlan
-planBy p c q z = record { index = q; numbers = z; kept = z; bits = highBits p c q z }
-
 -- the index of slice k
 unfoldable pub indexIn : List ℤ → Picture → Terms → ℕ → ℕ
-indexIn w p t k = indexBy (t .rate) (t .prefix) (t .scaler) (shareOf (t .bytes) (slicesIn p) k) (numbersIn w p k)
+indexIn w p t k = indexBy (t .lo) (t .rate) (t .prefix) (t .scaler) (shareOf (t .bytes) (slicesIn p) k) (numbersIn w p k)
 
 unfoldable pub planIn : List ℤ → Picture → Terms → ℕ → SlicePlan
-planIn w p t k = let q = indexIn w p t k in planBy (t .prefix) (t .scaler) q (numbersIn w p k q)
+planIn w p t k = let q = indexIn w p t k in highPlanOf (t .prefix) (t .scaler) q (numbersIn w p k q)
 
 -- the plans of the first n slices, and their bytes
 abbrev pub plansIn : List ℤ → Picture → Terms → ℕ → List SlicePlan
@@ -62,7 +47,7 @@ highRuns w p t n = chunks (λ k. toBytes (planIn w p t k .bits)) n
 
 -- the terms of a call with scaler c
 abbrev pub termsOf : Settings → List ℕ → ℕ → Terms
-termsOf s m c = record { rate = s .rate; prefix = s .«slice_prefix_bytes»; scaler = c; bytes = highBytes s m c }
+termsOf s m c = record { rate = s .rate; prefix = s .«slice_prefix_bytes»; scaler = c; bytes = highBytes s m c; lo = lowestIndex }
 
 abbrev pub slicesBy : List ℤ → Picture → Settings → List ℕ → ℕ → List SlicePlan
 slicesBy w p s m c = plansIn w p (termsOf s m c) (slicesIn p)
@@ -118,6 +103,7 @@ pub record TermsIn (t : Terms) : Type 0 where
   pub prefix : t .prefix ≤ 255
   pub scaler : (1 ≤ t .scaler) × (t .scaler ≤ 2 ^ 24)
   pub bytes : t .bytes ≤ 2 ^ 30
+  pub lo : t .lo ≤ lastIndex HighQuality
 
 -- slices can be planned
 pub record PlanIn (p : Picture) (t : Terms) (w : List ℤ) : Type 0 where

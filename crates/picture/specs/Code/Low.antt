@@ -11,6 +11,8 @@ use Rattle.laws.specs.Rows.{span, total}
 use Rattle.codewords.specs.Bit.{Bits}
 use Rattle.codewords.specs.Bytes.{toBytes}
 use Rattle.codewords.specs.Code.{codes}
+use Rattle.unit.specs.declared.PictureKind.the-variants.{LowDelay}
+use Rattle.unit.specs.Limits.{lowestIndex, lastIndex}
 use Rattle.unit.specs.Trim.{bitsOf, trimmedCost}
 use Rattle.unit.specs.Elect.{elect}
 use Rattle.unit.specs.LowDelay.{sliceBytes, roomOf, lowBits, keptRuns}
@@ -67,7 +69,7 @@ module _ (p : Picture) (n : ℕ) where
 
   -- the index of slice k, the work slice behind it, its bits, and whether it is cut
   unfoldable pub lowIndexIn : List ℤ → ℕ → ℕ
-  lowIndexIn w k = elect 0 127 (lowFitsIn w p (roomOf (bytesAt k)) k)
+  lowIndexIn w k = elect lowestIndex (lastIndex LowDelay) (lowFitsIn w p (roomOf (bytesAt k)) k)
 
   abbrev pub lowWorkIn : List ℤ → ℕ → List ℤ
   lowWorkIn w k = rebuiltIn w p k (lowIndexIn w k)

@@ -53,18 +53,18 @@ module _ (f : ℕ → Bool) where
       (λ h. halve-fuel m n (mid + 1) hi (omega arith) (omega arith))
 
 -- ---- the loop
--- the search in the range r ends where that from 0 to top does
-pub record Halving (f : ℕ → Bool) (top : ℕ) (r : Range) : Type 0 where
-  pub same : halve f (r .hi - r .lo) (r .lo) (r .hi) ≡ halve f (top - 0) 0 top
+-- the search in the range r ends where that from first to last does
+pub record Halving (f : ℕ → Bool) (first last : ℕ) (r : Range) : Type 0 where
+  pub same : halve f (r .hi - r .lo) (r .lo) (r .hi) ≡ halve f (last - first) first last
   pub order : r .lo ≤ r .hi
-  pub most : r .hi ≤ top
+  pub most : r .hi ≤ last
 
 -- the range at the start
-pub halving-start : (f : ℕ → Bool) (top : ℕ) → Halving f top (record { lo = 0; hi = top })
-halving-start f top = record { same = refl; order = omega arith; most = omega arith }
+pub halving-start : (f : ℕ → Bool) (first last : ℕ) → first ≤ last → Halving f first last (record { lo = first; hi = last })
+halving-start f first last h = record { same = refl; order = h; most = omega arith }
 
 -- the middle is an index
-pub halving-middle : {f : ℕ → Bool} {top : ℕ} {r : Range} → Halving f top r → (mid : ℕ) → mid ≡ (r .lo + r .hi) / 2 → mid ≤ top
+pub halving-middle : {f : ℕ → Bool} {first last : ℕ} {r : Range} → Halving f first last r → (mid : ℕ) → mid ≡ (r .lo + r .hi) / 2 → mid ≤ last
 halving-middle v mid m = omega (arith, v .order, v .most)
 
 -- a turn, where d says whether the middle fits
@@ -77,7 +77,7 @@ module _ (r : Range) (mid : ℕ) (h : r .lo < r .hi) (m : mid ≡ (r .lo + r .hi
   pub halving-less : (d : Bool) (n : Range) → n ≡ halfOf r mid d → n .hi - n .lo < r .hi - r .lo
   halving-less d n e = rw e (half-less d)
 
-  module _ {f : ℕ → Bool} {top : ℕ} (v : Halving f top r) where
+  module _ {f : ℕ → Bool} {first last : ℕ} (v : Halving f first last r) where
     half-same : (d : Bool) → f mid ≡ d → halve f (halfOf r mid d .hi - halfOf r mid d .lo) (halfOf r mid d .lo) (halfOf r mid d .hi) ≡ halve f (r .hi - r .lo) (r .lo) (r .hi)
     half-same d g =
         let n : ℕ = r .hi - r .lo - 1 in
@@ -94,17 +94,17 @@ module _ (r : Range) (mid : ℕ) (h : r .lo < r .hi) (m : mid ≡ (r .lo + r .hi
         by false n l =
             ap (λ (x : ℕ). halve f n (x + 1) (r .hi)) (sym m) ∙ halve-fuel f n (r .hi - (mid + 1)) (mid + 1) (r .hi) (omega arith) (omega arith)
 
-    half-halving : (d : Bool) → f mid ≡ d → Halving f top (halfOf r mid d)
+    half-halving : (d : Bool) → f mid ≡ d → Halving f first last (halfOf r mid d)
     half-halving true g = record { same = half-same true g ∙ v .same; order = omega arith; most = omega (arith, v .most) }
     half-halving false g = record { same = half-same false g ∙ v .same; order = omega arith; most = v .most }
 
-    pub halving-turn : (d : Bool) (n : Range) → d ≡ f mid → n ≡ halfOf r mid d → Halving f top n
+    pub halving-turn : (d : Bool) (n : Range) → d ≡ f mid → n ≡ halfOf r mid d → Halving f first last n
     halving-turn d n g e = rw e (half-halving d (sym g))
 
 -- the range at the end
-module _ {f : ℕ → Bool} {top : ℕ} {r : Range} (v : Halving f top r) where
-  pub halving-end : r .hi ≤ r .lo → r .lo ≡ elect 0 top f
-  halving-end h = sym (halve-done f (r .hi - r .lo) (r .lo) (r .hi) h) ∙ v .same ∙ sym (elect-halves f 0 top (omega arith))
+module _ {f : ℕ → Bool} {first last : ℕ} {r : Range} (v : Halving f first last r) where
+  pub halving-end : first ≤ last → r .hi ≤ r .lo → r .lo ≡ elect first last f
+  halving-end o h = sym (halve-done f (r .hi - r .lo) (r .lo) (r .hi) h) ∙ v .same ∙ sym (elect-halves f first last o)
 
-  pub halving-low : r .lo ≤ top
+  pub halving-low : r .lo ≤ last
   halving-low = omega (arith, v .order, v .most)

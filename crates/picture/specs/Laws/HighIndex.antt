@@ -14,7 +14,7 @@ use Rattle.laws.specs.Ceiling.{ceiling}
 use Rattle.unit.specs.declared.PictureKind.the-variants.{HighQuality}
 use Rattle.unit.specs.declared.RateControl.{RateControl}
 use Rattle.unit.specs.declared.RateControl.the-variants.{Lossless, FixedQuantIndex, PictureBytes}
-use Rattle.unit.specs.Limits.{areaLimit}
+use Rattle.unit.specs.Limits.{areaLimit, lastIndex}
 use Rattle.unit.specs.Three.{Three}
 use Rattle.unit.specs.Slices.{partSize}
 use Rattle.unit.specs.Laws.Slice.{partSize-most}
@@ -24,7 +24,7 @@ use Rattle.unit.specs.Elect.{elect}
 use Rattle.unit.specs.Laws.Elect.{elected}
 use Rattle.unit.specs.Laws.Test.{no-truth}
 use Rattle.unit.specs.Code.Valid.{RateFits}
-use Rattle.unit.specs.HighQuality.{sliceSizeBy, needOf, sliceSize, shareOf}
+use Rattle.unit.specs.HighQuality.{sliceSizeBy, needOf, sliceSize, shareOf, fitsBy, indexBy}
 use Rattle.picture.specs.declared.slices.layout.Component.{Component}
 use Rattle.picture.specs.declared.slices.layout.Layout.{Layout}
 use Rattle.picture.specs.declared.slices.layout.Picture.{Picture}
@@ -41,7 +41,7 @@ use Rattle.picture.specs.Laws.Region.{strip-part}
 use Rattle.picture.specs.Laws.Number.{length-region}
 use Rattle.picture.specs.Code.Picture.{slicesIn, runOf, numbersIn, Arranged, SliceIn}
 use Rattle.picture.specs.Code.Tally.{trimmedOf}
-use Rattle.picture.specs.Code.Choice.{fitsBy, indexBy, indexIn, packedOf, choiceBy, choiceIn, needsBy, isTarget, FewBits, TermsIn, PlanIn, NeedsOf}
+use Rattle.picture.specs.Code.Choice.{indexIn, packedOf, choiceBy, choiceIn, needsBy, isTarget, FewBits, TermsIn, PlanIn, NeedsOf}
 
 -- ---- what a component needs
 module _ (w : List ℤ) (l : Layout) (c : Component) (k q : ℕ) where
@@ -189,9 +189,9 @@ pub plan-slice : {p : Picture} {t : Terms} {w : List ℤ} → PlanIn p t w → (
 plan-slice h k q l m = record { arranged = h .arranged; small = h .small; slice = l; index = m }
 
 module _ (w : List ℤ) (p : Picture) (t : Terms) (k : ℕ) where
-  index-by : (r : RateControl) → t .rate ≡ r → indexIn w p t k ≡ indexBy r (t .prefix) (t .scaler) (shareOf (t .bytes) (slicesIn p) k) (numbersIn w p k)
+  index-by : (r : RateControl) → t .rate ≡ r → indexIn w p t k ≡ indexBy (t .lo) r (t .prefix) (t .scaler) (shareOf (t .bytes) (slicesIn p) k) (numbersIn w p k)
   unfolding indexIn
-  index-by r e = ap (λ (r : RateControl). indexBy r (t .prefix) (t .scaler) (shareOf (t .bytes) (slicesIn p) k) (numbersIn w p k)) e
+  index-by r e = ap (λ (r : RateControl). indexBy (t .lo) r (t .prefix) (t .scaler) (shareOf (t .bytes) (slicesIn p) k) (numbersIn w p k)) e
 
   pub index-lossless : t .rate ≡ Lossless → 0 ≡ indexIn w p t k
   unfolding indexBy
@@ -202,10 +202,10 @@ module _ (w : List ℤ) (p : Picture) (t : Terms) (k : ℕ) where
   index-fixed h q e = (sym (index-by (FixedQuantIndex q) e), subst (RateFits HighQuality) e (h .rate))
 
   pub index-elected : (b d share q : ℕ) → t .rate ≡ PictureBytes b → d ≡ slicesIn p → share ≡ shareOf (t .bytes) d k
-      → q ≡ elect 0 255 (fitsBy (t .prefix) (t .scaler) share (numbersIn w p k)) → q ≡ indexIn w p t k
+      → q ≡ elect (t .lo) (lastIndex HighQuality) (fitsBy (t .prefix) (t .scaler) share (numbersIn w p k)) → q ≡ indexIn w p t k
   unfolding indexBy
   index-elected b d share q e f g h =
-      h ∙ ap (λ (s : ℕ). elect 0 255 (fitsBy (t .prefix) (t .scaler) s (numbersIn w p k))) (g ∙ ap (λ (d : ℕ). shareOf (t .bytes) d k) f)
+      h ∙ ap (λ (s : ℕ). elect (t .lo) (lastIndex HighQuality) (fitsBy (t .prefix) (t .scaler) s (numbersIn w p k))) (g ∙ ap (λ (d : ℕ). shareOf (t .bytes) d k) f)
       ∙ sym (index-by (PictureBytes b) e)
 
   pub index-most : TermsIn t → indexIn w p t k ≤ 255
@@ -218,17 +218,17 @@ module _ (w : List ℤ) (p : Picture) (t : Terms) (k : ℕ) where
           let d : ℕ = slicesIn p in
           let share : ℕ = shareOf (t .bytes) d k in
           let f = fitsBy (t .prefix) (t .scaler) share (numbersIn w p k) in
-          omega (arith, index-elected b d share (elect 0 255 f) e refl refl refl, elected f 0 255 (omega arith) .high)
+          omega (arith, index-elected b d share (elect (t .lo) (lastIndex HighQuality) f) e refl refl refl, elected f (t .lo) (lastIndex HighQuality) (h .lo) .high)
 
 -- without a byte target the terms of one rate have the same index
 pub index-stands : (w : List ℤ) (p : Picture) (t x : Terms) (k : ℕ) → x .rate ≡ t .rate → isTarget (t .rate) ≡ false → indexIn w p x k ≡ indexIn w p t k
 unfolding indexIn indexBy isTarget
 index-stands w p t x k e f =
-    ap (λ (r : RateControl). indexBy r (x .prefix) (x .scaler) (shareOf (x .bytes) (slicesIn p) k) (numbersIn w p k)) e ∙ by (t .rate) f
+    ap (λ (r : RateControl). indexBy (x .lo) r (x .prefix) (x .scaler) (shareOf (x .bytes) (slicesIn p) k) (numbersIn w p k)) e ∙ by (t .rate) f
   where
     by : (r : RateControl) → isTarget r ≡ false
-        → indexBy r (x .prefix) (x .scaler) (shareOf (x .bytes) (slicesIn p) k) (numbersIn w p k)
-        ≡ indexBy r (t .prefix) (t .scaler) (shareOf (t .bytes) (slicesIn p) k) (numbersIn w p k)
+        → indexBy (x .lo) r (x .prefix) (x .scaler) (shareOf (x .bytes) (slicesIn p) k) (numbersIn w p k)
+        ≡ indexBy (t .lo) r (t .prefix) (t .scaler) (shareOf (t .bytes) (slicesIn p) k) (numbersIn w p k)
     by Lossless h = refl
     by (FixedQuantIndex q) h = refl
     by (PictureBytes b) h = no-truth h

@@ -15,10 +15,8 @@ use Rattle.wavelet.specs.Planes.{Band}
 use Rattle.unit.specs.declared.Settings.{Settings}
 use Rattle.unit.specs.declared.PictureKind.{PictureKind}
 use Rattle.unit.specs.declared.PictureKind.the-variants.{HighQuality}
-use Rattle.unit.specs.declared.RateControl.{RateControl}
-use Rattle.unit.specs.declared.RateControl.the-variants.{Lossless, FixedQuantIndex, PictureBytes}
 use Rattle.unit.specs.declared.Answer.the-variants.{Accepted, Refused}
-use Rattle.unit.specs.Limits.{unitLimit}
+use Rattle.unit.specs.Limits.{unitLimit, lowestIndex}
 use Rattle.unit.specs.Three.{Three}
 use Rattle.unit.specs.Sizes.{lumaSize}
 use Rattle.unit.specs.Slices.{Grid, sliceCount}
@@ -28,7 +26,7 @@ use Rattle.unit.specs.Parameters.{overhead}
 use Rattle.unit.specs.Coefficients.{coefficientsOf}
 use Rattle.unit.specs.Quantised.{numbersHQ}
 use Rattle.unit.specs.Plan.{SlicePlan, Plan}
-use Rattle.unit.specs.HighQuality.{shareOf, highNumbers, highIndex, highPlan, scalerFrom}
+use Rattle.unit.specs.HighQuality.{shareOf, indexBy, highPlanOf, highNumbers, highIndex, highPlan, scalerFrom}
 use Rattle.unit.specs.Laws.HighQuality.{needs-most}
 use Rattle.unit.specs.Unit.{majorVersion, gridOf, highParameters, highBytes, highSlicesOf, scalerOf, planOf, sliceRuns, headBits, lengthOf}
 use Rattle.unit.specs.Unit as unit
@@ -46,36 +44,24 @@ use Rattle.picture.specs.declared.coder.plan.Settled.{Settled}
 use Rattle.picture.specs.Laws.Number.{Bands, numbers-high}
 use Rattle.picture.specs.Code.Analysed.{Holds, isLow, layoutOf, pictureOf, Called, Analysed}
 use Rattle.picture.specs.Code.Picture.{slicesIn, runOf, numbersIn}
-use Rattle.picture.specs.Code.Choice.{indexBy, planBy, indexIn, planIn, highRuns, termsOf, slicesBy, PlanIn}
+use Rattle.picture.specs.Code.Choice.{indexIn, planIn, highRuns, termsOf, slicesBy, PlanIn}
 use Rattle.picture.specs.Code.Passes.{HighIn, Settles}
 use Rattle.picture.specs.Code.Notes.{Notes}
 use Rattle.picture.specs.Laws.Noted.{high-work, notes-plan, notes-own, runs-alike}
 use Rattle.picture.specs.Code.Coded.{Codes, Coding, CodesAny}
 use Rattle.picture.specs.Laws.Analysed.{called-arranged, grid-is, slices-are, values-in, bands-y, bands-c1, bands-c2, small-by, holds-y, holds-c1, holds-c2, flatten-span, length-parts, slices-room, codes-refused, codes-written}
 
--- ---- a slice's index and plan
-index-by : (g : Grid) (v : List ℕ) (b : Three (List Band)) (x : ℕ) (r : RateControl) (c n k : ℕ)
-    → indexBy r x c (shareOf n (sliceCount g) k) (highNumbers g v b x k) ≡ highIndex g v b x r c n k
-unfolding indexBy highIndex
-index-by g v b x Lossless c n k = refl
-index-by g v b x (FixedQuantIndex q) c n k = refl
-index-by g v b x (PictureBytes t) c n k = refl
-
-plan-by : (g : Grid) (v : List ℕ) (b : Three (List Band)) (x c k q : ℕ) → planBy x c q (highNumbers g v b x k q) ≡ highPlan g v b x c k q
-unfolding highPlan
-plan-by g v b x c k q = refl
-
+-- ---- a slice's plan
 -- a picture with as many slices as the grid, and with its numbers
-plan-of : (w : List ℤ) (p : Picture) (t : Terms) (g : Grid) (v : List ℕ) (b : Three (List Band)) (k : ℕ) → slicesIn p ≡ sliceCount g
+plan-of : (w : List ℤ) (p : Picture) (t : Terms) (g : Grid) (v : List ℕ) (b : Three (List Band)) (k : ℕ) → slicesIn p ≡ sliceCount g → t .lo ≡ lowestIndex
     → numbersIn w p k ≡ highNumbers g v b (t .prefix) k
     → planIn w p t k ≡ highPlan g v b (t .prefix) (t .scaler) k (highIndex g v b (t .prefix) (t .rate) (t .scaler) (t .bytes) k)
-unfolding planIn indexIn
-plan-of w p t g v b k e f =
+unfolding planIn indexIn highPlan highIndex
+plan-of w p t g v b k e l f =
     let x = t .prefix in
     let c = t .scaler in
-    ap₂ (λ (n : ℕ) (z : ℕ → Three (List ℤ)). let q = indexBy (t .rate) x c (shareOf (t .bytes) n k) z in planBy x c q (z q)) e f
-    ∙ ap (λ (q : ℕ). planBy x c q (highNumbers g v b x k q)) (index-by g v b x (t .rate) c (t .bytes) k)
-    ∙ plan-by g v b x c k (highIndex g v b x (t .rate) c (t .bytes) k)
+    ap₂ (λ (n : ℕ) (z : ℕ → Three (List ℤ)). let q = indexBy (t .lo) (t .rate) x c (shareOf (t .bytes) n k) z in highPlanOf x c q (z q)) e f
+    ∙ ap (λ (lo : ℕ). let z = highNumbers g v b x k in let q = indexBy lo (t .rate) x c (shareOf (t .bytes) (sliceCount g) k) z in highPlanOf x c q (z q)) l
 
 -- ---- the call's slices
 module _ (s : Settings) (m : List ℕ) (p : Three (List ℕ)) (w : List ℤ) (d : Called s m) (a : Analysed s p w) (e : s .kind ≡ HighQuality) where
@@ -107,7 +93,7 @@ module _ (s : Settings) (m : List ℕ) (p : Three (List ℕ)) (w : List ℤ) (d 
       let x = s .«slice_prefix_bytes» in
       let f : ℕ → SlicePlan = λ k. highPlan g v b x c k (highIndex g v b x (s .rate) c (highBytes s m c) k) in
       span-ext (planIn w (pictureOf s m) (termsOf s m c)) f 0 (slicesIn (pictureOf s m))
-      (λ k o h. plan-of w (pictureOf s m) (termsOf s m c) g v b k (slices-are s m) (numbers-are x k (omega arith)))
+      (λ k o h. plan-of w (pictureOf s m) (termsOf s m c) g v b k (slices-are s m) refl (numbers-are x k (omega arith)))
       ∙ ap (span f 0) (slices-are s m)
 
   -- ---- the scaler
@@ -217,6 +203,7 @@ module _ {w : List ℤ} {p : Picture} {s : Settings} {m : List ℕ} (k : Coding 
         prefix = k .called .prefix;
         scaler = (z .some, z .few);
         bytes = omega (arith, target-few HighQuality (s .rate) rate-in);
+        lo = omega arith;
       };
     }
 

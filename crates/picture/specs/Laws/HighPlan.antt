@@ -20,7 +20,7 @@ use Rattle.unit.specs.declared.Settings.{Settings}
 use Rattle.unit.specs.declared.PictureKind.the-variants.{HighQuality}
 use Rattle.unit.specs.declared.RateControl.{RateControl}
 use Rattle.unit.specs.declared.RateControl.the-variants.{Lossless, FixedQuantIndex, PictureBytes}
-use Rattle.unit.specs.Limits.{sideLimit}
+use Rattle.unit.specs.Limits.{sideLimit, lowestIndex}
 use Rattle.unit.specs.Three.{Three}
 use Rattle.unit.specs.Plan.{SlicePlan}
 use Rattle.unit.specs.Laws.Valid.{target-few}
@@ -156,9 +156,9 @@ slicesFrom s m c = overhead (majorVersion s) (highParameters s m c)
 
 -- the terms with scaler c, by the target and by where the slices begin
 pub terms-are : (s : Settings) (m : List ℕ) (c bytes target taken : ℕ) → bytes ≡ target - taken → target ≡ targetOf (s .rate) → taken ≡ slicesFrom s m c
-    → record { rate = s .rate; prefix = s .«slice_prefix_bytes»; scaler = c; bytes = bytes } ≡ termsOf s m c
+    → record { rate = s .rate; prefix = s .«slice_prefix_bytes»; scaler = c; bytes = bytes; lo = lowestIndex } ≡ termsOf s m c
 terms-are s m c bytes target taken e f g =
-    ap (λ (n : ℕ). record { rate = s .rate; prefix = s .«slice_prefix_bytes»; scaler = c; bytes = n }) (e ∙ ap₂ _-_ f g)
+    ap (λ (n : ℕ). record { rate = s .rate; prefix = s .«slice_prefix_bytes»; scaler = c; bytes = n; lo = lowestIndex }) (e ∙ ap₂ _-_ f g)
 
 -- slices can be planned with scaler c
 pub plan-in : {s : Settings} {p : Picture} {w : List ℤ} (m : List ℕ) (c : ℕ) → HighIn s p w → 1 ≤ c → c ≤ 2 ^ 24 → (t : Terms) → t ≡ termsOf s m c → PlanIn p t w
@@ -171,6 +171,7 @@ plan-in {s} {p} {w} m c h some few t e = subst (λ (u : Terms). PlanIn p u w) (s
     prefix = h .prefix;
     scaler = (some, few);
     bytes = omega (arith, target-few HighQuality (s .rate) (h .rate));
+    lo = omega arith;
   };
 })
 

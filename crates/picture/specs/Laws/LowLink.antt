@@ -18,7 +18,7 @@ use Rattle.laws.specs.Code.Laid.{Lays}
 use Rattle.codewords.specs.Bytes.{toBytes}
 use Rattle.quantiser.specs.Quant.{bandIndex}
 use Rattle.wavelet.specs.Planes.{Band, bandAt}
-use Rattle.unit.specs.Limits.{targetLimit}
+use Rattle.unit.specs.Limits.{targetLimit, lowestIndex, lastIndex}
 use Rattle.unit.specs.Three.{Three}
 use Rattle.unit.specs.Sizes.{Size}
 use Rattle.unit.specs.Slices.{Grid, sliceCount}
@@ -211,7 +211,7 @@ module _ (p : Picture) (m : List ℕ) (b : Three (List Band)) (h : Linked p m b)
     module _ (n : ℕ) where
       pub index-is : lowIndexIn p n w k ≡ lowIndex g m b (sliceBytes n (sliceCount g) k) r k
       unfolding lowIndexIn lowIndex
-      index-is = ap (elect 0 127) (fits-are (roomOf (bytesAt p n k)))
+      index-is = ap (elect lowestIndex (lastIndex LowDelay)) (fits-are (roomOf (bytesAt p n k)))
 
       pub slice-is : lowBitsIn p n w k ≡ lowPlan g m b (sliceBytes n (sliceCount g) k) r k (lowIndex g m b (sliceBytes n (sliceCount g) k) r k) .bits
       slice-is =

@@ -23,6 +23,8 @@ use Rattle.codewords.specs.Code.{codes}
 use Rattle.codewords.specs.Writer.{Room, Wrote, Flushes}
 use Rattle.codewords.specs.Laws.Writer.{startAt, start-sound, wrote-then, room-after, flush-lays}
 use Rattle.codewords.specs.declared.writer.BitWriter.{BitWriter}
+use Rattle.unit.specs.declared.PictureKind.the-variants.{LowDelay}
+use Rattle.unit.specs.Limits.{lowestIndex, lastIndex}
 use Rattle.unit.specs.Trim.{trimmed, bitsOf, trimmedCost, fitPrefix}
 use Rattle.unit.specs.Laws.Trim.{fit-bits}
 use Rattle.unit.specs.Elect.{elect}
@@ -250,12 +252,12 @@ module _ (p : Picture) (n : ℕ) (w : List ℤ) (k d bytes : ℕ) (ed : d ≡ sl
       let l : 1 ≤ bytesAt p n k = omega arith in
       omega (arith, slice-length (lowWorkIn p n w k) p (bytesAt p n k) k (lowIndexIn p n w k) l)
 
-  index-is : (room q : ℕ) → room ≡ roomOf bytes → q ≡ elect 0 127 (lowFitsIn w p room k) → q ≡ lowIndexIn p n w k
+  index-is : (room q : ℕ) → room ≡ roomOf bytes → q ≡ elect lowestIndex (lastIndex LowDelay) (lowFitsIn w p room k) → q ≡ lowIndexIn p n w k
   unfolding lowIndexIn
-  index-is room q er ei = ei ∙ ap (λ (x : ℕ). elect 0 127 (lowFitsIn w p x k)) (er ∙ ap (λ (x : ℕ). roomOf x) bytes-is)
+  index-is room q er ei = ei ∙ ap (λ (x : ℕ). elect lowestIndex (lastIndex LowDelay) (lowFitsIn w p x k)) (er ∙ ap (λ (x : ℕ). roomOf x) bytes-is)
 
   -- candidates have left u, and the elected one was made again
-  pub elects : (room q : ℕ) → room ≡ roomOf bytes → q ≡ elect 0 127 (lowFitsIn w p room k)
+  pub elects : (room q : ℕ) → room ≡ roomOf bytes → q ≡ elect lowestIndex (lastIndex LowDelay) (lowFitsIn w p room k)
       → {u v : List ℤ} → Tried p k w u → v ≡ rebuiltIn u p k q → Elects p n w k bytes q v
   elects room q er ei {u} {v} t e =
       let i = index-is room q er ei in

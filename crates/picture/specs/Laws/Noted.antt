@@ -22,7 +22,7 @@ use Rattle.laws.specs.Laws.Laid.{laid-is, length-laid}
 use Rattle.codewords.specs.Bytes.{toBytes}
 use Rattle.unit.specs.declared.Settings.{Settings}
 use Rattle.unit.specs.Three.{Three}
-use Rattle.unit.specs.HighQuality.{shareOf, largestNeed, scalerFrom}
+use Rattle.unit.specs.HighQuality.{shareOf, largestNeed, scalerFrom, indexBy, highPlanOf}
 use Rattle.unit.specs.Parameters.{overhead}
 use Rattle.unit.specs.Unit.{majorVersion, highParameters}
 use Rattle.unit.specs.Plan.{SlicePlan}
@@ -43,7 +43,7 @@ use Rattle.picture.specs.Laws.Unpacked.{packed-few}
 use Rattle.picture.specs.Laws.Packed.{laid-behind, run-alike}
 use Rattle.picture.specs.Code.Picture.{slicesIn, runOf, numbersIn, Arranged, SliceIn}
 use Rattle.picture.specs.Laws.Picture.{run-y, run-c1, run-c2}
-use Rattle.picture.specs.Code.Choice.{indexBy, indexIn, planBy, planIn, plansIn, highRuns, choiceBy, choiceIn, sliceWords, wordsIn, wordsTo, sliceNumberCount, isTarget, FewBits, PlanIn, termsOf, slicesBy}
+use Rattle.picture.specs.Code.Choice.{indexIn, planIn, plansIn, highRuns, choiceBy, choiceIn, sliceWords, wordsIn, wordsTo, sliceNumberCount, isTarget, FewBits, PlanIn, termsOf, slicesBy}
 use Rattle.picture.specs.Code.Notes.{noteRun, noteIn, RunAt, ChoiceAt, Notes}
 use Rattle.picture.specs.Code.Passes.{PlansOn, PlansTo, HighIn, Settles}
 use Rattle.picture.specs.Laws.HighIndex.{index-stands}
@@ -75,7 +75,7 @@ module _ (p : Picture) (w v : List ℤ) (h : WorkIn p w) (same : (i : ℕ) → p
 
   pub index-same : (t : Terms) (k : ℕ) → k < slicesIn p → indexIn v p t k ≡ indexIn w p t k
   unfolding indexIn
-  index-same t k b = ap (indexBy (t .rate) (t .prefix) (t .scaler) (shareOf (t .bytes) (slicesIn p) k)) (numbers-same k b)
+  index-same t k b = ap (indexBy (t .lo) (t .rate) (t .prefix) (t .scaler) (shareOf (t .bytes) (slicesIn p) k)) (numbers-same k b)
 
   pub choice-same : (t : Terms) (k : ℕ) → k < slicesIn p → choiceIn v p t k ≡ choiceIn w p t k
   choice-same t k b = ap₂ (λ (q : ℕ) (z : ℕ → Three (List ℤ)). choiceBy z q) (index-same t k b) (numbers-same k b)
@@ -83,7 +83,7 @@ module _ (p : Picture) (w v : List ℤ) (h : WorkIn p w) (same : (i : ℕ) → p
   pub plan-same : (t : Terms) (k : ℕ) → k < slicesIn p → planIn v p t k ≡ planIn w p t k
   unfolding planIn
   plan-same t k b =
-      ap₂ (λ (q : ℕ) (z : ℕ → Three (List ℤ)). planBy (t .prefix) (t .scaler) q (z q)) (index-same t k b) (numbers-same k b)
+      ap₂ (λ (q : ℕ) (z : ℕ → Three (List ℤ)). highPlanOf (t .prefix) (t .scaler) q (z q)) (index-same t k b) (numbers-same k b)
 
   pub words-same : (t : Terms) (k : ℕ) → k < slicesIn p → wordsIn v p t k ≡ wordsIn w p t k
   words-same t k b = ap₂ (λ (q : ℕ) (z : ℕ → Three (List ℤ)). sliceWords (z q)) (index-same t k b) (numbers-same k b)

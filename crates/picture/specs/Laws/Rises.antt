@@ -18,7 +18,7 @@ use Rattle.quantiser.specs.Laws.Quant.{quantFactor-least}
 use Rattle.quantiser.specs.Laws.Rises.{factor-rises, forward-falls, code-falls}
 use Rattle.unit.specs.Three.{Three}
 use Rattle.unit.specs.Trim.{trimCons, trimmed, bitsOf, trimmedCost}
-use Rattle.unit.specs.HighQuality.{needOf, scalersOf, sliceSize}
+use Rattle.unit.specs.HighQuality.{needOf, scalersOf, sliceSize, fitsBy}
 use Rattle.picture.specs.declared.slices.layout.Component.{Component}
 use Rattle.picture.specs.declared.slices.layout.Layout.{Layout}
 use Rattle.picture.specs.declared.slices.layout.Picture.{Picture}
@@ -28,7 +28,6 @@ use Rattle.picture.specs.Laws.Tally.{bits-more, bits-none}
 use Rattle.picture.specs.Code.Layout.{bandCount, startOf, stripOf, runNumbers, restNumbers}
 use Rattle.picture.specs.Laws.Layout.{bandStrip, bandNumbers, run-chunks}
 use Rattle.picture.specs.Code.Picture.{numbersIn}
-use Rattle.picture.specs.Code.Choice.{fitsBy}
 
 -- ---- as many numbers, and none larger in magnitude
 abbrev Falls : List ℤ → List ℤ → Type 0

@@ -38,6 +38,7 @@ pub(crate) fn terms_of(s: Settings, matrix: &[u32], c: u32) -> Terms
         prefix: s.slice_prefix_bytes,
         scaler: c,
         bytes: crate::front::header::less(target, taken),
+        lo: 0,
     }
 }
 

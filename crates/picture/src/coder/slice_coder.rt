@@ -129,7 +129,7 @@ impl SliceCoder {
         let room = crate::low::size::room_of(bytes);
         let g = crate::low::bracket::guess(self.index);
         let v = crate::low::trial::windows_of(p, k);
-        let e = crate::low::election::elect_qindex(work, p, room, k, g, v);
+        let e = crate::low::election::elect_qindex(work, p, room, k, 0, g, v);
         let q = e.index;
         let rest = e.rest;
         crate::low::trial::rebuild_planes(work, p, k, q, v);

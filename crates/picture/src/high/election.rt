@@ -7,12 +7,14 @@ use crate::slices::tally::Trimmed;
 use unit::RateControl;
 ghost use mathlib.Core.Path.{_≡_};
 ghost use Prim.Native.Nat.{_*_, _≤_, _<_};
-ghost use Rattle.unit.specs.Limits.{areaLimit};
+ghost use Rattle.unit.specs.declared.PictureKind.the-variants.{HighQuality};
+ghost use Rattle.unit.specs.Limits.{areaLimit, lastIndex};
 ghost use Rattle.unit.specs.Elect.{elect};
+ghost use Rattle.unit.specs.HighQuality.{fitsBy};
 ghost use Rattle.picture.specs.Code.Layout.{RunIn};
 ghost use Rattle.picture.specs.Code.Picture.{slicesIn, runOf, numbersIn, SliceIn};
 ghost use Rattle.picture.specs.Code.Tally.{trimmedOf};
-ghost use Rattle.picture.specs.Code.Choice.{fitsBy, indexIn, TermsIn, PlanIn};
+ghost use Rattle.picture.specs.Code.Choice.{indexIn, TermsIn, PlanIn};
 
 // The run of a component of slice k at index q, without its trailing zeros.
 fn trimmed_run(work: &[i64], p: Picture, c: Component, k: u32, q: u32) -> Trimmed
@@ -51,34 +53,54 @@ fn fits(work: &[i64], p: Picture, t: Terms, share: u64, k: u32, q: u32) -> bool
     fits_with(work, p, t, share, k, q, y)
 }
 
-// An index from lo to below hi: g at first, then in widening steps from the end that was moved, and the middle once
-// both were. Any index of this range leads the search to the same end.
-fn next_index(lo: u32, hi: u32, g: u32, step: u32) -> u32
-    requires { ⌜ (lo < hi) × ((hi ≤ 255) × ((1 ≤ step) × (step ≤ 256))) ⌝ }
-    ensures { λ r. ⌜ (lo ≤ r) × (r < hi) ⌝ }
+// The number g, or the nearer one of lo and hi where it is not between them.
+fn within(lo: u32, hi: u32, g: u32) -> u32
+    requires { ⌜ lo ≤ hi ⌝ }
+    ensures { λ q. ⌜ (lo ≤ q) × (q ≤ hi) ⌝ }
 {
-    if lo == 0 {
-        if hi == 255 {
-            return if g < hi { g } else { hi - 1 };
-        }
-        return if step < hi { hi - step } else { 0 };
+    if g < lo {
+        lo
+    } else if g < hi {
+        g
+    } else {
+        hi
     }
-    if hi == 255 {
-        return if lo + step < hi { lo + step } else { hi - 1 };
-    }
-    (lo + hi) / 2
 }
 
-// The election from 0 to 255, from the guess g on. What fits at an index fits at every larger one, so that the least
-// index that fits is elected, or 255.
+// An index of the range r, below its end, for a search that began with the range ends: g at first, then in widening
+// steps from the end that was moved, and the middle once both were. Any index of the range leads to the same end.
+fn next_index(r: Range, ends: Range, g: u32, step: u32) -> u32
+    requires { ⌜ (r .lo < r .hi) × ((r .hi ≤ 255) × ((1 ≤ step) × (step ≤ 256))) ⌝ }
+    ensures { λ q. ⌜ (r .lo ≤ q) × (q < r .hi) ⌝ }
+{
+    let last = r.hi - 1;
+    if r.lo == ends.lo {
+        if r.hi == ends.hi {
+            return within(r.lo, last, g);
+        }
+        return if r.lo + step < r.hi {
+            r.hi - step
+        } else {
+            r.lo
+        };
+    }
+    if r.hi == ends.hi {
+        return within(r.lo, last, r.lo + step);
+    }
+    crate::slices::search::middle(r)
+}
+
+// The election from the terms' first index to 255, from the guess g on. What fits at an index fits at every larger one,
+// so that the least index that fits is elected, or 255.
 fn elect_qindex(work: &[i64], p: Picture, t: Terms, share: u64, k: u32, g: u32) -> u32
     requires { ⌜ PlanIn p t (now work) × (k < slicesIn p) ⌝ }
-    ensures { λ r. ⌜ r ≡ elect 0 255 (fitsBy (t .prefix) (t .scaler) share (numbersIn (now (work .entry)) p k)) ⌝ }
+    ensures { λ r. ⌜ r ≡ elect (t .lo) (lastIndex HighQuality) (fitsBy (t .prefix) (t .scaler) share (numbersIn (now (work .entry)) p k)) ⌝ }
 {
-    let mut r = Range { lo: 0, hi: 255 };
+    let ends = Range { lo: t.lo, hi: 255 };
+    let mut r = ends;
     let mut step = 1;
     while r.lo < r.hi {
-        let q = next_index(r.lo, r.hi, g, step);
+        let q = next_index(r, ends, g, step);
         r = crate::slices::search::narrowed(r, q, fits(work, p, t, share, k, q));
         step = crate::slices::search::wider(step);
     }

@@ -13,12 +13,14 @@ pub(crate) struct Needs {
     pub c2: u64,
 }
 
-// What all slices share: the rate, prefix bytes, the scaler, and the bytes for all slices.
+// What all slices share: the rate, prefix bytes, the scaler, the bytes for all slices, and the index where elections
+// begin.
 pub(crate) struct Terms {
     pub rate: RateControl,
     pub prefix: u32,
     pub scaler: u32,
     pub bytes: u64,
+    pub lo: u32,
 }
 
 // How many bytes n bits need.

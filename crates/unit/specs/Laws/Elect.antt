@@ -104,15 +104,15 @@ module _ (fits : ℕ → Bool) where
       (λ h. halve-under n (mid + 1) hi (omega arith) (omega arith))
 
   -- where what fits at an index fits at every larger one up to hi, an index with no fit just below it is at most one
-  -- that fits
-  under-le : (hi q m : ℕ) → ((i j : ℕ) → i ≤ j → j ≤ hi → fits i ≡ true → fits j ≡ true) → q ≤ hi → Under 0 q → (m < hi → fits m ≡ true) → q ≤ m
-  under-le hi q m rises h u f =
+  -- from lo on that fits
+  under-le : (lo hi q m : ℕ) → ((i j : ℕ) → i ≤ j → j ≤ hi → fits i ≡ true → fits j ≡ true) → q ≤ hi → lo ≤ m → Under lo q → (m < hi → fits m ≡ true) → q ≤ m
+  under-le lo hi q m rises h l u f =
       le-of-suc-le-suc (lt-of-not-le λ (g : suc m ≤ q).
       no-truth (sym (rises m (q - 1) (omega arith) (omega arith) (f (omega arith))) ∙ u (omega arith)))
 
-  pub elect-least : (hi m : ℕ) → ((i j : ℕ) → i ≤ j → j ≤ hi → fits i ≡ true → fits j ≡ true) → m ≤ hi → (0 < m → fits (m - 1) ≡ false)
-      → (m < hi → fits m ≡ true) → elect 0 hi fits ≡ m
-  elect-least hi m rises h u f =
-      let r = elected 0 hi (omega arith) in
-      let v : Under 0 (elect 0 hi fits) = rw (elect-halves 0 hi (omega arith)) (halve-under (hi - 0) 0 hi (omega arith) (omega arith)) in
-      le-antisymm (under-le hi (elect 0 hi fits) m rises (r .high) v f) (under-le hi m (elect 0 hi fits) rises h u (r .fit))
+  pub elect-least : (lo hi m : ℕ) → ((i j : ℕ) → i ≤ j → j ≤ hi → fits i ≡ true → fits j ≡ true) → lo ≤ m → m ≤ hi → (lo < m → fits (m - 1) ≡ false)
+      → (m < hi → fits m ≡ true) → elect lo hi fits ≡ m
+  elect-least lo hi m rises l h u f =
+      let r = elected lo hi (omega arith) in
+      let v : Under lo (elect lo hi fits) = rw (elect-halves lo hi (omega arith)) (halve-under (hi - lo) lo hi (omega arith) (omega arith)) in
+      le-antisymm (under-le lo hi (elect lo hi fits) m rises (r .high) l v f) (under-le lo hi m (elect lo hi fits) rises h (r .low) u (r .fit))

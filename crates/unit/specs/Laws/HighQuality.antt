@@ -22,12 +22,13 @@ use Rattle.wavelet.specs.Planes.{Band}
 use Rattle.unit.specs.declared.PictureKind.the-variants.{HighQuality}
 use Rattle.unit.specs.declared.RateControl.{RateControl}
 use Rattle.unit.specs.declared.RateControl.the-variants.{Lossless, FixedQuantIndex, PictureBytes}
+use Rattle.unit.specs.Limits.{lastIndex, lowestIndex}
 use Rattle.unit.specs.Three.{Three, map3}
 use Rattle.unit.specs.Slices.{Grid, sliceCount}
 use Rattle.unit.specs.Trim.{trimmed, trimmedCost}
 use Rattle.unit.specs.Plan.{SlicePlan}
 use Rattle.unit.specs.Quantised.{sizeOf, numbersHQ}
-use Rattle.unit.specs.HighQuality.{needOf, scalersOf, componentBits, highBits, sliceSize, shareOf, highNumbers, highIndex, highPlan, highSlices, largestNeed, scalerFrom}
+use Rattle.unit.specs.HighQuality.{needOf, scalersOf, componentBits, highBits, sliceSize, shareOf, fitsBy, indexBy, highNumbers, highIndex, highPlan, highSlices, largestNeed, scalerFrom}
 use Rattle.unit.specs.Reader.{readComponent, readHigh}
 use Rattle.unit.specs.Demand.{bytesOf}
 use Rattle.unit.specs.Code.Valid.{RateFits}
@@ -223,14 +224,10 @@ module _ (g : Grid) (m : List ℕ) (b : Three (List Band)) (p : ℕ) (r : RateCo
       ∙ span-ext _ takes 0 (sliceCount g)
       (λ k a e. ap (λ (x : ℕ). x / 8) (length-high p c (highIndex g m b p r c n k) (highNumbers g m b p k (highIndex g m b p r c n k)) h) ∙ omega arith)
 
--- whether slice k fits its share at index q
-abbrev fitsShare : Grid → List ℕ → Three (List Band) → ℕ → ℕ → ℕ → ℕ → ℕ → Bool
-fitsShare g m b p c n k q = leb (sliceSize p c (highNumbers g m b p k q)) (shareOf n (sliceCount g) k)
-
 -- a slice's index is a byte
 pub high-index : (g : Grid) (m : List ℕ) (b : Three (List Band)) (p : ℕ) (r : RateControl) → RateFits HighQuality r
     → (c n k : ℕ) → highIndex g m b p r c n k < 256
-unfolding highIndex
+unfolding highIndex indexBy
 high-index g m b p Lossless f c n k = omega arith
 high-index g m b p (FixedQuantIndex q) f c n k = omega arith
-high-index g m b p (PictureBytes t) f c n k = omega (arith, elected (fitsShare g m b p c n k) 0 255 (omega arith) .high)
+high-index g m b p (PictureBytes t) f c n k = omega (arith, elected (fitsBy p c (shareOf n (sliceCount g) k) (highNumbers g m b p k)) lowestIndex (lastIndex HighQuality) (omega arith) .high)

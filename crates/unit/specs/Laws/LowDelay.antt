@@ -19,6 +19,8 @@ use Rattle.codewords.specs.Read.{sintsb}
 use Rattle.codewords.specs.Laws.Read.{Reads, reads-give, reads-then, reads-last, reads-such, reads-nbits, reads-bits, block-codes}
 use Rattle.codewords.specs.Laws.Byte.{Full, full-length}
 use Rattle.wavelet.specs.Planes.{Band}
+use Rattle.unit.specs.declared.PictureKind.the-variants.{LowDelay}
+use Rattle.unit.specs.Limits.{lastIndex, lowestIndex}
 use Rattle.unit.specs.Three.{Three, map3}
 use Rattle.unit.specs.Slices.{Grid, sliceCount}
 use Rattle.unit.specs.Sizes.{intlog2}
@@ -187,13 +189,13 @@ low-whole g m b n q z e h =
 module _ (g : Grid) (m : List ℕ) (b : Three (List Band)) (n : ℕ) (r : Three Plane) (k : ℕ) where
   pub low-index : lowIndex g m b n r k < 128
   unfolding lowIndex
-  low-index = omega (arith, elected (lowFits g m b (roomOf n) r k) 0 127 (omega arith) .high)
+  low-index = omega (arith, elected (lowFits g m b (roomOf n) r k) lowestIndex (lastIndex LowDelay) (omega arith) .high)
 
   -- a slice whose index is below 127 fits
   pub low-fits : lowIndex g m b n r k < 127
       → let z = lowNumbers g m b r k (lowIndex g m b n r k) in trimmedCost (z .y) + trimmedCost (alternated (z .c1) (z .c2)) ≤ roomOf n
   unfolding lowIndex
-  low-fits h = leb-true _ (roomOf n) (elected (lowFits g m b (roomOf n) r k) 0 127 (omega arith) .fit h)
+  low-fits h = leb-true _ (roomOf n) (elected (lowFits g m b (roomOf n) r k) lowestIndex (lastIndex LowDelay) (omega arith) .fit h)
 
 -- j slices from slice k on, of n bytes in all
 module _ (g : Grid) (m : List ℕ) (b : Three (List Band)) (n : ℕ) where

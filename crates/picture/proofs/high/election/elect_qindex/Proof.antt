@@ -1,8 +1,10 @@
 -- `high::election::elect_qindex` meets its contract. The invariant: the least index that fits lies in the range.
 use Prim.Native.Nat.{_-_, _≤_}
 use native.Mathlib.Omega.{arith}
+use Rattle.unit.specs.declared.PictureKind.the-variants.{HighQuality}
+use Rattle.unit.specs.Limits.{lastIndex}
+use Rattle.unit.specs.HighQuality.{fitsBy}
 use Rattle.picture.specs.Code.Picture.{numbersIn}
-use Rattle.picture.specs.Code.Choice.{fitsBy}
 use Rattle.picture.specs.Laws.HighIndex.{plan-slice}
 use Rattle.picture.specs.Laws.Rises.{fits-rises}
 use Rattle.picture.specs.Laws.Search.{Searches, search-start, search-turn, search-less, search-end}
@@ -16,48 +18,68 @@ use Rattle.picture.proofs.high.election.next_index.Reads as next-index-
 use Rattle.picture.proofs.slices.search.wider.Reads as wider-reads
 
 abbrev Inv-loop : tie.InvT-loop
-Inv-loop work p t share k g r₀ step₀ r step =
-    Searches (fitsBy (t .prefix) (t .scaler) share (numbersIn work p k)) r × ((1 ≤ step) × (step ≤ 256))
+Inv-loop work p t share k g ends r₀ step₀ r step =
+    Searches (fitsBy (t .prefix) (t .scaler) share (numbersIn work p k)) (t .lo) (lastIndex HighQuality) r × ((1 ≤ step) × (step ≤ 256))
 
 abbrev μ-loop : tie.MeasureT-loop
-μ-loop work p t share k g r₀ step₀ r step = r .hi - r .lo
+μ-loop work p t share k g ends r₀ step₀ r step = r .hi - r .lo
 
 loop-holds : tie.Need-loop-holds Inv-loop μ-loop
-loop-holds c = (search-start _, (omega arith, omega arith))
+loop-holds c = (search-start _ (c .args .t .lo) (lastIndex HighQuality) (c .pre .0 .terms .lo), (omega arith, omega arith))
 
 next-index-requires : tie.Need-next-index-requires Inv-loop μ-loop
 next-index-requires c κs = let v = c .before .before .loop .inv in (c .if1 .taken, (v .0 .most, v .1))
 
 fits-requires : tie.Need-fits-requires Inv-loop μ-loop
 fits-requires c κs =
-    let st = c .before .before .before .before in
-    let v = c .before .before .before .loop .inv in
-    (plan-slice (st .pre .0) (st .args .k) (c .next-index .result) (st .pre .1) (omega (arith, c .next-index .ensures .1, v .0 .most)), st .pre .0 .terms)
+    let turn = c .before in
+    let loop = turn .before .before in
+    let st = loop .before in (
+      plan-slice (st .pre .0) (st .args .k) (c .next-index .result) (st .pre .1) (omega (arith, c .next-index .ensures .1, loop .loop .inv .0 .most)),
+      st .pre .0 .terms,
+    )
 
 narrowed-requires : tie.Need-narrowed-requires Inv-loop μ-loop
-narrowed-requires c κs = omega (arith, c .before .next-index .ensures .1, c .before .before .before .before .loop .inv .0 .most)
+narrowed-requires c κs =
+    let next = c .before in
+    let turn = next .before in
+    omega (arith, next .next-index .ensures .1, turn .before .before .loop .inv .0 .most)
 
 wider-requires : tie.Need-wider-requires Inv-loop μ-loop
-wider-requires c κs = c .before .before .before .before .before .loop .inv .1
+wider-requires c κs =
+    let next = c .before .before in
+    let turn = next .before in
+    turn .before .before .loop .inv .1
 
 loop-less : tie.Need-loop-less Inv-loop μ-loop
 loop-less c =
-    let v = c .before .before .before .before .before .before .loop in
-    let n = c .before .before .before .next-index in
-    search-less _ (v .r) (v .inv .0) (n .result) (n .ensures .0) (n .ensures .1) (c .before .before .fits2 .result) _ (c .before .before .fits2 .ensures) (c .before .narrowed .ensures)
+    let tried = c .before .before in
+    let next = tried .before in
+    let turn = next .before in
+    let v = turn .before .before .loop in
+    let n = next .next-index in
+    let t = turn .before .before .before .args .t in
+    search-less _ (t .lo) (lastIndex HighQuality) (v .r) (v .inv .0) (n .result) (n .ensures .0) (n .ensures .1) (tried .fits2 .result) _ (tried .fits2 .ensures) (c .before .narrowed .ensures)
 
 loop-again : tie.Need-loop-again Inv-loop μ-loop
 loop-again c =
-    let v = c .before .before .before .before .before .before .loop in
-    let n = c .before .before .before .next-index in
-    (search-turn _ (v .r) (v .inv .0) (n .result) (n .ensures .0) (n .ensures .1) (c .before .before .fits2 .result) _ (c .before .before .fits2 .ensures) (c .before .narrowed .ensures), c .wider .ensures .1)
+    let tried = c .before .before in
+    let next = tried .before in
+    let turn = next .before in
+    let v = turn .before .before .loop in
+    let n = next .next-index in
+    let t = turn .before .before .before .args .t in (
+      search-turn _ (t .lo) (lastIndex HighQuality) (v .r) (v .inv .0) (n .result) (n .ensures .0) (n .ensures .1) (tried .fits2 .result) _ (tried .fits2 .ensures) (c .before .narrowed .ensures),
+      c .wider .ensures .1,
+    )
 
 returns : tie.Need-returns Inv-loop μ-loop
 returns c =
-    let st = c .before .before .before in
+    let loop = c .before .before in
+    let st = loop .before in
     let a = st .args in
-    let v = c .before .before .loop in
-    search-end _ (v .r) (v .inv .0) (c .if1 .left) (λ i j. fits-rises (a .work .now) (a .p) (a .t .prefix) (a .t .scaler) (a .share) (a .k) i j (st .pre .0 .terms .scaler .0))
+    search-end _ (a .t .lo) (lastIndex HighQuality) (loop .loop .r) (loop .loop .inv .0) (c .if1 .left)
+    (λ i j. fits-rises (a .work .now) (a .p) (a .t .prefix) (a .t .scaler) (a .share) (a .k) i j (st .pre .0 .terms .scaler .0))
 
 pub elect-qindex-spec : {M : Type 1} → statement M
 elect-qindex-spec =

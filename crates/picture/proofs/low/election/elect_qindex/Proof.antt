@@ -4,6 +4,8 @@
 use mathlib.Core.Path.{ap, _∙_}
 use mathlib.Core.Bool.{Bool}
 use Prim.Native.Nat.{ℕ, _-_}
+use Rattle.unit.specs.declared.PictureKind.the-variants.{LowDelay}
+use Rattle.unit.specs.Limits.{lastIndex}
 use Rattle.unit.specs.Elect.{elect}
 use Rattle.picture.specs.Code.Low.{lowFitsIn, Tried}
 use Rattle.picture.specs.Code.LowRest.{Known}
@@ -15,20 +17,21 @@ use Rattle.picture.proofs.low.election.elect_qindex.Statement.{statemen
 use Rattle.picture.proofs.low.election.elect_qindex.Tie as tie
 
 abbrev Inv-loop : tie.InvT-loop
-Inv-loop work₀ p room k g v low₀ high₀ r₀ work low high r =
-    Halving (lowFitsIn work₀ p room k) 127 r × (Tried p k work₀ work × (Known work p k low × Known work p k high))
+Inv-loop work₀ p room k lo g v low₀ high₀ r₀ work low high r =
+    Halving (lowFitsIn work₀ p room k) lo (lastIndex LowDelay) r × (Tried p k work₀ work × (Known work p k low × Known work p k high))
 
 abbrev μ-loop : tie.MeasureT-loop
-μ-loop work₀ p room k g v low₀ high₀ r₀ work low high r = r .hi - r .lo
+μ-loop work₀ p room k lo g v low₀ high₀ r₀ work low high r = r .hi - r .lo
 
 bracket-at-requires : tie.Need-bracket-at-requires Inv-loop μ-loop
-bracket-at-requires c κs = c .before .pre
+bracket-at-requires c κs = let h = c .before .pre in (h .0, h .1 .1)
 
 loop-holds : tie.Need-loop-holds Inv-loop μ-loop
 loop-holds c =
-    let a = c .before .before .before .before .before .args in
+    let st = c .before .before .before .before .before in
+    let a = st .args in
     let b = c .before .before .before .bracket-at in
-    (halving-start (lowFitsIn (b .last .0) (a .p) (a .room) (a .k)) 127, (tried-none (a .p) (a .k) (b .last .0) (b .ensures .0 .small), b .ensures .1))
+    (halving-start (lowFitsIn (b .last .0) (a .p) (a .room) (a .k)) (a .lo) (lastIndex LowDelay) (st .pre .1 .0), (tried-none (a .p) (a .k) (b .last .0) (b .ensures .0 .small), b .ensures .1))
 
 middle-requires : tie.Need-middle-requires Inv-loop μ-loop
 middle-requires c κs =
@@ -40,7 +43,7 @@ fits-requires c κs =
     let v = c .before .before .before .before .loop in
     let m = c .before .middle in
     let h = c .before .before .before .before .before .before .before .before .before .before .pre in
-    (slice-at (v .work) (m .result) (h .0) (v .inv .1 .0 .small) (omega (arith, halving-middle (v .inv .0) (m .result) (m .ensures))), (v .inv .1 .1, h .1 .1))
+    (slice-at (v .work) (m .result) (h .0) (v .inv .1 .0 .small) (omega (arith, halving-middle (v .inv .0) (m .result) (m .ensures))), (v .inv .1 .1, h .1 .1 .1))
 
 narrowed-requires : tie.Need-narrowed-requires Inv-loop μ-loop
 narrowed-requires c κs =
@@ -74,11 +77,12 @@ loop-again c =
 
 returns : tie.Need-returns Inv-loop μ-loop
 returns c =
-    let a = c .before .before .before .before .before .before .before .before .args in
+    let st = c .before .before .before .before .before .before .before .before in
+    let a = st .args in
     let b = c .before .before .before .before .before .before .bracket-at in
     let v = c .before .before .loop in
     let t = b .ensures .0 in (
-      halving-end (v .inv .0) (omega (arith, c .if1 .left)) ∙ ap (elect 0 127) (tried-fits (a .p) (a .k) (a .work .now) (b .last .0) (a .room) t),
+      halving-end (v .inv .0) (st .pre .1 .0) (omega (arith, c .if1 .left)) ∙ ap (elect (a .lo) (lastIndex LowDelay)) (tried-fits (a .p) (a .k) (a .work .now) (b .last .0) (a .room) t),
       (halving-low (v .inv .0), (tried-then (a .p) (a .k) (a .work .now) (b .last .0) (v .work) t (v .inv .1 .0), v .inv .1 .1 .1)),
     )
 
