@@ -1,5 +1,6 @@
 // What slices of both kinds share: where their numbers stand in the work slice, what these cost, and the search for an
 // index.
+pub(crate) mod coded;
 pub(crate) mod cost;
 pub(crate) mod layout;
 pub(crate) mod rebuild;

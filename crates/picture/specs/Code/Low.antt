@@ -20,7 +20,7 @@ use Rattle.picture.specs.declared.slices.strip.Strip.{Strip}
 use Rattle.picture.specs.declared.slices.layout.Component.{Component}
 use Rattle.picture.specs.declared.slices.layout.Picture.{Picture}
 use Rattle.picture.specs.declared.slices.cost.Cost.{Cost}
-use Rattle.picture.specs.declared.low.cut.Run.{Run}
+use Rattle.picture.specs.declared.slices.tally.Trimmed.{Trimmed}
 use Rattle.picture.specs.declared.low.cut.Kept as code
 use Rattle.picture.specs.Code.Strip.{Small, rebuiltStrip}
 use Rattle.picture.specs.Code.Cost.{noCost, addAll}
@@ -100,7 +100,7 @@ pub record Tried (p : Picture) (k : ℕ) (w v : List ℤ) : Type 0 where
   pub size : length v ≡ length w
 
 -- the shorter one of a kept run and the longest run that fits
-pub record Shorter (c : Cost) (r : Run) : Type 0 where
+pub record Shorter (c : Cost) (r : Trimmed) : Type 0 where
   pub fit : c .fit ≤ c .keep → (r .count ≡ c .fit) × (r .bits ≡ c .«fit_bits»)
   pub kept : c .keep < c .fit → (r .count ≡ c .keep) × (r .bits ≡ c .«kept_bits»)
 

@@ -34,7 +34,7 @@ use Rattle.unit.specs.Laws.LowDelay.{bytes-some, runs-fit, runs-whole, length-l
 use Rattle.picture.specs.declared.slices.layout.Picture.{Picture}
 use Rattle.picture.specs.declared.slices.cost.Cost.{Cost}
 use Rattle.picture.specs.declared.slices.tally.Trimmed.{Trimmed}
-use Rattle.picture.specs.declared.low.cut.Run.{Run}
+use Rattle.picture.specs.declared.slices.tally.Trimmed.{Trimmed}
 use Rattle.picture.specs.declared.low.cut.Kept as code
 use Rattle.picture.specs.declared.coder.slice_coder.SliceCoder.{SliceCoder}
 use Rattle.picture.specs.Code.Strip.{Small}
@@ -51,7 +51,7 @@ module _ (room : ℕ) (xs : List ℤ) (c : Cost) (e : c ≡ addAll (noCost room)
   cost : CostOf room xs c
   cost = rw e (cost-of room xs)
 
-  module _ (r : Run) (s : Shorter c r) where
+  module _ (r : Trimmed) (s : Shorter c r) where
     -- the shorter run is what fits of the kept run
     pub cut-run : fitPrefix (trimmed xs) room ≡ take (r .count) xs
     cut-run = by (decLe (c .fit) (c .keep))
@@ -82,7 +82,7 @@ module _ (room : ℕ) (ys cs : List ℤ) where
   runs-cut h = rw (lt-leb (trimmedCost ys + trimmedCost cs) room h, keptRuns)
 
   -- a slice that does not fit
-  pub kept-cut : (y : Cost) (l : Run) (c : Cost) (r : Run) → y ≡ addAll (noCost room) ys → room < trimmedCost ys + trimmedCost cs
+  pub kept-cut : (y : Cost) (l : Trimmed) (c : Cost) (r : Trimmed) → y ≡ addAll (noCost room) ys → room < trimmedCost ys + trimmedCost cs
       → Shorter y l → c ≡ addAll (noCost (room - l .bits)) cs → Shorter c r
       → KeptOf room ys cs (record { luma = l .count; «luma_bits» = l .bits; colour = r .count; «colour_bits» = r .bits; cut = 1 })
   kept-cut y l c r e h s d t =

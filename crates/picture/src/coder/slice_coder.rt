@@ -101,9 +101,10 @@ impl SliceCoder {
             × ((r .words ≡ self .words + length (wordsIn (now (work .entry)) p t k)) × (now (work .exit) ≡ now (work .entry))))) ⌝ }
     {
         let c = crate::high::notes::noted_choice(work, p, t, k, self.words);
+        let z = crate::high::slice::put_hq_slice(out, self.at, work, self.words, c, t);
         SliceCoder {
-            at: crate::high::slice::put_hq_slice(out, self.at, work, self.words, c, t),
-            cut_slices: self.cut_slices,
+            at: z.at,
+            cut_slices: self.cut_slices + z.cut,
             largest: self.largest,
             index: self.index,
             words: self.words + crate::high::choice::words_of(c),

@@ -2,7 +2,9 @@
 use crate::high::choice::Choice;
 use crate::high::packed::Packed;
 use crate::high::size::Terms;
+use crate::slices::coded::CodedSlice;
 use codewords::writer::BitWriter;
+ghost use mathlib.Core.Path.{_≡_};
 ghost use Prim.Native.Nat.{_+_, _*_, _^_, _≤_};
 ghost use lib.ListN.{length};
 ghost use Rattle.laws.specs.Code.Laid.{Lays};
@@ -67,7 +69,7 @@ fn put_components(
     put_component(out, b, work, behind + c1.words, c2, scaler)
 }
 
-// Writes the slice of choice c from place at on, and gives the place where it ends.
+// Writes the slice of choice c from place at on. High quality cuts no slice.
 pub(crate) fn put_hq_slice(
     out: &mut [u8],
     at: usize,
@@ -75,10 +77,10 @@ pub(crate) fn put_hq_slice(
     from: usize,
     c: Choice,
     t: Terms,
-) -> usize
+) -> CodedSlice
     requires { ⌜ HeldSlice (now work) from c × (TermsIn t
         × (at + length (toBytes (highBits (t .prefix) (t .scaler) (c .index) (numbersAt (now work) from c))) ≤ length (now out))) ⌝ }
-    ensures { λ r. ⌜ Lays (now (out .entry)) at (toBytes (highBits (t .prefix) (t .scaler) (c .index) (numbersAt (now (work .entry)) from c))) (now (out .exit)) r ⌝ }
+    ensures { λ r. ⌜ Lays (now (out .entry)) at (toBytes (highBits (t .prefix) (t .scaler) (c .index) (numbersAt (now (work .entry)) from c))) (now (out .exit)) (r .at) × (r .cut ≡ 0) ⌝ }
 {
     let w = BitWriter {
         at,
@@ -89,5 +91,5 @@ pub(crate) fn put_hq_slice(
     let b = codewords::bitio::put_nbits(out, a, c.index as u64, 8);
     let v = put_components(out, b, work, from, c, t.scaler);
     let z = codewords::bitio::flush(out, v);
-    z.at
+    CodedSlice { at: z.at, cut: 0 }
 }

@@ -3,6 +3,7 @@ use crate::low::trial::Rest;
 use crate::low::trial::Windows;
 use crate::slices::cost::Cost;
 use crate::slices::layout::Picture;
+use crate::slices::tally::Trimmed;
 ghost use mathlib.Core.Path.{_≡_};
 ghost use Rattle.picture.specs.Code.Cost.{noCost, addAll};
 ghost use Rattle.picture.specs.Code.Picture.{SliceIn};
@@ -17,12 +18,6 @@ pub(crate) struct Kept {
     pub colour: usize,
     pub colour_bits: u64,
     pub cut: u32,
-}
-
-// A run: how many numbers, and their bits.
-struct Run {
-    count: usize,
-    bits: u64,
 }
 
 // What a slice's luma costs, with room for a run.
@@ -49,16 +44,16 @@ fn colour_cost(work: &[i64], p: Picture, k: u32, q: u32, room: u64) -> Cost
 }
 
 // The shorter one of the kept run and the longest run that fits.
-fn shorter(c: Cost) -> Run
+fn shorter(c: Cost) -> Trimmed
     ensures { λ r. ⌜ Shorter c r ⌝ }
 {
     if c.fit <= c.keep {
-        Run {
+        Trimmed {
             count: c.fit,
             bits: c.fit_bits,
         }
     } else {
-        Run {
+        Trimmed {
             count: c.keep,
             bits: c.kept_bits,
         }

@@ -3,6 +3,7 @@ use crate::low::cut::Kept;
 use crate::low::put::Put;
 use crate::low::trial::Rest;
 use crate::low::trial::Windows;
+use crate::slices::coded::CodedSlice;
 use crate::slices::layout::Picture;
 use codewords::writer::BitWriter;
 ghost use mathlib.Core.Path.{_≡_};
@@ -14,12 +15,6 @@ ghost use Rattle.codewords.specs.Writer.{Room, Wrote};
 ghost use Rattle.picture.specs.Code.Picture.{SliceIn};
 ghost use Rattle.picture.specs.Code.LowRest.{windowsOf, Known};
 ghost use Rattle.picture.specs.Code.Low.{runBits, lowBitsBy, lowCutBy};
-
-// A coded slice: the place where it ends, and 1 where it is cut, else 0.
-pub(crate) struct CodedSlice {
-    pub at: usize,
-    pub cut: u32,
-}
 
 // Puts the numbers of the two runs.
 fn put_runs(
