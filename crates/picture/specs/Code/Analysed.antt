@@ -2,24 +2,22 @@
 use mathlib.Core.Path.{_≡_}
 use mathlib.Core.List.{List}
 use mathlib.Core.Bool.{Bool, true, false}
-use Prim.Native.Nat.{ℕ, _+_, _<_, _*_, _≤_}
+use Prim.Native.Nat.{ℕ, _+_, _<_}
 use lib.IntN.{ℤ, pos}
 use lib.ListN.{length}
 use Rattle.laws.specs.Rows.{at}
 use Rattle.quantiser.specs.Default.{places}
 use Rattle.wavelet.specs.Planes.{Band, coefficients}
-use Rattle.wavelet.specs.Depth.{depthLimit, deepest}
 use Rattle.unit.specs.declared.Settings.{Settings}
 use Rattle.unit.specs.declared.PictureKind.{PictureKind}
 use Rattle.unit.specs.declared.PictureKind.the-variants.{LowDelay, HighQuality}
-use Rattle.unit.specs.Limits.{sideLimit, sliceLimit}
 use Rattle.unit.specs.Three.{Three}
-use Rattle.unit.specs.Sizes.{Size, area, lumaSize, colourSize}
+use Rattle.unit.specs.Sizes.{Size, lumaSize, colourSize}
 use Rattle.unit.specs.Subbands.{paddedSize}
 use Rattle.unit.specs.Matrix.{defaultOf, matrixValues}
-use Rattle.unit.specs.Refusal.{paddedArea, workNeeded}
+use Rattle.unit.specs.Refusal.{paddedArea}
 use Rattle.unit.specs.Coefficients.{coefficientsOf}
-use Rattle.unit.specs.Code.Valid.{Between, RateFits, MatrixFits, Sides}
+use Rattle.unit.specs.Code.Valid.{Shaped, Framed, Lent, RateFits, MatrixFits, Sides}
 use Rattle.picture.specs.declared.slices.layout.Component.{Component}
 use Rattle.picture.specs.declared.slices.layout.Layout.{Layout}
 use Rattle.picture.specs.declared.slices.layout.Picture.{Picture}
@@ -73,32 +71,21 @@ pictureOf s m = record {
   end = frontOf s + frontOf s;
 }
 
--- what an accepted call's settings and matrix are
+-- what is known of an accepted call's settings and matrix
 pub record Called (s : Settings) (m : List ℕ) : Type 0 where
-  pub depths : s .«dwt_depth» + s .«dwt_depth_ho» ≤ deepest
-  pub across : Between sideLimit (s .«slices_x»)
-  pub down : Between sideLimit (s .«slices_y»)
-  pub slices : s .«slices_x» * s .«slices_y» ≤ sliceLimit
-  pub scaler : Between sideLimit (s .«slice_size_scaler»)
-  pub prefix : s .«slice_prefix_bytes» ≤ 255
+  pub shape : Shaped s
   pub rate : RateFits (s .kind) (s .rate)
-  pub luma : Sides s (lumaSize s)
-  pub colour : Sides s (colourSize s)
   pub matrix : MatrixFits s m (s .«custom_matrix») (defaultOf s)
-
--- what analysis asks of settings, planes and work slice
-pub record Ready (s : Settings) (p : Three (List ℕ)) (w : List ℤ) : Type 0 where
-  pub wavelet : s .«wavelet_index» ≤ 6
-  pub wavelet-ho : s .«wavelet_index_ho» ≤ 6
-  pub depths : s .«dwt_depth» + s .«dwt_depth_ho» ≤ depthLimit (s .«wavelet_index_ho») (s .«wavelet_index»)
   pub luma : Sides s (lumaSize s)
   pub colour : Sides s (colourSize s)
-  pub luma-excursion : Between sideLimit (s .«luma_excursion»)
-  pub colour-excursion : Between sideLimit (s .«color_diff_excursion»)
-  pub long-y : length (p .y) ≡ area (lumaSize s)
-  pub long-c1 : length (p .c1) ≡ area (colourSize s)
-  pub long-c2 : length (p .c2) ≡ area (colourSize s)
-  pub work-room : workNeeded s ≤ length w
+
+-- what is known of its settings, planes and work slice, which analysis asks
+pub record Ready (s : Settings) (p : Three (List ℕ)) (w : List ℤ) : Type 0 where
+  pub shape : Shaped s
+  pub frame : Framed s
+  pub lent : Lent s p w
+  pub luma : Sides s (lumaSize s)
+  pub colour : Sides s (colourSize s)
 
 -- the coefficients stand behind a front of zeros
 pub record Analysed (s : Settings) (p : Three (List ℕ)) (w : List ℤ) : Type 0 where

@@ -18,7 +18,6 @@ use Rattle.laws.specs.Laws.Laid.{laid-is}
 use Rattle.codewords.specs.Bytes.{toBytes}
 use Rattle.quantiser.specs.Default.{places}
 use Rattle.wavelet.specs.Lifting.{exact}
-use Rattle.wavelet.specs.Laws.Depth.{few-levels}
 use Rattle.wavelet.specs.Pad.{padded}
 use Rattle.unit.specs.declared.Settings.{Settings}
 use Rattle.unit.specs.declared.Coded.{Coded}
@@ -38,7 +37,7 @@ use Rattle.unit.specs.Laws.Unit.{length-unit}
 use Rattle.unit.specs.Outcome.{codedOf, codingRefusal}
 use Rattle.unit.specs.Laws.Demand.{not-long}
 use Rattle.unit.specs.Code.Valid.{MatrixFits, Valid, Sides}
-use Rattle.unit.specs.Laws.Valid.{luma-sides, colour-sides}
+use Rattle.unit.specs.Laws.Valid.{levels-few, luma-sides, colour-sides}
 use Rattle.picture.specs.Code.Head.{CanCarry}
 use Rattle.picture.specs.Code.Strip.{Small}
 use Rattle.picture.specs.Code.Layout.{bandCount, gridIn, LayoutIn, ComponentIn}
@@ -50,33 +49,10 @@ use Rattle.picture.specs.Code.Coded.{answerBy, outputBy, Codes}
 -- ---- an accepted call
 module _ {s : Settings} {m : List ℕ} {p : Three (List ℕ)} {w : List ℤ} (v : Valid s m p w) where
   pub called : Called s m
-  called = record {
-    depths = few-levels (s .«wavelet_index_ho») (s .«wavelet_index») (v .depths);
-    across = v .across;
-    down = v .down;
-    slices = v .slices;
-    scaler = v .scaler;
-    prefix = v .prefix;
-    rate = v .rate;
-    luma = luma-sides v;
-    colour = colour-sides v;
-    matrix = v .matrix;
-  }
+  called = record { shape = v .shape; rate = v .rate; matrix = v .matrix; luma = luma-sides v; colour = colour-sides v }
 
   pub ready : Ready s p w
-  ready = record {
-    wavelet = v .wavelet;
-    wavelet-ho = v .wavelet-ho;
-    depths = v .depths;
-    luma = luma-sides v;
-    colour = colour-sides v;
-    luma-excursion = v .luma;
-    colour-excursion = v .colour;
-    long-y = v .long-y;
-    long-c1 = v .long-c1;
-    long-c2 = v .long-c2;
-    work-room = v .work-room;
-  }
+  ready = record { shape = v .shape; frame = v .frame; lent = v .lent; luma = luma-sides v; colour = colour-sides v }
 
 -- ---- the matrix
 values-by : (s : Settings) (m : List ℕ) (n : ℕ) (c : Bool) (d : Option (List ℕ)) → n ≡ subbandCount (s .«dwt_depth_ho») (s .«dwt_depth») → MatrixFits s m c d
@@ -98,7 +74,7 @@ module _ {s : Settings} {m : List ℕ} (c : Called s m) where
   places-many =
       let vs = matrixValues s m in
       let n : ℕ = 25 - length vs in
-      omega (arith, length-append vs (replicate n 0), length-replicate {A = ℕ} n 0, values-many, c .depths)
+      omega (arith, length-append vs (replicate n 0), length-replicate {A = ℕ} n 0, values-many, levels-few s (c .shape))
 
   pub values-are : (n : ℕ) → n < bandCount (layoutOf s m) → getD (layoutOf s m .values) n 0 ≡ getD (matrixValues s m) n 0
   unfolding layoutOf
@@ -110,10 +86,10 @@ module _ {s : Settings} {m : List ℕ} (c : Called s m) where
   carried : s .«custom_matrix» ≡ true → length m ≤ 25
   carried e =
       let f : MatrixFits s m true (defaultOf s) = subst (λ (b : Bool). MatrixFits s m b (defaultOf s)) e (c .matrix) in
-      omega (arith, f .0, c .depths)
+      omega (arith, f .0, levels-few s (c .shape))
 
   pub called-carry : CanCarry s m
-  called-carry = record { few = carried; slices = c .slices }
+  called-carry = record { few = carried; slices = c .shape .slices }
 
   -- ---- the picture
   pub front-few : frontOf s + frontOf s < 2 ^ 30
@@ -130,14 +106,14 @@ module _ {s : Settings} {m : List ℕ} (c : Called s m) where
   layout-in : LayoutIn (layoutOf s m)
   unfolding layoutOf
   layout-in = record {
-    depths = c .depths;
-    across = (c .across .some, c .across .few);
-    down = (c .down .some, c .down .few);
+    depths = levels-few s (c .shape);
+    across = (c .shape .across .some, c .shape .across .few);
+    down = (c .shape .down .some, c .shape .down .few);
     values = places-many;
   }
 
   pub count-few : sliceCount (gridOf s) ≤ sliceLimit
-  count-few = omega (arith, c .slices, mul-comm (s .«slices_x») (s .«slices_y»))
+  count-few = omega (arith, c .shape .slices, mul-comm (s .«slices_x») (s .«slices_y»))
 
   slices-few : slicesIn (pictureOf s m) ≤ sliceLimit
   unfolding pictureOf layoutOf

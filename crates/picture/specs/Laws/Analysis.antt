@@ -196,8 +196,8 @@ deep-of s p w k z h = record {
   sides = padded-is (s .«dwt_depth_ho») (s .«dwt_depth») z;
   h-le = h .padded-height .few;
   w-le = h .padded-width .few;
-  ih-le = k .wavelet-ho;
-  iv-le = k .wavelet;
+  ih-le = k .shape .wavelet-ho;
+  iv-le = k .shape .wavelet;
 }
 
 -- what the layer below asks
@@ -217,11 +217,11 @@ components-in s p w k l c t n en =
       colours = deep-of s p w k u (k .colour);
       some = (k .luma .width .some, k .luma .height .some);
       some-colours = (k .colour .width .some, k .colour .height .some);
-      whole-y = omega (arith, k .long-y, mul-comm (z .height) (z .width));
-      whole-u = omega (arith, k .long-c1, mul-comm (u .height) (u .width));
-      whole-v = omega (arith, k .long-c2, mul-comm (u .height) (u .width));
+      whole-y = omega (arith, k .lent .long-y, mul-comm (z .height) (z .width));
+      whole-u = omega (arith, k .lent .long-c1, mul-comm (u .height) (u .width));
+      whole-v = omega (arith, k .lent .long-c2, mul-comm (u .height) (u .width));
       room = (omega (arith, en, a), omega (arith, en, b));
-      fits = omega (arith, en, a, b, k .work-room);
+      fits = omega (arith, en, a, b, k .lent .work-room);
     })
 
 -- ---- one component's coefficients
@@ -251,7 +251,7 @@ listed s p w k z e he samples hs =
     let d = s .«dwt_depth» in
     let o = offsetOf (intlog2 (e + 1)) in
     let y = paddedIn s z in
-    let x = component-exact i j ho d samples o (z .width) (z .height) (y .width) (y .height) (k .wavelet-ho) (k .wavelet) (omega (arith, k .depths)) (padded-is ho d z) hs
+    let x = component-exact i j ho d samples o (z .width) (z .height) (y .width) (y .height) (k .shape .wavelet-ho) (k .shape .wavelet) (omega (arith, k .shape .depths)) (padded-is ho d z) hs
     (offset-range (intlog2 (e + 1)) (depth-range e he) .few) in
     record {
       same = ap coefficients (x .same);
@@ -344,9 +344,9 @@ analysed-is s p w v k hs R e long =
     let A = listOf s (p .y) y in
     let B = listOf s (p .c1) u in
     let C = listOf s (p .c2) u in
-    let la = listed s p w k (lumaSize s) (s .«luma_excursion») (k .luma-excursion) (p .y) (hs .y) in
-    let lb = listed s p w k (colourSize s) (s .«color_diff_excursion») (k .colour-excursion) (p .c1) (hs .c1) in
-    let lc = listed s p w k (colourSize s) (s .«color_diff_excursion») (k .colour-excursion) (p .c2) (hs .c2) in
+    let la = listed s p w k (lumaSize s) (s .«luma_excursion») (k .frame .luma) (p .y) (hs .y) in
+    let lb = listed s p w k (colourSize s) (s .«color_diff_excursion») (k .frame .colour) (p .c1) (hs .c1) in
+    let lc = listed s p w k (colourSize s) (s .«color_diff_excursion») (k .frame .colour) (p .c2) (hs .c2) in
     let ea = la .long in
     let eb = lb .long in
     let ec = lc .long in
@@ -365,7 +365,7 @@ analysed-is s p w v k hs R e long =
 pub front-room : (s : Settings) (p : Three (List ℕ)) (w w1 : List ℤ) → Ready s p w → (l c : below.Component) → Taken s l c → length w1 ≡ length w
     → l .pw * l .ph + c .pw * c .ph + c .pw * c .ph ≤ length w1
 unfolding workNeeded
-front-room s p w w1 k l c t e = omega (arith, e, front-is s l c t, k .work-room)
+front-room s p w w1 k l c t e = omega (arith, e, front-is s l c t, k .lent .work-room)
 
 -- behind a front that was lent and came back as zeros stands what the layer below left
 pub analysed-of : (s : Settings) (p : Three (List ℕ)) (w w1 ys : List ℤ) → Ready s p w → Sampled p → (l c : below.Component) → Taken s l c
@@ -376,7 +376,7 @@ unfolding workNeeded
 analysed-of s p w w1 ys k hs l c t n m en em R e1 e ey el =
     let y = takenOf s (lumaSize s) (s .«luma_excursion») in
     let u = takenOf s (colourSize s) (s .«color_diff_excursion») in
-    let room = k .work-room in
+    let room = k .lent .work-room in
     let z : ys ≡ replicate (frontOf s) (pos 0) =
     ey ∙ ap (λ (m : ℕ). replicate m (pos 0)) (length-take-le m w1 (omega (arith, e1, em, en, room)) ∙ em ∙ en) in
     let f : drop m w1 ≡ listOf s (p .y) y ++ listOf s (p .c1) u ++ listOf s (p .c2) u ++ R =

@@ -188,8 +188,8 @@ module _ {w : List ℤ} {p : Picture} {s : Settings} {m : List ℕ} (k : Coding 
     plain = plain-by s m (k .same);
     small = small-by s m (k .small);
     rate = rate-in;
-    prefix = k .called .prefix;
-    scaler = (k .called .scaler .some, k .called .scaler .few);
+    prefix = k .called .shape .prefix;
+    scaler = (k .called .shape .scaler .some, k .called .shape .scaler .few);
   })
 
   module _ {r : Settled} (z : Settles w p s m r) where
@@ -200,7 +200,7 @@ module _ {w : List ℤ} {p : Picture} {s : Settings} {m : List ℕ} (k : Coding 
       small = high-in .small;
       terms = record {
         rate = rate-in;
-        prefix = k .called .prefix;
+        prefix = k .called .shape .prefix;
         scaler = (z .some, z .few);
         bytes = omega (arith, target-few HighQuality (s .rate) rate-in);
         lo = omega arith;

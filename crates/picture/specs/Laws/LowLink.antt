@@ -301,7 +301,7 @@ module _ {s : Settings} {m : List ℕ} (called : Called s m) (low : s .kind ≡ 
   predicted-in = ap isLow low
 
   slices-some : 1 ≤ sliceCount (gridOf s)
-  slices-some = mul-pos {m = s .«slices_y»} {n = s .«slices_x»} (called .down .some) (called .across .some)
+  slices-some = mul-pos {m = s .«slices_y»} {n = s .«slices_x»} (called .shape .down .some) (called .shape .across .some)
 
   numerator-some : sliceCount (gridOf s) ≤ numeratorOf s m
   unfolding numeratorOf

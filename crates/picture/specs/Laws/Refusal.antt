@@ -4,20 +4,16 @@ use mathlib.Core.Bool.{true, false}
 use mathlib.Core.List.{List, _++_}
 use Prim.Native.Nat.{ℕ, _+_, _≤_, _<_}
 use native.Mathlib.Numerals.{add-one}
-use lib.Dec.{ltb}
 use lib.IntN.{ℤ}
 use lib.ListN.{length, getD, drop, drop-of-length-le}
 use lib.Seq.{drop-cons}
 use borrow.Author.Tests.{lt-ltb, le-ltb}
-use Rattle.wavelet.specs.Depth.{depthLimit}
-use Rattle.wavelet.specs.Laws.Depth.{few-levels}
 use Rattle.unit.specs.declared.Settings.{Settings}
-use Rattle.unit.specs.Limits.{sideLimit}
 use Rattle.unit.specs.Three.{Three}
 use Rattle.unit.specs.Rules.{first, orElse}
-use Rattle.unit.specs.Refusal.{outside, anyAbove, shapeRules, rateRules, frameRules, matrixRules, memoryRules, refusalOf}
+use Rattle.unit.specs.Refusal.{anyAbove, shapeRules, rateRules, frameRules, matrixRules, memoryRules, refusalOf}
 use Rattle.unit.specs.Laws.Rules.{first-append, none-of}
-use Rattle.unit.specs.Laws.Test.{or-none, at-most, between}
+use Rattle.unit.specs.Laws.Valid.{shape-kept, frame-kept}
 use Rattle.picture.specs.Code.Sides.{Measured}
 
 -- ---- values from place i on
@@ -33,19 +29,10 @@ module _ (most : ℕ) (vs : List ℕ) (i : ℕ) where
 
 -- ---- what rules 11 and 13 rest on: rules 2 and 8 bound the depths and the frame
 pub measured : (s : Settings) → first (shapeRules s) ≡ 0 → first (frameRules s) ≡ 0 → Measured s
-measured s d f =
-    let shape = none-of (shapeRules s) (tt, (tt, (tt, (tt, tt)))) .0 d in
-    let frame = none-of (frameRules s) (tt, tt) .0 f in
-    let a = or-none (ltb 2 (s .«color_diff_format»)) _ .0 (frame .0) in
-    let b = or-none (ltb 1 (s .«picture_coding_mode»)) _ .0 (a .1) in
-    let w = or-none (outside sideLimit (s .«frame_width»)) _ .0 (b .1) in
-    let h = or-none (outside sideLimit (s .«frame_height»)) _ .0 (w .1) in
-    let limit = depthLimit (s .«wavelet_index_ho») (s .«wavelet_index») in
-    record {
-      depths = few-levels (s .«wavelet_index_ho») (s .«wavelet_index») (at-most limit (s .«dwt_depth» + s .«dwt_depth_ho») .0 (shape .1 .0));
-      width = between sideLimit (s .«frame_width») .0 (w .0) .few;
-      height = between sideLimit (s .«frame_height») .0 (h .0) .few;
-    }
+measured s d f = record {
+  shape = shape-kept s .0 (none-of (shapeRules s) (tt, (tt, (tt, (tt, tt)))) .0 d);
+  frame = frame-kept s .0 (none-of (frameRules s) (tt, tt) .0 f);
+}
 
 -- ---- the groups, one after the other
 module _ (s : Settings) (m : List ℕ) (p : Three (List ℕ)) (work : List ℤ) where

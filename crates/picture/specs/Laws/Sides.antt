@@ -24,7 +24,7 @@ use Rattle.unit.specs.Code.Valid.{MatrixFits}
 use Rattle.unit.specs.Laws.Test.{no-truth}
 use Rattle.unit.specs.Laws.Intlog2.{intlog2-least}
 use Rattle.unit.specs.Laws.Padded.{wide-few, high-few}
-use Rattle.unit.specs.Laws.Valid.{luma-fits, colour-fits}
+use Rattle.unit.specs.Laws.Valid.{levels-few, luma-fits, colour-fits}
 use Rattle.picture.specs.Code.Sides.{Measured, Within}
 
 -- ---- intlog2
@@ -58,10 +58,10 @@ pub padded-area-few : (s : Settings) (z : Size) → Measured s → Within s z �
 padded-area-few s z m w =
     let k = s .«dwt_depth_ho» in
     let d = s .«dwt_depth» in
-    let l : k + d ≤ deepest = omega (arith, m .depths) in
+    let l : k + d ≤ deepest = omega (arith, levels-few s (m .shape)) in
     let h : paddedArea s z ≤ 65536 * 65536 =
     mul-le-mul {n₁ = paddedSize k d z .width} {m₁ = paddedSize k d z .height} {n₂ = 65536} {m₂ = 65536}
-    (wide-few k d z l (omega (arith, m .width, w .width))) (high-few k d z l (omega (arith, m .height, w .height))) in
+    (wide-few k d z l (omega (arith, m .frame .width .few, w .width))) (high-few k d z l (omega (arith, m .frame .height .few, w .height))) in
     omega arith
 
 -- ---- the places, the first i of them filled

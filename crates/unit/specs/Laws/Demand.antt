@@ -137,7 +137,7 @@ module _ (s : Settings) (m : List ℕ) (p : Three (List ℕ)) (work : List ℤ) 
       let y = paddedSize (s .«dwt_depth_ho») (s .«dwt_depth») z in
       let o = offset-range (pick c (depthsOf s)) (depth-of c) in
       component-exact (s .«wavelet_index_ho») (s .«wavelet_index») (s .«dwt_depth_ho») (s .«dwt_depth») (pick c p) (offsetOf (pick c (depthsOf s))) (z .width) (z .height)
-      (y .width) (y .height) (v .wavelet-ho) (v .wavelet) (omega (arith, v .depths)) (padded-is (s .«dwt_depth_ho») (s .«dwt_depth») z) (t .samples c) (omega arith)
+      (y .width) (y .height) (v .shape .wavelet-ho) (v .shape .wavelet) (omega (arith, v .shape .depths)) (padded-is (s .«dwt_depth_ho») (s .«dwt_depth») z) (t .samples c) (omega arith)
 
   below : (c : Component) → AllBelow (2 ^ 51) (pick c (coefficientsOf s p))
   unfolding bandsOf
@@ -153,7 +153,7 @@ module _ (s : Settings) (m : List ℕ) (p : Three (List ℕ)) (work : List ℤ) 
   unfolding bandsOf
   samples-back c bs e =
       component-back (s .«wavelet_index_ho») (s .«wavelet_index») (s .«dwt_depth_ho») (s .«dwt_depth») (pick c p) (offsetOf (pick c (depthsOf s))) (pick c (sizesOf s)) bs
-      (v .wavelet-ho) (v .wavelet) (rw (bands-pick s p c) at e)
+      (v .shape .wavelet-ho) (v .shape .wavelet) (rw (bands-pick s p c) at e)
 
   -- a component's samples, by the parameters that are read
   samples-by : (c : Component) (bs : List Band) (q : Parameters) → q ≡ parametersBy s m (q .sliceParameters) → EqualBands (pick c (coefficientsOf s p)) bs
@@ -183,12 +183,12 @@ module _ (s : Settings) (m : List ℕ) (p : Three (List ℕ)) (work : List ℤ) 
         → NearBands (gridOf s) (matrixValues s m) (planIndex plan) 0 (pick c (coefficientsOf s p)) (pick c (readBands (sizesOf s) reading))
     near-all u =
         planned-near (s .kind) (gridOf s) (matrixValues s m) (coefficientsOf s p) (sizesOf s) reading (read-as s m p) (plan .slices) (call-planned s m p) same u
-        (v .down .some) (v .across .some) most (omega arith) small
+        (v .shape .down .some) (v .shape .across .some) most (omega arith) small
 
     equal-all : Undropped plan → AllZero plan → (c : Component) → EqualBands (pick c (coefficientsOf s p)) (pick c (readBands (sizesOf s) reading))
     equal-all u =
         planned-equal (s .kind) (gridOf s) (matrixValues s m) (coefficientsOf s p) (sizesOf s) reading (read-as s m p) (plan .slices) (call-planned s m p) same u
-        (v .down .some) (v .across .some) most (omega arith) small
+        (v .shape .down .some) (v .shape .across .some) most (omega arith) small
 
     samples-all : Undropped plan → AllZero plan → (c : Component)
         → SameSamples (pick c (sizesOf s)) (pick c p) (readSamplesOf (sizesOf s) reading (pick c (readBands (sizesOf s) reading)) (pick c (depthsOf s)))

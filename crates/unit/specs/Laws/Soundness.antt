@@ -217,7 +217,7 @@ module _ (s : Settings) (m : List ℕ) (p : Three (List ℕ)) (work : List ℤ) 
   sound-by HighQuality f =
       let b = coefficientsOf s p in
       let c = scalerOf s m b in
-      let i : 1 ≤ c = scaler-some s m b (v .scaler .some) in
+      let i : 1 ≤ c = scaler-some s m b (v .shape .scaler .some) in
       record {
         legal = legal v HighQuality _ i;
         many = many-by s m b HighQuality;
@@ -258,7 +258,7 @@ module _ (s : Settings) (m : List ℕ) (p : Three (List ℕ)) (work : List ℤ) 
       let c = scalerOf s m b in
       ap (lengthOf s) (plan-by s m p HighQuality e) ∙ length-is s (planBy s m HighQuality b)
       ∙ ap (λ (ns : List ℕ). highOverhead s m p + total ns)
-      (high-bytes (gridOf s) (matrixValues s m) b (s .«slice_prefix_bytes») (s .rate) c (highBytes s m c) (scaler-some s m b (v .scaler .some)))
+      (high-bytes (gridOf s) (matrixValues s m) b (s .«slice_prefix_bytes») (s .rate) c (highBytes s m c) (scaler-some s m b (v .shape .scaler .some)))
 
   -- if every high-quality slice fits its share of the target less the overhead, the unit is at most the target: where
   -- the overhead is more than the target, the share is 0, and no slice fits it

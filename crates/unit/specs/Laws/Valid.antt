@@ -11,21 +11,20 @@ use native.Mathlib.Omega.{arith}
 use lib.Dec.{eqb, ltb}
 use lib.IntN.{ℤ}
 use lib.ListN.{length, drop}
-use Rattle.wavelet.specs.Depth.{depthLimit, deepest}
 use Rattle.wavelet.specs.Laws.Depth.{few-levels}
 use Rattle.unit.specs.declared.Settings.{Settings}
 use Rattle.unit.specs.declared.PictureKind.{PictureKind}
 use Rattle.unit.specs.declared.PictureKind.the-variants.{LowDelay, HighQuality}
 use Rattle.unit.specs.declared.RateControl.{RateControl}
 use Rattle.unit.specs.declared.RateControl.the-variants.{Lossless, FixedQuantIndex, PictureBytes}
-use Rattle.unit.specs.Limits.{areaLimit, sideLimit, sliceLimit, targetLimit}
+use Rattle.unit.specs.Limits.{depthLimit, deepest, lastWavelet, sideLimit, sliceLimit, prefixLimit, targetLimit, lastFormat, lastMode, areaLimit}
 use Rattle.unit.specs.Three.{Three}
 use Rattle.unit.specs.Sizes.{Size, area, halvedIf, fields, lumaSize, colourSize, depthsOf}
 use Rattle.unit.specs.Subbands.{paddedSize, subbandCount}
 use Rattle.unit.specs.Slices.{sliceCount}
 use Rattle.unit.specs.Matrix.{defaultOf, carriedMatrix}
-use Rattle.unit.specs.Refusal.{noTarget, badIndex, badTarget, anyAbove, isNone, paddedArea, workNeeded, rules, refusalOf}
-use Rattle.unit.specs.Code.Valid.{Between, RateFits, MatrixFits, Valid, Sides}
+use Rattle.unit.specs.Refusal.{shapeRules, frameRules, noTarget, badIndex, badTarget, anyAbove, isNone, paddedArea, workNeeded, rules, refusalOf}
+use Rattle.unit.specs.Code.Valid.{Shaped, Framed, Between, RateFits, MatrixFits, Valid, Sides}
 use Rattle.unit.specs.Parameters.{SliceParameters}
 use Rattle.unit.specs.Unit.{versionBy, majorVersion, gridOf, parametersBy, targetOf}
 use Rattle.unit.specs.Laws.Sound.{SliceFits, CarriedFits, Legal}
@@ -70,44 +69,42 @@ matrix-fits s m true d =
 matrix-fits s m false none = (λ h. no-truth (h .default), absurd)
 matrix-fits s m false (some vs) = (λ h. tt, λ h. record { own = refl; default = refl })
 
--- ---- the rules, one by one
-module _ (s : Settings) (m : List ℕ) (p : Three (List ℕ)) (work : List ℤ) where
-  pub numbered : Numbered (rules s m p work)
-  numbered = (tt, (tt, (tt, (tt, (tt, (tt, (tt, (tt, (tt, (tt, (tt, (tt, (tt, tt)))))))))))))
-
-  kept : NoneOf (rules s m p work) ↔ Valid s m p work
-  kept =
-      let z = area (lumaSize s) in
-      let c = area (colourSize s) in
-      let r1 = both (at-most 6 (s .«wavelet_index»)) (at-most 6 (s .«wavelet_index_ho»)) in
+-- ---- rules 1 to 4, and rule 8
+module _ (s : Settings) where
+  pub shape-kept : NoneOf (shapeRules s) ↔ Shaped s
+  shape-kept =
+      let r1 = both (at-most lastWavelet (s .«wavelet_index»)) (at-most lastWavelet (s .«wavelet_index_ho»)) in
       let r2 = at-most (depthLimit (s .«wavelet_index_ho») (s .«wavelet_index»)) (s .«dwt_depth» + s .«dwt_depth_ho») in
       let r3 = both (between sideLimit (s .«slices_x»)) (both (between sideLimit (s .«slices_y»)) (at-most sliceLimit (s .«slices_x» * s .«slices_y»))) in
-      let r4 = both (between sideLimit (s .«slice_size_scaler»)) (at-most 255 (s .«slice_prefix_bytes»)) in
-      let r7 = rate-fits (s .kind) (s .rate) in
-      let r8 = both (at-most 2 (s .«color_diff_format»)) (both (at-most 1 (s .«picture_coding_mode»))
+      let r4 = both (between sideLimit (s .«slice_size_scaler»)) (at-most prefixLimit (s .«slice_prefix_bytes»)) in (
+        λ (b1, (b2, (b3, (b4, done)))).
+            let (wavelet, wavelet-ho) = r1 .0 b1 in
+            let (across, (down, slices)) = r3 .0 b3 in
+            let (scaler, prefix) = r4 .0 b4 in
+            record {
+              wavelet = wavelet;
+              wavelet-ho = wavelet-ho;
+              depths = r2 .0 b2;
+              across = across;
+              down = down;
+              slices = slices;
+              scaler = scaler;
+              prefix = prefix;
+            },
+        λ v.
+            let k3 = r3 .1 (v .across, (v .down, v .slices)) in
+            (r1 .1 (v .wavelet, v .wavelet-ho), (r2 .1 (v .depths), (k3, (r4 .1 (v .scaler, v .prefix), tt)))),
+      )
+
+  pub frame-kept : NoneOf (frameRules s) ↔ Framed s
+  frame-kept =
+      let r8 = both (at-most lastFormat (s .«color_diff_format»)) (both (at-most lastMode (s .«picture_coding_mode»))
       (both (between sideLimit (s .«frame_width»)) (both (between sideLimit (s .«frame_height»))
       (both (between sideLimit (s .«luma_excursion»)) (both (between sideLimit (s .«color_diff_excursion»))
-      (both (some-of z) (some-of c))))))) in
-      let r10 = matrix-fits s m (s .«custom_matrix») (defaultOf s) in
-      let r11 = at-most areaLimit (paddedArea s (lumaSize s)) in
-      let r12 = both (same (length (p .y)) z) (both (same (length (p .c1)) c) (same (length (p .c2)) c)) in
-      let r13 = at-most (length work) (workNeeded s) in (
-        λ (b1, (b2, (b3, (b4, (b5, (b6, (b7, (b8, (b9, (b10, (b11, (b12, (b13, done))))))))))))).
-            let k1 = r1 .0 b1 in
-            let k3 = r3 .0 b3 in
-            let k4 = r4 .0 b4 in
+      (both (some-of (area (lumaSize s))) (some-of (area (colourSize s))))))))) in (
+        λ (b8, done).
             let (format, (mode, (width, (height, (luma, (colour, (luma-some, colour-some))))))) = r8 .0 b8 in
-            let (long-y, (long-c1, long-c2)) = r12 .0 b12 in
             record {
-              wavelet = k1 .0;
-              wavelet-ho = k1 .1;
-              depths = r2 .0 b2;
-              across = k3 .0;
-              down = k3 .1 .0;
-              slices = k3 .1 .1;
-              scaler = k4 .0;
-              prefix = k4 .1;
-              rate = r7 .0 (record { target = b5; index = b6; bytes = b7 });
               format = format;
               mode = mode;
               width = width;
@@ -116,22 +113,50 @@ module _ (s : Settings) (m : List ℕ) (p : Three (List ℕ)) (work : List ℤ) 
               colour = colour;
               luma-some = luma-some;
               colour-some = colour-some;
+            },
+        λ v. (r8 .1 (v .format, (v .mode, (v .width, (v .height, (v .luma, (v .colour, (v .luma-some, v .colour-some))))))), tt),
+      )
+
+  -- the depths are few, whatever the wavelets
+  pub levels-few : Shaped s → s .«dwt_depth» + s .«dwt_depth_ho» ≤ deepest
+  levels-few h = few-levels (s .«wavelet_index_ho») (s .«wavelet_index») (h .depths)
+
+-- ---- all rules
+module _ (s : Settings) (m : List ℕ) (p : Three (List ℕ)) (work : List ℤ) where
+  pub numbered : Numbered (rules s m p work)
+  numbered = (tt, (tt, (tt, (tt, (tt, (tt, (tt, (tt, (tt, (tt, (tt, (tt, (tt, tt)))))))))))))
+
+  kept : NoneOf (rules s m p work) ↔ Valid s m p work
+  kept =
+      let z = area (lumaSize s) in
+      let c = area (colourSize s) in
+      let shape = shape-kept s in
+      let r7 = rate-fits (s .kind) (s .rate) in
+      let frame = frame-kept s in
+      let r10 = matrix-fits s m (s .«custom_matrix») (defaultOf s) in
+      let r11 = at-most areaLimit (paddedArea s (lumaSize s)) in
+      let r12 = both (same (length (p .y)) z) (both (same (length (p .c1)) c) (same (length (p .c2)) c)) in
+      let r13 = at-most (length work) (workNeeded s) in (
+        λ (b1, (b2, (b3, (b4, (b5, (b6, (b7, (b8, (b9, (b10, (b11, (b12, (b13, done))))))))))))).
+            let (long-y, (long-c1, long-c2)) = r12 .0 b12 in
+            record {
+              shape = shape .0 (b1, (b2, (b3, (b4, tt))));
+              rate = r7 .0 (record { target = b5; index = b6; bytes = b7 });
+              frame = frame .0 (b8, tt);
               matrix = r10 .0 (record { own = b9; default = b10 });
               padded = r11 .0 b11;
-              long-y = long-y;
-              long-c1 = long-c1;
-              long-c2 = long-c2;
-              work-room = r13 .0 b13;
+              lent = record { long-y = long-y; long-c1 = long-c1; long-c2 = long-c2; work-room = r13 .0 b13 };
             },
         λ v.
+            let (b1, (b2, (b3, (b4, done)))) = shape .1 (v .shape) in
             let k7 = r7 .1 (v .rate) in
-            let k8 = r8 .1 (v .format, (v .mode, (v .width, (v .height, (v .luma, (v .colour, (v .luma-some, v .colour-some))))))) in
+            let k8 = frame .1 (v .frame) .0 in
             let k10 = r10 .1 (v .matrix) in
-            let k12 = r12 .1 (v .long-y, (v .long-c1, v .long-c2)) in
-            let from9 : NoneOf (drop 8 (rules s m p work)) = (k10 .own, (k10 .default, (r11 .1 (v .padded), (k12, (r13 .1 (v .work-room), tt))))) in
+            let l = v .lent in
+            let k12 = r12 .1 (l .long-y, (l .long-c1, l .long-c2)) in
+            let from9 : NoneOf (drop 8 (rules s m p work)) = (k10 .own, (k10 .default, (r11 .1 (v .padded), (k12, (r13 .1 (l .work-room), tt))))) in
             let from5 : NoneOf (drop 4 (rules s m p work)) = (k7 .target, (k7 .index, (k7 .bytes, (k8, from9)))) in
-            let k3 = r3 .1 (v .across, (v .down, v .slices)) in
-            (r1 .1 (v .wavelet, v .wavelet-ho), (r2 .1 (v .depths), (k3, (r4 .1 (v .scaler, v .prefix), from5)))),
+            (b1, (b2, (b3, (b4, from5)))),
       )
 
   pub valid : refusalOf s m p work ≡ 0 → Valid s m p work
@@ -206,28 +231,28 @@ pub record DepthsFit (d : Three ℕ) : Type 0 where
 
 module _ {s : Settings} {m : List ℕ} {p : Three (List ℕ)} {work : List ℤ} (v : Valid s m p work) where
   pub luma-sides : Sides s (lumaSize s)
-  luma-sides = let f = luma-fits s in sides s (lumaSize s) (few-levels (s .«wavelet_index_ho») (s .«wavelet_index») (v .depths)) (omega (arith, v .width)) (omega (arith, v .height)) (v .luma-some) (v .padded)
+  luma-sides = let f = luma-fits s in sides s (lumaSize s) (levels-few s (v .shape)) (omega (arith, v .frame .width)) (omega (arith, v .frame .height)) (v .frame .luma-some) (v .padded)
 
   pub colour-sides : Sides s (colourSize s)
   colour-sides =
       let f = luma-fits s in
       let c = colour-fits s in
-      sides s (colourSize s) (few-levels (s .«wavelet_index_ho») (s .«wavelet_index») (v .depths)) (omega (arith, v .width)) (omega (arith, v .height)) (v .colour-some)
+      sides s (colourSize s) (levels-few s (v .shape)) (omega (arith, v .frame .width)) (omega (arith, v .frame .height)) (v .frame .colour-some)
       (le-trans (colour-most s) (v .padded))
 
   -- ---- sample depths
   pub sample-depths : DepthsFit (depthsOf s)
   unfolding depthsOf
   sample-depths =
-      let l = depth-range (s .«luma_excursion») (v .luma) in
-      let c = depth-range (s .«color_diff_excursion») (v .colour) in
+      let l = depth-range (s .«luma_excursion») (v .frame .luma) in
+      let c = depth-range (s .«color_diff_excursion») (v .frame .colour) in
       record { y = l; c1 = c; c2 = c }
 
   -- ---- slices
   pub slice-count : Between sliceLimit (sliceCount (gridOf s))
   slice-count = record {
-    some = mul-pos {m = s .«slices_y»} {n = s .«slices_x»} (v .down .some) (v .across .some);
-    few = omega (arith, v .slices, mul-comm (s .«slices_x») (s .«slices_y»));
+    some = mul-pos {m = s .«slices_y»} {n = s .«slices_x»} (v .shape .down .some) (v .shape .across .some);
+    few = omega (arith, v .shape .slices, mul-comm (s .«slices_x») (s .«slices_y»));
   }
 
   -- ---- the matrix
@@ -244,11 +269,11 @@ module _ {s : Settings} {m : List ℕ} {p : Three (List ℕ)} {work : List ℤ} 
   -- ---- the parameters, with slice parameters q of a kind
   pub legal : (kind : PictureKind) (q : SliceParameters) → SliceFits kind q → Legal (majorVersion s) kind (parametersBy s m q)
   legal kind q f = record {
-    wavelet = v .wavelet;
-    wavelet-ho = v .wavelet-ho;
+    wavelet = v .shape .wavelet;
+    wavelet-ho = v .shape .wavelet-ho;
     plain = plain s;
-    across = v .across .some;
-    down = v .down .some;
+    across = v .shape .across .some;
+    down = v .shape .down .some;
     sliceParameters = f;
     matrix = carried-fits;
   }

@@ -1,7 +1,7 @@
 -- `coder::analysis::analyse` meets its contract.
 use Prim.Native.Nat.{ℕ, _+_, _-_, _*_}
 use lib.ListN.{drop}
-use Rattle.wavelet.specs.Laws.Depth.{few-levels}
+use Rattle.unit.specs.Laws.Valid.{levels-few}
 use Rattle.unit.specs.Sizes.{lumaSize, colourSize}
 use Rattle.unit.specs.Three.{planes}
 use Rattle.picture.specs.Laws.Analysis.{padded-asks, taken-is, Taken, taken-of, front-is, components-in, Sampled, front-room, analysed-of}
@@ -51,7 +51,7 @@ padded-size-requires : tie.Need-padded-size-requires
 padded-size-requires c κs =
     let st = c .before .before .before .before .before in
     let l = c .before .luma-size in
-    padded-asks (st .args .s) (l .result) (lumaSize (st .args .s)) (few-levels (st .args .s .«wavelet_index_ho») (st .args .s .«wavelet_index») (st .pre .depths)) (st .pre .luma) (l .ensures)
+    padded-asks (st .args .s) (l .result) (lumaSize (st .args .s)) (levels-few (st .args .s) (st .pre .shape)) (st .pre .luma) (l .ensures)
 
 sides-of-requires : tie.Need-sides-of-requires
 sides-of-requires c κs = search needs
@@ -60,7 +60,7 @@ padded-size-requires-2 : tie.Need-padded-size-requires-2
 padded-size-requires-2 c κs =
     let st = c .before .before .before .before .before .before .before in
     let k = c .before .before .colour-size in
-    padded-asks (st .args .s) (k .result) (colourSize (st .args .s)) (few-levels (st .args .s .«wavelet_index_ho») (st .args .s .«wavelet_index») (st .pre .depths)) (st .pre .colour) (k .ensures)
+    padded-asks (st .args .s) (k .result) (colourSize (st .args .s)) (levels-few (st .args .s) (st .pre .shape)) (st .pre .colour) (k .ensures)
 
 sides-of-requires-2 : tie.Need-sides-of-requires-2
 sides-of-requires-2 c κs = search needs

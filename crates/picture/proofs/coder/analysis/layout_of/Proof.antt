@@ -1,5 +1,6 @@
 -- `coder::analysis::layout_of` meets its contract.
 use mathlib.Core.Path.{refl}
+use Rattle.unit.specs.Laws.Valid.{levels-few}
 use Rattle.picture.specs.Code.Analysed.{layoutOf}
 use borrow.Author.Needs.{needs}
 use Rattle.picture.proofs.coder.analysis.layout_of.Statement.{statement}
@@ -10,7 +11,7 @@ use Rattle.picture.proofs.coder.analysis.is_low.Reads as is-low-reads
 use Rattle.picture.proofs.front.matrix.matrix_values.Reads as matrix-values-reads
 
 matrix-values-requires : tie.Need-matrix-values-requires
-matrix-values-requires c κs = search needs
+matrix-values-requires c κs = let st = c .before in (st .pre .matrix, levels-few (st .args .s) (st .pre .shape))
 
 is-low-requires : tie.Need-is-low-requires
 is-low-requires c κs = search needs

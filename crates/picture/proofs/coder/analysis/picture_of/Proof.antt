@@ -1,5 +1,6 @@
 -- `coder::analysis::picture_of` meets its contract.
 use Rattle.unit.specs.Sizes.{lumaSize, colourSize}
+use Rattle.unit.specs.Laws.Valid.{levels-few}
 use Rattle.picture.specs.Laws.Analysis.{padded-asks, Measures, measures-of, picture-is}
 use native.Mathlib.Omega.{arith}
 use borrow.Author.Needs.{needs}
@@ -32,7 +33,7 @@ luma-size-requires c κs = search needs
 padded-size-requires : tie.Need-padded-size-requires
 padded-size-requires c κs =
     let st = c .before .before in
-    padded-asks (st .args .s) (c .luma-size .result) (lumaSize (st .args .s)) (st .pre .depths) (st .pre .luma) (c .luma-size .ensures)
+    padded-asks (st .args .s) (c .luma-size .result) (lumaSize (st .args .s)) (levels-few (st .args .s) (st .pre .shape)) (st .pre .luma) (c .luma-size .ensures)
 
 colour-size-requires : tie.Need-colour-size-requires
 colour-size-requires c κs = search needs
@@ -40,7 +41,7 @@ colour-size-requires c κs = search needs
 padded-size-requires-2 : tie.Need-padded-size-requires-2
 padded-size-requires-2 c κs =
     let st = c .before .before .before .before in
-    padded-asks (st .args .s) (c .colour-size .result) (colourSize (st .args .s)) (st .pre .depths) (st .pre .colour) (c .colour-size .ensures)
+    padded-asks (st .args .s) (c .colour-size .result) (colourSize (st .args .s)) (levels-few (st .args .s) (st .pre .shape)) (st .pre .colour) (c .colour-size .ensures)
 
 count-of-requires : tie.Need-count-of-requires
 count-of-requires c κs = search needs

@@ -1,7 +1,9 @@
 -- `front::refusal::padded_area` meets its contract.
 use mathlib.Core.Path.{_≡_, ap, _∙_}
+use native.Mathlib.Omega.{arith}
 use Rattle.unit.specs.Sizes.{Size, area}
 use Rattle.unit.specs.Refusal.{paddedArea}
+use Rattle.unit.specs.Laws.Valid.{levels-few}
 use Rattle.picture.specs.Code.Sides.{sizeIn}
 use Rattle.picture.specs.Laws.Sides.{padded-area-few}
 use borrow.Author.Needs.{needs}
@@ -13,7 +15,10 @@ use Rattle.picture.proofs.front.refusal.area.Reads as area-reads
 use Rattle.picture.proofs.front.sizes.padded_size.Reads as padded-size-reads
 
 padded-size-requires : tie.Need-padded-size-requires
-padded-size-requires c κs = search needs
+padded-size-requires c κs =
+    let m = c .pre .0 in
+    let w = c .pre .1 in
+    (levels-few (c .args .s) (m .shape), (omega (arith, m .frame .width .few, w .width), omega (arith, m .frame .height .few, w .height)))
 
 area-requires : tie.Need-area-requires
 area-requires c κs = search needs
