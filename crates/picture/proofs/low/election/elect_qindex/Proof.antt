@@ -23,15 +23,28 @@ Inv-loop work₀ p room k lo g v low₀ high₀ r₀ work low high r =
 abbrev μ-loop : tie.MeasureT-loop
 μ-loop work₀ p room k lo g v low₀ high₀ r₀ work low high r = r .hi - r .lo
 
+-- the states before the loop
+abbrev start : tie.After-bracket-at Inv-loop μ-loop → tie.Start Inv-loop μ-loop
+start c = c .before .before
+
+abbrev worked : tie.After-work Inv-loop μ-loop → tie.After-bracket-at Inv-loop μ-loop
+worked c = c .before
+
+abbrev bracketed : tie.After-high Inv-loop μ-loop → tie.After-bracket-at Inv-loop μ-loop
+bracketed c = worked (c .before .before)
+
 bracket-at-requires : tie.Need-bracket-at-requires Inv-loop μ-loop
 bracket-at-requires c κs = let h = c .before .pre in (h .0, h .1 .1)
 
 loop-holds : tie.Need-loop-holds Inv-loop μ-loop
 loop-holds c =
-    let st = c .before .before .before .before .before in
+    let before = bracketed c in
+    let st = start before in
     let a = st .args in
-    let b = c .before .before .before .bracket-at in
-    (halving-start (lowFitsIn (b .last .0) (a .p) (a .room) (a .k)) (a .lo) (lastIndex LowDelay) (st .pre .1 .0), (tried-none (a .p) (a .k) (b .last .0) (b .ensures .0 .small), b .ensures .1))
+    let b = before .bracket-at in (
+      halving-start (lowFitsIn (b .last .0) (a .p) (a .room) (a .k)) (a .lo) (lastIndex LowDelay) (st .pre .1 .0),
+      (tried-none (a .p) (a .k) (b .last .0) (b .ensures .0 .small), b .ensures .1),
+    )
 
 middle-requires : tie.Need-middle-requires Inv-loop μ-loop
 middle-requires c κs =
@@ -40,49 +53,68 @@ middle-requires c κs =
 
 fits-requires : tie.Need-fits-requires Inv-loop μ-loop
 fits-requires c κs =
-    let v = c .before .before .before .before .loop in
-    let m = c .before .middle in
-    let h = c .before .before .before .before .before .before .before .before .before .before .pre in
-    (slice-at (v .work) (m .result) (h .0) (v .inv .1 .0 .small) (omega (arith, halving-middle (v .inv .0) (m .result) (m .ensures))), (v .inv .1 .1, h .1 .1 .1))
+    let m = c .before in
+    let turn = m .before in
+    let loop = turn .before .before in
+    let v = loop .loop in
+    let h = start (bracketed (loop .before)) .pre in (
+      slice-at (v .work) (m .middle .result) (h .0) (v .inv .1 .0 .small) (omega (arith, halving-middle (v .inv .0) (m .middle .result) (m .middle .ensures))),
+      (v .inv .1 .1, h .1 .1 .1),
+    )
 
 narrowed-requires : tie.Need-narrowed-requires Inv-loop μ-loop
 narrowed-requires c κs =
-    let v = c .before .before .before .before .before .before .before .before .loop in
-    let m = c .before .before .before .before .before .middle in
-    omega (arith, halving-middle (v .inv .0) (m .result) (m .ensures))
+    let told = c .before .before in
+    let tried = told .before in
+    let m = tried .before .before in
+    let turn = m .before in
+    let v = turn .before .before .loop in
+    omega (arith, halving-middle (v .inv .0) (m .middle .result) (m .middle .ensures))
 
 loop-less : tie.Need-loop-less Inv-loop μ-loop
 loop-less c =
-    let v = c .before .before .before .before .before .before .before .before .before .loop in
-    let m = c .before .before .before .before .before .before .middle in
-    halving-less (v .r) (m .result) (c .before .before .before .before .before .before .before .if1 .taken) (m .ensures) (c .before .before .before .before .fits2 .result .fits) (c .narrowed .result) (c .narrowed .ensures)
+    let told = c .before .before in
+    let tried = told .before .before in
+    let m = tried .before .before in
+    let turn = m .before in
+    let v = turn .before .before .loop in
+    halving-less (v .r) (m .middle .result) (turn .if1 .taken) (m .middle .ensures) (tried .fits2 .result .fits) (c .narrowed .result) (c .narrowed .ensures)
 
 loop-again : tie.Need-loop-again Inv-loop μ-loop
 loop-again c =
-    let st = c .before .before .before .before .before .before .before .before .before .before .before .before .before .before .before in
+    let told = c .before .before in
+    let tried = told .before .before in
+    let m = tried .before .before in
+    let turn = m .before in
+    let loop = turn .before .before in
+    let before = bracketed (loop .before) in
+    let st = start before in
     let a = st .args in
-    let w = c .before .before .before .before .before .before .before .before .before .before .before .before .before .bracket-at .last .0 in
-    let v = c .before .before .before .before .before .before .before .before .before .loop in
-    let m = c .before .before .before .before .before .before .middle in
-    let f = c .before .before .before .before .fits2 in
+    let w = before .bracket-at .last .0 in
+    let v = loop .loop in
+    let q = m .middle in
+    let f = tried .fits2 in
     let e = f .ensures in (
-      halving-turn (v .r) (m .result) (c .before .before .before .before .before .before .before .if1 .taken) (m .ensures) (v .inv .0) (f .result .fits) (c .narrowed .result)
-          (e .0 ∙ ap (λ (g : ℕ → Bool). g (m .result)) (tried-fits (a .p) (a .k) w (v .work) (a .room) (v .inv .1 .0)))
+      halving-turn (v .r) (q .result) (turn .if1 .taken) (q .ensures) (v .inv .0) (f .result .fits) (c .narrowed .result)
+          (e .0 ∙ ap (λ (g : ℕ → Bool). g (q .result)) (tried-fits (a .p) (a .k) w (v .work) (a .room) (v .inv .1 .0)))
           (c .narrowed .ensures),
       (
-        tried-more (a .p) (a .k) w (v .work) (f .last .0) (m .result) (st .pre .0 .arranged) (st .pre .0 .slice) (v .inv .1 .0) (e .1 .0) (e .1 .1 .0),
+        tried-more (a .p) (a .k) w (v .work) (f .last .0) (q .result) (st .pre .0 .arranged) (st .pre .0 .slice) (v .inv .1 .0) (e .1 .0) (e .1 .1 .0),
         e .1 .1 .1,
       ),
     )
 
 returns : tie.Need-returns Inv-loop μ-loop
 returns c =
-    let st = c .before .before .before .before .before .before .before .before in
+    let loop = c .before .before in
+    let before = bracketed (loop .before) in
+    let st = start before in
     let a = st .args in
-    let b = c .before .before .before .before .before .before .bracket-at in
-    let v = c .before .before .loop in
+    let b = before .bracket-at in
+    let v = loop .loop in
     let t = b .ensures .0 in (
-      halving-end (v .inv .0) (st .pre .1 .0) (omega (arith, c .if1 .left)) ∙ ap (elect (a .lo) (lastIndex LowDelay)) (tried-fits (a .p) (a .k) (a .work .now) (b .last .0) (a .room) t),
+      halving-end (v .inv .0) (st .pre .1 .0) (omega (arith, c .if1 .left))
+          ∙ ap (elect (a .lo) (lastIndex LowDelay)) (tried-fits (a .p) (a .k) (a .work .now) (b .last .0) (a .room) t),
       (halving-low (v .inv .0), (tried-then (a .p) (a .k) (a .work .now) (b .last .0) (v .work) t (v .inv .1 .0), v .inv .1 .1 .1)),
     )
 
