@@ -15,8 +15,8 @@ use Rattle.unit.specs.Sizes.{lumaSize, colourSize}
 use Rattle.unit.specs.Subbands.{paddedSize, subbandCount}
 use Rattle.unit.specs.Refusal.{workNeeded, refusalOf}
 
--- a lossless picture of one grey sample in each component, by wavelet, horizontal-only wavelet, depth and horizontal-only
--- depth, with a custom matrix or the default
+-- a lossless picture of one grey sample in each component, by wavelet, horizontal-only wavelet, depth and
+-- horizontal-only depth, with a custom matrix or the default
 abbrev pub oneSample : Bool → ℕ → ℕ → ℕ → ℕ → Settings
 oneSample custom w h d k = record {
   kind = HighQuality;

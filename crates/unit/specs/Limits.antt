@@ -1,5 +1,5 @@
--- The limits of a call: document 01, "Answers that turn a call away"; document 02, (iii). That of the two depths, by the
--- wavelets, is `depthLimit`.
+-- The limits of a call: document 01, "Answers that turn a call away"; document 02, (iii). That of the two depths, by
+-- the wavelets, is `depthLimit`.
 use Prim.Native.Nat.{ℕ}
 use Rattle.unit.specs.declared.PictureKind.{PictureKind}
 use Rattle.unit.specs.declared.PictureKind.the-variants.{LowDelay, HighQuality}

@@ -7,7 +7,7 @@ use Rattle.laws.specs.Rows.{at}
 use Rattle.laws.specs.Plane.{Plane}
 use Rattle.wavelet.specs.Planes.{ofRows}
 
--- the floor of (a + b + c + 1) / 3
+-- the floor of (a + b + c + 1) / 3; `shrZ` divides and rounds down
 abbrev pub mean : ℤ → ℤ → ℤ → ℤ
 mean a b c = shrZ (a +ℤ b +ℤ c +ℤ pos 1) 3
 

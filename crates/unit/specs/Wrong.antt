@@ -199,11 +199,11 @@ pub record WrongEncoders : Type 0 where
   pub two-slices :
       GivesHigh (target 28 (across 2 (wide 2 job))) (luma (101 ∷ 101 ∷ []))
       (0x36 ∷ 0x64 ∷ 0x04 ∷ 0x01 ∷ 0x53 ∷ 0x00 ∷ 0x00 ∷ 0x14 ∷ 0x00 ∷ 0x00 ∷ 0x00 ∷ [])
-      -- last_index_high sets every slice to its last index
+      -- last_index sets every slice to its last index
       (left 27 0 1 0xE8 (0x36 ∷ 0x64 ∷ 0xFF ∷ 0x00 ∷ 0x00 ∷ 0x00 ∷ 0xFF ∷ 0x00 ∷ 0x00 ∷ 0x00 ∷ 0xAA ∷ [])
       -- first_slice_only codes the first slice only
       ∷ left 28 0 1 0xE8 (0x36 ∷ 0x64 ∷ 0x04 ∷ 0x01 ∷ 0x53 ∷ 0x00 ∷ 0x00 ∷ 0x00 ∷ 0x00 ∷ 0x00 ∷ 0x00 ∷ [])
-      -- larger_last gives the later slices the larger shares
+      -- larger_shares_last gives the later slices the larger shares
       ∷ left 28 0 1 0xE8 (0x36 ∷ 0x64 ∷ 0x14 ∷ 0x00 ∷ 0x00 ∷ 0x00 ∷ 0x04 ∷ 0x01 ∷ 0x53 ∷ 0x00 ∷ 0x00 ∷ [])
       -- turned_round searches above an index that fits; fit_without_4 forgets the slice's own four bytes
       ∷ (14 ∷ replicate 28 0)
@@ -211,7 +211,7 @@ pub record WrongEncoders : Type 0 where
   pub trimmed-share :
       GivesHigh (target 24 job) (luma (160 ∷ []))
       (0x32 ∷ 0x64 ∷ 0x05 ∷ 0x01 ∷ 0x46 ∷ 0x00 ∷ 0x00 ∷ [])
-      -- untrimmed_fit compares the budget with the untrimmed cost
+      -- untrimmed_fit_high compares the budget with the untrimmed cost
       (left 23 0 1 0xE8 (0x32 ∷ 0x64 ∷ 0xFF ∷ 0x00 ∷ 0x00 ∷ 0x00 ∷ 0xAA ∷ [])
       ∷ [])
   pub two-zeros :
@@ -233,14 +233,14 @@ pub record WrongEncoders : Type 0 where
   pub one-shift :
       GivesHigh (depth 1 job) (luma (130 ∷ []))
       (0x24 ∷ 0x99 ∷ 0x00 ∷ 0x00 ∷ 0x01 ∷ 0x1B ∷ 0x00 ∷ 0x00 ∷ [])
-      -- column_shift adds the column filter's shift
+      -- shift_added adds the column filter's shift
       (left 25 0 1 0xE8 (0x24 ∷ 0x99 ∷ 0x00 ∷ 0x00 ∷ 0x01 ∷ 0x06 ∷ 0x00 ∷ 0x00 ∷ [])
       ∷ [])
   -- Luma needs 256 bytes.
   pub final-scaler :
       GivesList (tells (outcome (excursion 1 (wide 64 job)) [] (planes (replicate 64 65535) (replicate 64 1) (replicate 64 1)) 279 .answer))
       (0 ∷ 279 ∷ 0 ∷ 2 ∷ [])
-      -- scaler_told tells the setting's scaler; scaler_never_grows keeps the setting's scaler
+      -- setting_scaler tells the setting's scaler; scaler_never_grows keeps the setting's scaler
       ((0 ∷ 279 ∷ 0 ∷ 1 ∷ [])
       ∷ [])
   -- With scaler 2 the slice no longer fits at index 0.
@@ -268,7 +268,7 @@ pub record WrongEncoders : Type 0 where
       ((13 ∷ replicate 25 0xAA)
       -- too_long_with_space says 14 where the unit just fills the output; says_14 says 14 with space enough
       ∷ (14 ∷ replicate 25 0)
-      -- output_as_it_came_low writes no slice
+      -- output_as_it_came writes no slice
       ∷ left 25 0 1 0xC8 (0x36 ∷ 0x52 ∷ 0xC0 ∷ 0xAA ∷ 0xAA ∷ 0xAA ∷ 0xAA ∷ 0xAA ∷ [])
       -- output_untouched writes nothing
       ∷ (0 ∷ 25 ∷ 0 ∷ 1 ∷ replicate 25 0xAA)
@@ -276,7 +276,7 @@ pub record WrongEncoders : Type 0 where
       ∷ left 25 0 1 0xC8 (0x36 ∷ 0x52 ∷ 0xC0 ∷ 0x00 ∷ 0x1F ∷ 0x00 ∷ 0x0F ∷ 0xFF ∷ [])
       -- ones_low writes every number as 1
       ∷ left 25 0 1 0xC8 (0x36 ∷ 0x52 ∷ 0xC0 ∷ 0x0A ∷ 0x85 ∷ 0x00 ∷ 0x62 ∷ 0xAA ∷ [])
-      -- last_index_low sets every slice to its last index; turned_round searches above an index that fits
+      -- last_index sets every slice to its last index; turned_round searches above an index that fits
       ∷ left 25 0 1 0xC8 (0x36 ∷ 0x52 ∷ 0xC0 ∷ 0xFE ∷ 0x1F ∷ 0xFE ∷ 0x0F ∷ 0xFF ∷ [])
       -- first_slice_only codes the first slice only; last_candidate leaves the planes as the last index rebuilds them
       ∷ left 25 0 1 0xC8 (0x36 ∷ 0x52 ∷ 0xC0 ∷ 0x0A ∷ 0x8F ∷ 0x00 ∷ 0x0F ∷ 0xFF ∷ [])
@@ -295,7 +295,7 @@ pub record WrongEncoders : Type 0 where
   pub first-cut :
       Gives 0xC8 (custom (across 2 (wide 2 (low 27)))) (127 ∷ []) (planes (129 ∷ 128 ∷ []) (129 ∷ 128 ∷ []) (128 ∷ 128 ∷ [])) 1 1
       (0x36 ∷ 0x52 ∷ 0xE0 ∷ 0x00 ∷ 0x40 ∷ 0xFE ∷ 0x85 ∷ 0x00 ∷ 0x43 ∷ 0x3F ∷ [])
-      -- cut_never counts no slice as cut
+      -- none_cut counts no slice as cut
       (left 27 0 1 0xC8 (0x36 ∷ 0x52 ∷ 0xE0 ∷ 0x00 ∷ 0x40 ∷ 0xFE ∷ 0x85 ∷ 0x00 ∷ 0x43 ∷ 0x3F ∷ [])
       -- colour_first cuts luma and keeps the colours
       ∷ left 27 1 1 0xC8 (0x36 ∷ 0x52 ∷ 0xE0 ∷ 0x00 ∷ 0x40 ∷ 0xFE ∷ 0x05 ∷ 0x00 ∷ 0x43 ∷ 0x3F ∷ [])
@@ -307,7 +307,7 @@ pub record WrongEncoders : Type 0 where
   -- One slice of one byte: at index 127 all of its numbers are 0, so that it is not cut.
   pub last-fits :
       Gives 0xC8 (custom (low 0)) (126 ∷ []) (luma (129 ∷ [])) 0 1 (0x32 ∷ 0x49 ∷ 0xAA ∷ 0xAC ∷ 0xFF ∷ [])
-      -- cut_count counts every slice of index 127 as cut
+      -- cut_at_last_index counts every slice of index 127 as cut
       (left 22 1 1 0xC8 (0x32 ∷ 0x49 ∷ 0xAA ∷ 0xAC ∷ 0xFF ∷ [])
       ∷ [])
   -- Index 5 fits; halving ends at 8.
@@ -328,7 +328,7 @@ pub record WrongEncoders : Type 0 where
   pub mean-floors :
       GivesLow (high 2 (wide 2 (low 24))) (luma (127 ∷ 127 ∷ 127 ∷ 127 ∷ []))
       (0x32 ∷ 0x46 ∷ 0x40 ∷ 0x00 ∷ 0x43 ∷ 0xFF ∷ 0xFF ∷ [])
-      -- mean_truncates truncates the mean of three
+      -- prediction_truncates truncates the mean of three
       (left 24 0 1 0xC8 (0x32 ∷ 0x46 ∷ 0x40 ∷ 0x00 ∷ 0xA3 ∷ 0xCF ∷ 0xFF ∷ [])
       ∷ [])
   pub colours-alternate :
@@ -342,7 +342,7 @@ pub record WrongEncoders : Type 0 where
   pub one-shift-low :
       GivesLow (depth 1 (low 24)) (luma (130 ∷ []))
       (0x24 ∷ 0x91 ∷ 0x90 ∷ 0x00 ∷ 0x61 ∷ 0xBF ∷ 0xFF ∷ [])
-      -- column_shift adds the column filter's shift
+      -- shift_added adds the column filter's shift
       (left 24 0 1 0xC8 (0x24 ∷ 0x91 ∷ 0x90 ∷ 0x00 ∷ 0x80 ∷ 0x6F ∷ 0xFF ∷ [])
       ∷ [])
   pub setting-scaler :

@@ -9,7 +9,8 @@ use Rattle.unit.specs.Laws.Elect.{elect-least}
 use Rattle.picture.specs.declared.slices.search.Range.{Range}
 use Rattle.picture.specs.Code.Search.{halfOf}
 
--- the least index from first to last that fits lies in the range r, whose high end was tried and fits if it is below last
+-- the least index from first to last that fits lies in the range r, whose high end was tried and fits if it is below
+-- last
 pub record Searches (f : ℕ → Bool) (first last : ℕ) (r : Range) : Type 0 where
   pub least : first ≤ r .lo
   pub order : r .lo ≤ r .hi
