@@ -1,6 +1,7 @@
 -- What the code keeps: its own values as the definitions have them, and what its functions ask and leave. Contracts
 -- cite these files.
 pub mod Sides
+pub mod Matrix
 pub mod Head
 pub mod Strip
 pub mod Cost

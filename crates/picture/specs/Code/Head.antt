@@ -1,7 +1,6 @@
 -- The header's slice parameters as the definitions have them, its parts, and what writing it asks.
-use mathlib.Core.Bool.{not, cond, true}
+use mathlib.Core.Bool.{not, cond}
 use mathlib.Core.List.{List, [], _++_}
-use mathlib.Core.Path.{_≡_}
 use Prim.Native.Nat.{ℕ, _*_, _≤_}
 use lib.Dec.{eqb, leb}
 use lib.ListN.{length}
@@ -16,6 +15,8 @@ use Rattle.unit.specs.LowDelay.{numeratorBy}
 use Rattle.unit.specs.Unit.{majorVersion, gridOf, targetOf, lowParameters, parseCode, parametersBy}
 use Rattle.picture.specs.declared.front.header.SliceParameters as code
 use Rattle.picture.specs.declared.front.header.SliceParameters.the-variants.{LowDelay, HighQuality}
+use Rattle.picture.specs.declared.front.matrix.Carried.{Carried}
+use Rattle.picture.specs.Code.Matrix.{Carries}
 
 -- ---- the parts
 -- 12.4.4, if the version has it
@@ -41,9 +42,9 @@ abbrev pub sliceIn : code.SliceParameters → SliceParameters
 sliceIn (LowDelay n d) = lowDelay n d
 sliceIn (HighQuality p c) = highQuality p c
 
--- what an accepted call has: few matrix values where one is asked for, and few slices
-pub record CanCarry (s : Settings) (m : List ℕ) : Type 0 where
-  pub few : s .«custom_matrix» ≡ true → length m ≤ 25
+-- what an accepted call has: its matrix, and few slices
+pub record CanCarry (s : Settings) (c : Carried) : Type 0 where
+  pub carries : Carries s c
   pub slices : s .«slices_x» * s .«slices_y» ≤ sliceLimit
 
 -- the head fits the output

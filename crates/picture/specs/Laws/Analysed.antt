@@ -21,6 +21,7 @@ use Rattle.wavelet.specs.Lifting.{exact}
 use Rattle.wavelet.specs.Pad.{padded}
 use Rattle.unit.specs.declared.Settings.{Settings}
 use Rattle.unit.specs.declared.Coded.{Coded}
+use Rattle.unit.specs.declared.Answer.{Answer}
 use Rattle.unit.specs.declared.Answer.the-variants.{Accepted, Refused}
 use Rattle.unit.specs.Limits.{sliceLimit}
 use Rattle.unit.specs.Three.{Three}
@@ -28,16 +29,18 @@ use Rattle.unit.specs.Sizes.{Size, lumaSize, colourSize, depthsOf, offsetOf}
 use Rattle.unit.specs.Slices.{sliceCount}
 use Rattle.unit.specs.Subbands.{subbandCount}
 use Rattle.unit.specs.Matrix.{defaultOf, matrixValues}
-use Rattle.unit.specs.Laws.Matrix.{MatrixIf, default-matrix}
+use Rattle.unit.specs.Laws.Matrix.{MatrixIf, default-matrix, plan-same}
 use Rattle.unit.specs.Parameters.{overhead}
 use Rattle.unit.specs.Coefficients.{bandsOf, coefficientsOf}
 use Rattle.unit.specs.Plan.{SlicePlan, Plan}
-use Rattle.unit.specs.Unit.{majorVersion, gridOf, sliceRuns, headBits, lengthOf, unitOf}
+use Rattle.unit.specs.Unit.{majorVersion, gridOf, planOf, sliceRuns, headBits, lengthOf, unitOf}
 use Rattle.unit.specs.Laws.Unit.{length-unit}
 use Rattle.unit.specs.Outcome.{codedOf, codingRefusal}
 use Rattle.unit.specs.Laws.Demand.{not-long}
 use Rattle.unit.specs.Code.Valid.{MatrixFits, Valid, Sides}
 use Rattle.unit.specs.Laws.Valid.{levels-few, luma-sides, colour-sides}
+use Rattle.picture.specs.declared.front.matrix.Carried.{Carried}
+use Rattle.picture.specs.Code.Matrix.{lentIn, Carries, CarriedOf}
 use Rattle.picture.specs.Code.Head.{CanCarry}
 use Rattle.picture.specs.Code.Strip.{Small}
 use Rattle.picture.specs.Code.Layout.{bandCount, gridIn, LayoutIn, ComponentIn}
@@ -48,8 +51,9 @@ use Rattle.picture.specs.Code.Coded.{answerBy, outputBy, Codes}
 
 -- ---- an accepted call
 module _ {s : Settings} {m : List ℕ} {p : Three (List ℕ)} {w : List ℤ} (v : Valid s m p w) where
-  pub called : Called s m
-  called = record { shape = v .shape; rate = v .rate; matrix = v .matrix; luma = luma-sides v; colour = colour-sides v }
+  -- with the matrix that is made of the lent one
+  pub called : {c : Carried} → CarriedOf s m c → Called s (lentIn c)
+  called o = record { shape = v .shape; rate = v .rate; matrix = o .fits; luma = luma-sides v; colour = colour-sides v }
 
   pub ready : Ready s p w
   ready = record { shape = v .shape; frame = v .frame; lent = v .lent; luma = luma-sides v; colour = colour-sides v }
@@ -61,6 +65,9 @@ values-by : (s : Settings) (m : List ℕ) (n : ℕ) (c : Bool) (d : Option (List
 values-by s m n true d e h g = h .0 ∙ sym e
 values-by s m n false none e h g = absurd h
 values-by s m n false (some vs) e h g = g .many ∙ sym e
+
+pub called-carry : {s : Settings} {k : Carried} → Carries s k → Called s (lentIn k) → CanCarry s k
+called-carry h c = record { carries = h; slices = c .shape .slices }
 
 module _ {s : Settings} {m : List ℕ} (c : Called s m) where
   -- as many values as there are subbands
@@ -81,15 +88,6 @@ module _ {s : Settings} {m : List ℕ} (c : Called s m) where
   values-are n h =
       let vs = matrixValues s m in
       List·getD-append vs (replicate (25 - length vs) 0) 0 n (omega (arith, values-many))
-
-  -- few values are carried
-  carried : s .«custom_matrix» ≡ true → length m ≤ 25
-  carried e =
-      let f : MatrixFits s m true (defaultOf s) = subst (λ (b : Bool). MatrixFits s m b (defaultOf s)) e (c .matrix) in
-      omega (arith, f .0, levels-few s (c .shape))
-
-  pub called-carry : CanCarry s m
-  called-carry = record { few = carried; slices = c .shape .slices }
 
   -- ---- the picture
   pub front-few : frontOf s + frontOf s < 2 ^ 30
@@ -223,6 +221,12 @@ module _ (s : Settings) (m : List ℕ) where
     pub holds-c2 : Holds w (pictureOf s m .c2 .coefs) (coefficientsOf s p .c2)
     unfolding pictureOf
     holds-c2 = a .c2
+
+-- ---- the matrix that is made of the lent one gives the call's plan
+pub codes-lent : {s : Settings} {m : List ℕ} {c : Carried} {out out′ : List ℕ} {r : Answer} (p : Three (List ℕ)) → CarriedOf s m c
+    → Codes s (planOf s (lentIn c) p) out out′ r → Codes s (planOf s m p) out out′ r
+codes-lent {s} {m} {c} {out} {out′} {r} p o h =
+    subst (λ (a : Plan). Codes s a out out′ r) (plan-same s (lentIn c) m p (o .matrix) (o .values)) h
 
 -- ---- the slices' bytes
 pub flatten-snoc : (ss : List SlicePlan) (a : SlicePlan) → flatten (sliceRuns (ss ++ (a ∷ []))) ≡ flatten (sliceRuns ss) ++ toBytes (a .bits)

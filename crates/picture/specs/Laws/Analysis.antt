@@ -1,6 +1,7 @@
 -- What analysis needs and leaves: zeros in a loop, sample offsets, the code's sides as the definitions have them, and
 -- the work slice with its front of zeros and the three components behind it.
 use mathlib.Core.Path.{_≡_, refl, sym, ap, ap₂, _∙_}
+use mathlib.Core.Bool.{Bool}
 use mathlib.Core.List.{List, _∷_, _++_}
 use Prim.Native.Nat.{ℕ, zero, suc, _+_, _-_, _*_, _%_, _^_, _≤_, _<_}
 use native.Mathlib.Nat.{mul-comm, add-assoc}
@@ -12,6 +13,7 @@ use lib.Seq.{getD-append-add, length-take-le}
 use lib.Pow.{pow-mono}
 use Rattle.laws.specs.Rows.{at, span, row}
 use Rattle.laws.specs.Wrap.{wrap}
+use Rattle.quantiser.specs.Default.{places}
 use Rattle.wavelet.specs.Planes.{Band, coefficients}
 use Rattle.wavelet.specs.Laws.Plane.{length-coefficients}
 use Rattle.wavelet.specs.Pad.{padded, componentOf}
@@ -26,6 +28,7 @@ use Rattle.unit.specs.Limits.{areaLimit, sideLimit}
 use Rattle.unit.specs.Three.{Three}
 use Rattle.unit.specs.Sizes.{Size, area, lumaSize, colourSize, intlog2, depthsOf, offsetOf}
 use Rattle.unit.specs.Subbands.{paddedSize}
+use Rattle.unit.specs.Matrix.{matrixValues}
 use Rattle.unit.specs.Refusal.{paddedArea, workNeeded}
 use Rattle.unit.specs.Coefficients.{bandsOf, coefficientsOf}
 use Rattle.unit.specs.Code.Valid.{Between}
@@ -38,7 +41,7 @@ use Rattle.picture.specs.declared.slices.layout.Picture.{Picture}
 use Rattle.picture.specs.declared.front.sizes.Sides as code
 use Rattle.picture.specs.Code.Sides.{sizeIn}
 use Rattle.picture.specs.Code.Strip.{most, reach, Small}
-use Rattle.picture.specs.Code.Analysed.{Holds, lumaArea, colourArea, frontOf, componentAt, layoutOf, pictureOf, Called, Ready, Analysed}
+use Rattle.picture.specs.Code.Analysed.{Holds, isLow, lumaArea, colourArea, frontOf, componentAt, layoutOf, pictureOf, Called, Ready, Analysed}
 
 -- ---- zeros
 zeros-span : (i n : ℕ) → span (λ k. pos 0) i n ≡ replicate n (pos 0)
@@ -123,6 +126,11 @@ component-is s z q a b a′ b′ r e ea eb h =
     ap₂ (λ (c u : ℕ). componentBy c u (r .width) (r .height)) (h .0 ∙ ea) (h .1 .0 ∙ eb) ∙ ap₂ (λ (c u : ℕ). componentBy a′ b′ c u) w v
 
 -- the components one behind the other
+pub layout-is : (s : Settings) (m vs : List ℕ) (b : Bool) → vs ≡ places (matrixValues s m) → b ≡ isLow (s .kind)
+    → _≡_ {A = Layout} (record { «depth_ho» = s .«dwt_depth_ho»; depth = s .«dwt_depth»; across = s .«slices_x»; down = s .«slices_y»; values = vs; predicted = b }) (layoutOf s m)
+unfolding layoutOf
+layout-is s m vs b e f = rw (e, f) refl
+
 pub picture-is : (s : Settings) (m : List ℕ) (z c : code.Sides) (a b : ℕ) → Measures s z c a b → (l : Layout) (y c1 c2 : Component) → l ≡ layoutOf s m
     → (y .coefs ≡ a + b + b) × ((y .rebuilt ≡ 0) × ((y .width ≡ z .width) × (y .height ≡ z .height)))
     → (c1 .coefs ≡ a + b + b + a) × ((c1 .rebuilt ≡ a) × ((c1 .width ≡ c .width) × (c1 .height ≡ c .height)))

@@ -9,7 +9,7 @@ use native.Mathlib.Numerals.{add-one}
 use native.Mathlib.Omega.{arith}
 use borrow.Author.Tests.{le-leb, lt-leb}
 use lib.Dec.{T, eqb}
-use lib.ListN.{length, take, drop, getD, length-append, length-replicate}
+use lib.ListN.{length, take, drop, getD, replicate, length-append, length-replicate}
 use lib.Seq.{take-suc}
 use Rattle.laws.specs.Laws.Laid.{laid-is}
 use Rattle.codewords.specs.Bit.{Bits, lit, zeroBits}
@@ -24,9 +24,11 @@ use Rattle.codewords.specs.Laws.Code.{length-codeU, leading-log2}
 use Rattle.unit.specs.declared.Settings.{Settings}
 use Rattle.unit.specs.declared.PictureKind.{PictureKind}
 use Rattle.unit.specs.Parameters.{SliceParameters, flagged, extendedBits, sliceParameterBits, codesU, matrixBits, parameterBits, parameterBytes, Parameters, fill}
-use Rattle.unit.specs.Matrix.{carriedMatrix}
+use Rattle.unit.specs.Matrix.{matrixValues, carriedMatrix}
 use Rattle.unit.specs.LowDelay.{numerator}
 use Rattle.unit.specs.Unit.{versionBy, majorVersion, parametersBy, targetOf, numeratorOf, headBits}
+use Rattle.picture.specs.declared.front.matrix.Carried.{Carried}
+use Rattle.picture.specs.Code.Matrix.{lentIn, carriedIn, InPlaces, Carries}
 use Rattle.picture.specs.Code.Head.{extensionOf, frontOf, infoOf, numeratorAfter}
 
 -- ---- the major version, by its three flags
@@ -71,13 +73,14 @@ codesU-more (x ∷ xs) v = ap (λ (r : Bits). codeU x ++ r) (codesU-more xs v) �
 pub codesU-take : (vs : List ℕ) (i d : ℕ) → i < length vs → codesU (take (i + 1) vs) ≡ codesU (take i vs) ++ codeU (getD vs i d)
 codesU-take vs i d h = ap (λ (k : ℕ). codesU (take k vs)) (add-one i) ∙ ap codesU (take-suc vs i d h) ∙ codesU-more (take i vs) (getD vs i d)
 
--- the code words of the first i values and the next one are no longer than all
-pub codesU-part : (vs : List ℕ) (i d : ℕ) → i < length vs → length (codesU (take i vs)) + length (codeU (getD vs i d)) ≤ length (codesU vs)
+-- the code words of the first i values and the next one are no longer than those of the first n
+pub codesU-part : (vs : List ℕ) (n i d : ℕ) → i < n → n ≤ length vs → length (codesU (take i vs)) + length (codeU (getD vs i d)) ≤ length (codesU (take n vs))
 unfolding codesU
-codesU-part [] i d h = absurd (omega arith)
-codesU-part (v ∷ vs) zero d h = rw (length-append (codeU v) (codesU vs)) (omega arith)
-codesU-part (v ∷ vs) (suc i) d h =
-    rw (length-append (codeU v) (codesU vs), length-append (codeU v) (codesU (take i vs))) (omega (arith, codesU-part vs i d (omega arith)))
+codesU-part vs zero i d h l = absurd (omega arith)
+codesU-part [] (suc n) i d h l = absurd (omega arith)
+codesU-part (v ∷ vs) (suc n) zero d h l = rw (length-append (codeU v) (codesU (take n vs))) (omega arith)
+codesU-part (v ∷ vs) (suc n) (suc i) d h l =
+    rw (length-append (codeU v) (codesU (take n vs)), length-append (codeU v) (codesU (take i vs))) (omega (arith, codesU-part vs n i d (omega arith) (omega arith)))
 
 -- ---- a flag and its number
 pub flagged-on : (f : Bool) (v : ℕ) → f ≡ true → flagged f v ≡ f ∷ codeU v
@@ -102,13 +105,23 @@ unfolding extensionOf
 extension-some s h = rw (le-leb 3 (majorVersion s) h)
 
 -- ---- what is carried of the matrix
-pub carried-some : (s : Settings) (m : List ℕ) → s .«custom_matrix» ≡ true → matrixBits (carriedMatrix s m) ≡ s .«custom_matrix» ∷ codesU m
-unfolding carriedMatrix
-carried-some s m e = rw e
+pub carried-some : (c : Carried) → c .carried ≡ true → matrixBits (carriedIn c) ≡ c .carried ∷ codesU (lentIn c)
+unfolding carriedIn
+carried-some c e = rw e
 
-pub carried-none : (s : Settings) (m : List ℕ) → s .«custom_matrix» ≡ false → matrixBits (carriedMatrix s m) ≡ s .«custom_matrix» ∷ []
-unfolding carriedMatrix
-carried-none s m e = rw e
+pub carried-none : (c : Carried) → c .carried ≡ false → matrixBits (carriedIn c) ≡ c .carried ∷ []
+unfolding carriedIn
+carried-none c e = rw e
+
+pub carried-is : {s : Settings} {c : Carried} → Carries s c → carriedIn c ≡ carriedMatrix s (lentIn c)
+unfolding carriedIn carriedMatrix
+carried-is h = rw (h .carried)
+
+pub carries-places : {s : Settings} {c : Carried} → Carries s c → InPlaces c
+carries-places {s} {c} h =
+    let vs = matrixValues s (lentIn c) in
+    let n : ℕ = 25 - length vs in
+    (h .few, omega (arith, ap length (h .values), length-append vs (replicate n 0), length-replicate {A = ℕ} n 0))
 
 pub matrix-pos : (c : Option (List ℕ)) → 1 ≤ length (matrixBits c)
 matrix-pos none = omega arith

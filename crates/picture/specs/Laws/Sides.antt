@@ -1,5 +1,5 @@
--- Laws of intlog2 as a loop finds it, of padded sides and areas, and of a matrix's values in 25 places.
-use mathlib.Core.Path.{_≡_, refl, sym, _∙_}
+-- Laws of intlog2 as a loop finds it, of padded sides and areas, and of a call's matrix in 25 places.
+use mathlib.Core.Path.{_≡_, refl, sym, ap, _∙_, subst}
 use mathlib.Core.Bool.{Bool, true, false, not}
 use mathlib.Core.List.{List, []}
 use mathlib.Core.Option.{Option, none, some, Option·getD}
@@ -8,9 +8,9 @@ use native.Mathlib.Nat.{le-antisymm, le-trans, zero-add, mul-le-mul}
 use native.Mathlib.Numerals.{add-one}
 use native.Mathlib.Decide.{decLe}
 use native.Mathlib.Omega.{arith}
-use lib.ListN.{length, getD, drop, set, replicate}
+use lib.ListN.{length, getD, take, drop, set, replicate}
 use lib.Pow.{pow-mono}
-use lib.Seq.{paste, paste-suc, take-all}
+use lib.Seq.{paste, paste-suc, take-all, take-at}
 use Rattle.quantiser.specs.AnnexD.{defaultMatrix}
 use Rattle.quantiser.specs.Default as default
 use Rattle.quantiser.specs.Default.{places, handed}
@@ -18,7 +18,7 @@ use Rattle.wavelet.specs.Depth.{deepest}
 use Rattle.unit.specs.declared.Settings.{Settings}
 use Rattle.unit.specs.Sizes.{Size, lumaSize, colourSize, intlog2}
 use Rattle.unit.specs.Subbands.{paddedSize}
-use Rattle.unit.specs.Matrix.{defaultOf, matrixValues}
+use Rattle.unit.specs.Matrix.{defaultOf, matrixValues, carriedMatrix}
 use Rattle.unit.specs.Refusal.{isNone, paddedArea}
 use Rattle.unit.specs.Code.Valid.{MatrixFits}
 use Rattle.unit.specs.Laws.Test.{no-truth}
@@ -26,6 +26,7 @@ use Rattle.unit.specs.Laws.Intlog2.{intlog2-least}
 use Rattle.unit.specs.Laws.Padded.{wide-few, high-few}
 use Rattle.unit.specs.Laws.Valid.{levels-few, luma-fits, colour-fits}
 use Rattle.picture.specs.Code.Sides.{Measured, Within}
+use Rattle.picture.specs.Code.Matrix.{CarriedOf}
 
 -- ---- intlog2
 pub log-more : (n m : ℕ) → 2 ^ m < n → m < intlog2 n
@@ -92,13 +93,41 @@ module _ (s : Settings) (m : List ℕ) where
       by true p g = omega (arith, g .0)
       by false p g = no-truth (sym p)
 
-  pub custom-values : s .«custom_matrix» ≡ true → matrixValues s m ≡ m
+  custom-values : s .«custom_matrix» ≡ true → matrixValues s m ≡ m
   unfolding matrixValues
   custom-values e = rw e refl
 
-  pub by-default : s .«custom_matrix» ≡ false → matrixValues s m ≡ Option·getD (defaultOf s) []
+  by-default : s .«custom_matrix» ≡ false → matrixValues s m ≡ Option·getD (defaultOf s) []
   unfolding matrixValues
   by-default e = rw e refl
+
+-- ---- the matrix that is made of the lent one
+fits-default : (s : Settings) (m n : List ℕ) (b : Bool) (d : Option (List ℕ)) → b ≡ false → MatrixFits s m b d → MatrixFits s n b d
+fits-default s m n true d e f = no-truth e
+fits-default s m n false none e f = f
+fits-default s m n false (some vs) e f = tt
+
+module _ (s : Settings) (m xs : List ℕ) where
+  pub custom-carried : s .«custom_matrix» ≡ true → length m ≤ 25 → MatrixFits s m (s .«custom_matrix») (defaultOf s) → xs ≡ places m
+      → CarriedOf s m (record { values = xs; count = length m; carried = true })
+  custom-carried e l f p =
+      let t : take (length m) xs ≡ m = rw p (take-at m (replicate (25 - length m) 0) (length m) refl) in
+      record {
+        carries = record { carried = sym e; few = l; values = p ∙ sym (ap places (ap (matrixValues s) t ∙ custom-values s m e)) };
+        matrix = ap (carriedMatrix s) t;
+        values = ap (matrixValues s) t;
+        fits = subst (λ (vs : List ℕ). MatrixFits s vs (s .«custom_matrix») (defaultOf s)) (sym t) f;
+      }
+
+  pub default-carried : s .«custom_matrix» ≡ false → MatrixFits s m (s .«custom_matrix») (defaultOf s) → xs ≡ places (Option·getD (defaultOf s) [])
+      → CarriedOf s m (record { values = xs; count = 0; carried = false })
+  unfolding carriedMatrix
+  default-carried e f p = record {
+    carries = record { carried = sym e; few = omega arith; values = p ∙ sym (ap places (by-default s [] e)) };
+    matrix = rw e;
+    values = by-default s [] e ∙ sym (by-default s m e);
+    fits = fits-default s m [] (s .«custom_matrix») (defaultOf s) e f;
+  }
 
 -- ---- the default
 module _ (w h d k : ℕ) where

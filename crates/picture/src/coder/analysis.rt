@@ -1,4 +1,5 @@
 // The picture in its work slice, from samples to coefficients.
+use crate::front::matrix::Carried;
 use crate::front::sizes::Sides;
 use crate::slices::layout::Component;
 use crate::slices::layout::Layout;
@@ -14,6 +15,7 @@ ghost use Rattle.unit.specs.Limits.{sideLimit};
 ghost use Rattle.unit.specs.Sizes.{area, offsetOf, intlog2};
 ghost use Rattle.picture.specs.Code.Sides.{sizeIn};
 ghost use Rattle.unit.specs.Three.{planes};
+ghost use Rattle.picture.specs.Code.Matrix.{lentIn, Carries};
 ghost use Rattle.picture.specs.Code.Analysed.{isLow, layoutOf, pictureOf, Called, Ready, Analysed};
 
 // Whether level 0 is predicted.
@@ -27,12 +29,12 @@ fn is_low(kind: PictureKind) -> bool
 }
 
 // The layout of a picture: what all slices share.
-fn layout_of(s: Settings, matrix: &[u32]) -> Layout
-    requires { ⌜ Called s (now matrix) ⌝ }
-    ensures { λ r. ⌜ r ≡ layoutOf s (now (matrix .entry)) ⌝ }
+fn layout_of(s: Settings, m: Carried) -> Layout
+    requires { ⌜ Carries s m ⌝ }
+    ensures { λ r. ⌜ r ≡ layoutOf s (lentIn m) ⌝ }
 {
     let kind = s.kind;
-    let values = crate::front::matrix::matrix_values(s, matrix);
+    let values = m.values;
     Layout {
         depth_ho: s.dwt_depth_ho,
         depth: s.dwt_depth,
@@ -64,19 +66,19 @@ fn component_at(z: Sides, coefs: usize, rebuilt: usize) -> Component
 
 // Where a picture stands in the work slice: luma and the two colours one after the other, rebuilt planes as well as
 // coefficients.
-pub(crate) fn picture_of(s: Settings, matrix: &[u32]) -> Picture
-    requires { ⌜ Called s (now matrix) ⌝ }
-    ensures { λ r. ⌜ r ≡ pictureOf s (now (matrix .entry)) ⌝ }
+pub(crate) fn picture_of(s: Settings, m: Carried) -> Picture
+    requires { ⌜ Carries s m × Called s (lentIn m) ⌝ }
+    ensures { λ r. ⌜ r ≡ pictureOf s (lentIn m) ⌝ }
 {
     let z = crate::front::sizes::padded_size(s, crate::front::sizes::luma_size(s));
     let c = crate::front::sizes::padded_size(s, crate::front::sizes::colour_size(s));
-    let m = count_of(z);
+    let k = count_of(z);
     let n = count_of(c);
-    let front = m + n + n;
-    let layout = layout_of(s, matrix);
+    let front = k + n + n;
+    let layout = layout_of(s, m);
     let y = component_at(z, front, 0);
-    let c1 = component_at(c, front + m, m);
-    let c2 = component_at(c, front + (m + n), m + n);
+    let c1 = component_at(c, front + k, k);
+    let c2 = component_at(c, front + (k + n), k + n);
     Picture {
         layout,
         y,

@@ -1,16 +1,30 @@
 -- Annex D's matrices have as many values as there are subbands, none above 255, and it has none for depths that sum to
--- more than 5.
-use mathlib.Core.Path.{_≡_, refl}
+-- more than 5. A plan takes no more of the lent matrix than the carried one and the values.
+use mathlib.Core.Path.{_≡_, refl, sym, ap₂, _∙_}
 use mathlib.Core.Bool.{Bool, true, false, not, cond, _&&_, _||_}
 use mathlib.Core.List.{List, [], _∷_}
 use mathlib.Core.Option.{Option, none, some}
-use Prim.Native.Nat.{ℕ, zero, suc, _+_, _≤_, _<_}
+use Prim.Native.Nat.{ℕ, zero, suc, _+_, _-_, _*_, _≤_, _<_}
 use native.Mathlib.Omega.{arith}
 use lib.Dec.{eqb, ltb}
 use lib.ListN.{length, getElem?}
 use Rattle.quantiser.specs.AnnexD.{Table, tableD1, tableD2, tableD3, tableD4, tableD5, tableD6, tableD7, tableD8, andThen, tables, defaultMatrix}
+use Rattle.wavelet.specs.Planes.{Band}
+use Rattle.unit.specs.declared.Settings.{Settings}
+use Rattle.unit.specs.declared.PictureKind.{PictureKind}
+use Rattle.unit.specs.declared.PictureKind.the-variants.{LowDelay, HighQuality}
+use Rattle.unit.specs.Three.{Three}
+use Rattle.unit.specs.Sizes.{lumaSize}
+use Rattle.unit.specs.Slices.{sliceCount}
 use Rattle.unit.specs.Subbands.{subbandCount}
-use Rattle.unit.specs.Refusal.{anyAbove}
+use Rattle.unit.specs.Refusal.{anyAbove, paddedArea}
+use Rattle.unit.specs.Matrix.{matrixValues, carriedMatrix}
+use Rattle.unit.specs.Parameters.{SliceParameters, lowDelay, highQuality, Parameters, overhead}
+use Rattle.unit.specs.Coefficients.{coefficientsOf}
+use Rattle.unit.specs.Plan.{SlicePlan, Plan}
+use Rattle.unit.specs.LowDelay.{numerator, lowSlices, zeroPlanes}
+use Rattle.unit.specs.HighQuality.{highSlices, scalerFrom}
+use Rattle.unit.specs.Unit.{majorVersion, gridOf, targetOf, numeratorOf, scalerOf, planBy, planOf}
 use Rattle.unit.specs.Code.Valid.{AllMost}
 use Rattle.unit.specs.Laws.Test.{or-none, both, at-most, same, all-most}
 
@@ -88,3 +102,46 @@ module _ (d k : ℕ) where
       by : (o : Option (List ℕ)) → MatrixIf k d o → o ≡ none
       by none m = refl
       by (some vs) m = absurd (omega (arith, m .shallow))
+
+-- ---- the plan of a call by what it takes of the lent matrix: o is the carried one, vs are the values
+module _ (s : Settings) (o : Option (List ℕ)) (vs : List ℕ) where
+  abbrev parametersWith : SliceParameters → Parameters
+  parametersWith p = record {
+    wavelet = s .«wavelet_index»;
+    depth = s .«dwt_depth»;
+    waveletHo = s .«wavelet_index_ho»;
+    depthHo = s .«dwt_depth_ho»;
+    across = s .«slices_x»;
+    down = s .«slices_y»;
+    sliceParameters = p;
+    matrix = o;
+  }
+
+  abbrev lowWith : ℕ → Parameters
+  lowWith n = parametersWith (lowDelay n (sliceCount (gridOf s)))
+
+  abbrev highWith : ℕ → Parameters
+  highWith c = parametersWith (highQuality (s .«slice_prefix_bytes») c)
+
+  abbrev slicesWith : Three (List Band) → ℕ → List SlicePlan
+  slicesWith b c = highSlices (gridOf s) vs b (s .«slice_prefix_bytes») (s .rate) c (targetOf (s .rate) - (overhead (majorVersion s) (highWith c)))
+
+  abbrev planWith : PictureKind → Three (List Band) → Plan
+  planWith LowDelay b =
+      let n = numerator (majorVersion s) (targetOf (s .rate)) (sliceCount (gridOf s)) lowWith in
+      record { parameters = lowWith n; slices = lowSlices (gridOf s) vs b n zeroPlanes 0 (sliceCount (gridOf s)) }
+  planWith HighQuality b =
+      let c = scalerFrom (slicesWith b) (16 * paddedArea s (lumaSize s)) (s .«slice_size_scaler») in
+      record { parameters = highWith c; slices = slicesWith b c }
+
+plan-by : (s : Settings) (m : List ℕ) (k : PictureKind) (b : Three (List Band)) → planBy s m k b ≡ planWith s (carriedMatrix s m) (matrixValues s m) k b
+unfolding numeratorOf scalerOf
+plan-by s m LowDelay b = refl
+plan-by s m HighQuality b = refl
+
+pub plan-same : (s : Settings) (m n : List ℕ) (p : Three (List ℕ)) → carriedMatrix s m ≡ carriedMatrix s n → matrixValues s m ≡ matrixValues s n
+    → planOf s m p ≡ planOf s n p
+unfolding planOf
+plan-same s m n p e f =
+    let b = coefficientsOf s p in
+    plan-by s m (s .kind) b ∙ ap₂ (λ (o : Option (List ℕ)) (vs : List ℕ). planWith s o vs (s .kind) b) e f ∙ sym (plan-by s n (s .kind) b)

@@ -1,6 +1,7 @@
 -- `coder::analysis::picture_of` meets its contract.
 use Rattle.unit.specs.Sizes.{lumaSize, colourSize}
 use Rattle.unit.specs.Laws.Valid.{levels-few}
+use Rattle.picture.specs.Code.Matrix.{lentIn}
 use Rattle.picture.specs.Laws.Analysis.{padded-asks, Measures, measures-of, picture-is}
 use native.Mathlib.Omega.{arith}
 use borrow.Author.Needs.{needs}
@@ -15,16 +16,24 @@ use Rattle.picture.proofs.front.sizes.colour_size.Reads as colour-size-
 use Rattle.picture.proofs.front.sizes.luma_size.Reads as luma-size-reads
 use Rattle.picture.proofs.front.sizes.padded_size.Reads as padded-size-reads
 
-known : (c : tie.After-count-of2) → Measures (c .before .before .before .before .before .before .before .args .s) (c .before .before .before .before .padded-size .result) (c .before .before .padded-size2 .result) (c .before .count-of .result) (c .count-of2 .result)
+-- the luma sides, from behind the areas, and the start
+abbrev luma : tie.After-count-of2 → tie.After-padded-size
+luma c = let d = c .before .before in d .before .before
+
+abbrev begin : tie.After-count-of2 → tie.Start
+begin c = luma c .before .before
+
+known : (c : tie.After-count-of2) → Measures (begin c .args .s) (luma c .padded-size .result) (c .before .before .padded-size2 .result) (c .before .count-of .result) (c .count-of2 .result)
 known c =
-    let st = c .before .before .before .before .before .before .before in
-    let l = c .before .before .before .before .before .luma-size in
-    let z = c .before .before .before .before .padded-size in
-    let k = c .before .before .before .colour-size in
-    let d = c .before .before .padded-size2 in
+    let st = begin c in
+    let l = luma c .before .luma-size in
+    let z = luma c .padded-size in
+    let q = c .before .before in
+    let k = q .before .colour-size in
+    let d = q .padded-size2 in
     let m = c .before .count-of in
     let n = c .count-of2 in
-    measures-of (st .args .s) (st .args .matrix .now) (st .pre) (l .result) (k .result) (z .result) (d .result) (m .result) (n .result)
+    measures-of (st .args .s) (lentIn (st .args .m)) (st .pre .1) (l .result) (k .result) (z .result) (d .result) (m .result) (n .result)
     (l .ensures) (z .ensures) (k .ensures) (d .ensures) (m .ensures) (n .ensures)
 
 luma-size-requires : tie.Need-luma-size-requires
@@ -32,16 +41,17 @@ luma-size-requires c κs = search needs
 
 padded-size-requires : tie.Need-padded-size-requires
 padded-size-requires c κs =
-    let st = c .before .before in
-    padded-asks (st .args .s) (c .luma-size .result) (lumaSize (st .args .s)) (levels-few (st .args .s) (st .pre .shape)) (st .pre .luma) (c .luma-size .ensures)
+    let st = c .before in
+    padded-asks (st .args .s) (c .luma-size .result) (lumaSize (st .args .s)) (levels-few (st .args .s) (st .pre .1 .shape)) (st .pre .1 .luma) (c .luma-size .ensures)
 
 colour-size-requires : tie.Need-colour-size-requires
 colour-size-requires c κs = search needs
 
 padded-size-requires-2 : tie.Need-padded-size-requires-2
 padded-size-requires-2 c κs =
-    let st = c .before .before .before .before in
-    padded-asks (st .args .s) (c .colour-size .result) (colourSize (st .args .s)) (levels-few (st .args .s) (st .pre .shape)) (st .pre .colour) (c .colour-size .ensures)
+    let l = c .before .before in
+    let st = l .before in
+    padded-asks (st .args .s) (c .colour-size .result) (colourSize (st .args .s)) (levels-few (st .args .s) (st .pre .1 .shape)) (st .pre .1 .colour) (c .colour-size .ensures)
 
 count-of-requires : tie.Need-count-of-requires
 count-of-requires c κs = search needs
@@ -56,7 +66,7 @@ add-front-2 : tie.Need-add-front-2
 add-front-2 c = let k = known c in omega (arith, k .luma-few, k .colour-few)
 
 layout-of-requires : tie.Need-layout-of-requires
-layout-of-requires c κs = search needs
+layout-of-requires c κs = begin c .pre .0
 
 component-at-requires : tie.Need-component-at-requires
 component-at-requires c κs = search needs
@@ -68,29 +78,30 @@ component-at-requires-2 : tie.Need-component-at-requires-2
 component-at-requires-2 c κs = search needs
 
 add-component-at-2 : tie.Need-add-component-at-2
-add-component-at-2 c = let k = known (c .before .before .before) in omega (arith, k .luma-few, k .colour-few)
+add-component-at-2 c = let y = c .before in let k = known (y .before .before) in omega (arith, k .luma-few, k .colour-few)
 
 add-component-at-3 : tie.Need-add-component-at-3
-add-component-at-3 c = let k = known (c .before .before .before) in omega (arith, k .luma-few, k .colour-few)
+add-component-at-3 c = let y = c .before in let k = known (y .before .before) in omega (arith, k .luma-few, k .colour-few)
 
 add-component-at-4 : tie.Need-add-component-at-4
-add-component-at-4 c = let k = known (c .before .before .before) in omega (arith, k .luma-few, k .colour-few)
+add-component-at-4 c = let y = c .before in let k = known (y .before .before) in omega (arith, k .luma-few, k .colour-few)
 
 component-at-requires-3 : tie.Need-component-at-requires-3
 component-at-requires-3 c κs = search needs
 
 add-t13 : tie.Need-add-t13
-add-t13 c = let k = known (c .before .before .before .before) in omega (arith, k .luma-few, k .colour-few)
+add-t13 c = let y = c .before .before in let k = known (y .before .before) in omega (arith, k .luma-few, k .colour-few)
 
 returns : tie.Need-returns
 returns c =
-    let m = c .before .before .before .before in
-    let st = m .before .before .before .before .before .before .before in
-    let l = c .before .before .before .layout-of in
-    let y = c .before .before .component-at in
+    let f = c .before .before in
+    let m = f .before .before in
+    let st = begin m in
+    let l = f .before .layout-of in
+    let y = f .component-at in
     let c1 = c .before .component-at2 in
     let c2 = c .component-at3 in
-    picture-is (st .args .s) (st .args .matrix .now) (m .before .before .before .before .padded-size .result) (m .before .before .padded-size2 .result) (m .before .count-of .result) (m .count-of2 .result) (known m)
+    picture-is (st .args .s) (lentIn (st .args .m)) (luma m .padded-size .result) (m .before .before .padded-size2 .result) (m .before .count-of .result) (m .count-of2 .result) (known m)
     (l .result) (y .result) (c1 .result) (c2 .result) (l .ensures) (y .ensures) (c1 .ensures) (c2 .ensures)
 
 pub picture-of-spec : {M : Type 1} → statement M

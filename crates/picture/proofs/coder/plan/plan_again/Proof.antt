@@ -3,6 +3,7 @@ use mathlib.Core.Path.{refl, sym, ap, _∙_, subst}
 use mathlib.Core.List.{List}
 use lib.IntN.{ℤ}
 use Rattle.picture.specs.declared.high.size.Terms.{Terms}
+use Rattle.picture.specs.Code.Matrix.{lentIn}
 use Rattle.picture.specs.Code.Picture.{slicesIn}
 use Rattle.picture.specs.Code.Choice.{termsOf}
 use Rattle.picture.specs.Code.Notes.{Notes}
@@ -38,10 +39,12 @@ overhead-requires c κs = search needs
 
 plan-noted-slices-requires : tie.Need-plan-noted-slices-requires
 plan-noted-slices-requires c κs =
-    let st = c .before .before .before .before .before .before in
-    let t = c .before .before .terms-of in (
-      plan-in (st .args .matrix .now) (st .args .c) (st .pre .0) (st .pre .1 .1 .0 .0) (st .pre .1 .1 .0 .1) (t .result) (t .ensures),
-      (st .pre .1 .1 .1 .notes (sym (c .before .before .before .before .is-target .ensures) ∙ c .before .before .before .if1 .left) (t .result) (ap (λ (t : Terms). t .rate) (t .ensures)), c .before .overhead .ensures .1),
+    let k = c .before .before in
+    let i = k .before in
+    let st = i .before .before in
+    let t = k .terms-of in (
+      plan-in (lentIn (st .args .m)) (st .args .c) (st .pre .0) (st .pre .1 .1 .0 .0) (st .pre .1 .1 .0 .1) (t .result) (t .ensures),
+      (st .pre .1 .1 .1 .notes (sym (i .before .is-target .ensures) ∙ i .if1 .left) (t .result) (ap (λ (t : Terms). t .rate) (t .ensures)), c .before .overhead .ensures .1),
     )
 
 same-length-2 : tie.Need-same-length-2
@@ -49,16 +52,19 @@ same-length-2 c = search needs
 
 returns-2 : tie.Need-returns-2
 returns-2 c =
-    let st = c .before .before .before .before .before .before .before .before in
+    let b = c .before .before in
+    let k = b .before .before in
+    let i = k .before in
+    let st = i .before .before in
     let a = st .args in
-    let t = c .before .before .before .before .terms-of in
-    let o = c .before .before .before .overhead in
+    let t = k .terms-of in
+    let o = b .before .overhead in
     let r = c .before .plan-noted-slices in
-    let u = termsOf (a .s) (a .matrix .now) (a .c) in (
-      plans-same (a .work .now) (a .p) (t .result) u (o .result) (slicesFrom (a .s) (a .matrix .now) (a .c)) (slicesIn (a .p))
+    let u = termsOf (a .s) (lentIn (a .m)) (a .c) in (
+      plans-same (a .work .now) (a .p) (t .result) u (o .result) (slicesFrom (a .s) (lentIn (a .m)) (a .c)) (slicesIn (a .p))
           (r .result) (t .ensures) (o .ensures .0) (r .ensures .0),
       subst (λ (v : List ℤ). Notes (a .work .now) (a .p) u (slicesIn (a .p)) v) (sym (r .ensures .1))
-          (st .pre .1 .1 .1 .notes (sym (c .before .before .before .before .before .before .is-target .ensures) ∙ c .before .before .before .before .before .if1 .left) u refl),
+          (st .pre .1 .1 .1 .notes (sym (i .before .is-target .ensures) ∙ i .if1 .left) u refl),
     )
 
 pub plan-again-spec : {M : Type 1} → statement M

@@ -1,6 +1,7 @@
 -- `coder::plan::plan_picture` meets its contract.
 use mathlib.Core.Path.{subst}
 use Rattle.picture.specs.declared.high.size.Terms.{Terms}
+use Rattle.picture.specs.Code.Matrix.{lentIn}
 use Rattle.picture.specs.Code.Picture.{slicesIn}
 use Rattle.picture.specs.Code.Choice.{termsOf}
 use Rattle.picture.specs.Code.Notes.{Notes}
@@ -22,20 +23,23 @@ overhead-requires c κs = search needs
 
 plan-slices-requires : tie.Need-plan-slices-requires
 plan-slices-requires c κs =
-    let st = c .before .before .before .before in
-    let t = c .before .before .terms-of in
-    (plan-in (st .args .matrix .now) (st .args .c) (st .pre .0) (st .pre .1 .1 .0) (st .pre .1 .1 .1) (t .result) (t .ensures), c .before .overhead .ensures .1)
+    let k = c .before .before in
+    let st = k .before in
+    let t = k .terms-of in
+    (plan-in (lentIn (st .args .m)) (st .args .c) (st .pre .0) (st .pre .1 .1 .0) (st .pre .1 .1 .1) (t .result) (t .ensures), c .before .overhead .ensures .1)
 
 same-length : tie.Need-same-length
 same-length c = search needs
 
 returns : tie.Need-returns
 returns c =
-    let a = c .before .before .before .before .before .before .args in
-    let t = c .before .before .before .before .terms-of in
-    let o = c .before .before .before .overhead in
+    let b = c .before .before in
+    let k = b .before .before in
+    let a = k .before .args in
+    let t = k .terms-of in
+    let o = b .before .overhead in
     let r = c .before .plan-slices in (
-      plans-same (a .work .now) (a .p) (t .result) (termsOf (a .s) (a .matrix .now) (a .c)) (o .result) (slicesFrom (a .s) (a .matrix .now) (a .c)) (slicesIn (a .p))
+      plans-same (a .work .now) (a .p) (t .result) (termsOf (a .s) (lentIn (a .m)) (a .c)) (o .result) (slicesFrom (a .s) (lentIn (a .m)) (a .c)) (slicesIn (a .p))
           (r .result) (t .ensures) (o .ensures .0) (r .ensures .0),
       subst (λ (t : Terms). Notes (a .work .now) (a .p) t (slicesIn (a .p)) (r .last .0)) (t .ensures) (r .ensures .1),
     )

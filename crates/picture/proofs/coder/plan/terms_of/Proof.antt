@@ -1,4 +1,5 @@
 -- `coder::plan::terms_of` meets its contract.
+use Rattle.picture.specs.Code.Matrix.{lentIn}
 use Rattle.picture.specs.Laws.HighPlan.{terms-are}
 use borrow.Author.Needs.{needs}
 use Rattle.picture.proofs.coder.plan.terms_of.Statement.{statement}
@@ -23,9 +24,10 @@ less-requires c κs = search needs
 
 returns : tie.Need-returns
 returns c =
-    let a = c .before .before .before .before .args in
-    terms-are (a .s) (a .matrix .now) (a .c) (c .less .result) (c .before .target-of .result) (c .before .before .overhead .result)
-    (c .less .ensures) (c .before .target-of .ensures) (c .before .before .overhead .ensures .0)
+    let t = c .before .target-of in
+    let o = c .before .before in
+    let a = o .before .args in
+    terms-are (a .s) (lentIn (a .m)) (a .c) (c .less .result) (t .result) (o .overhead .result) (c .less .ensures) (t .ensures) (o .overhead .ensures .0)
 
 pub terms-of-spec : {M : Type 1} → statement M
 terms-of-spec =

@@ -1,5 +1,6 @@
 -- `picture::front::header::numerator` meets its contract.
 use mathlib.Core.Path.{sym, ap, _∙_}
+use Rattle.picture.specs.Code.Matrix.{lentIn}
 use Rattle.picture.specs.Code.Head.{numeratorAfter}
 use Rattle.picture.specs.Laws.Head.{numerator-twice}
 use borrow.Author.Needs.{needs}
@@ -21,10 +22,12 @@ numerator-after-requires-2 c κs = search needs
 
 returns : tie.Need-returns
 returns c =
-    let s = c .before .before .before .before .args .s in
-    let m = c .before .before .before .before .args .matrix .now in
+    let t = c .before .before in
+    let a = t .before .args in
+    let s = a .s in
+    let m = lentIn (a .m) in
     c .numerator-after2 .ensures
-    ∙ ap (numeratorAfter s m) (c .before .numerator-after .ensures ∙ ap (numeratorAfter s m) (c .before .before .target-of .ensures))
+    ∙ ap (numeratorAfter s m) (c .before .numerator-after .ensures ∙ ap (numeratorAfter s m) (t .target-of .ensures))
     ∙ sym (numerator-twice s m)
 
 pub numerator-spec : {M : Type 1} → statement M

@@ -1,7 +1,14 @@
 -- `picture::front::header::overhead` meets its contract.
 use native.Mathlib.Omega.{arith}
+use mathlib.Core.Path.{ap}
+use mathlib.Core.List.{List}
+use mathlib.Core.Option.{Option}
+use Prim.Native.Nat.{ℕ}
+use lib.ListN.{length}
+use Rattle.unit.specs.Parameters.{matrixBits}
+use Rattle.picture.specs.Code.Matrix.{lentIn}
 use Rattle.picture.specs.Code.Head.{sliceIn}
-use Rattle.picture.specs.Laws.Head.{bytes-of-parts}
+use Rattle.picture.specs.Laws.Head.{carried-is, carries-places, bytes-of-parts}
 use borrow.Author.Needs.{needs}
 use Rattle.picture.proofs.front.header.overhead.Statement.{statement}
 use Rattle.picture.proofs.front.header.overhead.Tie as tie
@@ -21,7 +28,7 @@ add-bits : tie.Need-add-bits
 add-bits c = search needs
 
 matrix-len-requires : tie.Need-matrix-len-requires
-matrix-len-requires c κs = search needs
+matrix-len-requires c κs = carries-places (c .before .before .pre .carries)
 
 add-bits-2 : tie.Need-add-bits-2
 add-bits-2 c = search needs
@@ -37,11 +44,14 @@ add-result-2 c = search needs
 
 returns : tie.Need-returns
 returns c =
-    let a = c .before .before .before .before .args in
-    let f = c .before .before .front-len .ensures in
-    let p = c .before .slice-parameters-len .ensures in
-    let m = c .matrix-len .ensures in
-    (omega (arith, bytes-of-parts (a .s) (a .matrix .now) (sliceIn (a .p)), f .0, p .0, m .0), omega (arith, f .1, p .1, m .1))
+    let f = c .before .before in
+    let st = f .before in
+    let a = st .args in
+    let x = f .front-len .ensures in
+    let y = c .before .slice-parameters-len .ensures in
+    let z = c .matrix-len .ensures in
+    let e = ap (λ (o : Option (List ℕ)). length (matrixBits o)) (carried-is (st .pre .carries)) in
+    (omega (arith, bytes-of-parts (a .s) (lentIn (a .m)) (sliceIn (a .p)), x .0, y .0, z .0, e), omega (arith, x .1, y .1, z .1))
 
 pub overhead-spec : {M : Type 1} → statement M
 overhead-spec =

@@ -1,11 +1,11 @@
--- `picture::front::header::put_values` meets its contract. The loop's invariant: the values before place i are written.
-use Rattle.codewords.specs.Laws.Writer.{wrote-none, wrote-then, room-after}
-use Rattle.codewords.specs.Code.{codeU}
+-- `front::header::put_values` meets its contract. The loop's invariant: the values before place i are written.
+use mathlib.Core.Path.{_≡_}
 use Prim.Native.Nat.{_-_, _≤_}
 use borrow.Author.Needs.{needs}
 use lib.ListN.{length, take, getD}
-use lib.Seq.{take-all}
+use Rattle.codewords.specs.Code.{codeU}
 use Rattle.codewords.specs.Writer.{Wrote}
+use Rattle.codewords.specs.Laws.Writer.{wrote-none, wrote-then, room-after}
 use Rattle.unit.specs.Parameters.{codesU}
 use Rattle.picture.specs.Laws.Head.{codesU-none, codesU-take, codesU-part}
 use native.Mathlib.Omega.{arith}
@@ -16,26 +16,29 @@ use Rattle.picture.proofs.front.header.put_values.Lts as lts
 use Rattle.codewords.proofs.bitio.put_uint.Reads as put-uint-reads
 
 abbrev Inv-loop : tie.InvT-loop
-Inv-loop out₀ matrix s₀ i₀ out s i = (i ≤ length matrix) × Wrote out₀ s₀ (codesU (take i matrix)) out s
+Inv-loop out₀ m s₀ i₀ out s i = (i ≤ m .count) × Wrote out₀ s₀ (codesU (take i (m .values))) out s
 
 abbrev μ-loop : tie.MeasureT-loop
-μ-loop out₀ matrix s₀ i₀ out s i = length matrix - i
+μ-loop out₀ m s₀ i₀ out s i = m .count - i
 
 loop-holds : tie.Need-loop-holds Inv-loop μ-loop
-loop-holds c = (omega arith, rw codesU-none (wrote-none (c .before .before .pre)))
+loop-holds c = (omega arith, rw codesU-none (wrote-none (c .before .pre .1)))
 
 mul-put-uint : tie.Need-mul-put-uint Inv-loop μ-loop
 mul-put-uint c = omega arith
 
-shared-slice-read-put-uint : tie.Need-shared-slice-read-put-uint Inv-loop μ-loop
-shared-slice-read-put-uint c = search needs
+element-copy-out-put-uint : tie.Need-element-copy-out-put-uint Inv-loop μ-loop
+element-copy-out-put-uint c = search needs
 
 put-uint-requires : tie.Need-put-uint-requires Inv-loop μ-loop
 put-uint-requires c κs =
-    let st = c .before .before .before .before .before .before in
-    let l = c .before .before .before .loop in
-    let m = st .args .matrix .now in
-    room-after (length (codeU (getD m (l .i) 0))) (st .pre) (l .inv .1) (codesU-part m (l .i) 0 (c .before .before .loop-test .taken))
+    let t = c .before .before in
+    let l = t .before .loop in
+    let k = t .before .before in
+    let st = k .before in
+    let vs = st .args .t3 .values in
+    room-after (length (codeU (getD vs (l .i) 0))) (st .pre .1) (l .inv .1)
+    (codesU-part vs (st .args .t3 .count) (l .i) 0 (omega (arith, t .loop-test .taken)) (omega (arith, st .pre .0 .0, st .pre .0 .1)))
 
 add-i : tie.Need-add-i Inv-loop μ-loop
 add-i c = omega arith
@@ -45,10 +48,13 @@ loop-less c = omega arith
 
 loop-again : tie.Need-loop-again Inv-loop μ-loop
 loop-again c =
-    let st = c .before .before .before .before .before .before .before .before .before in
-    let l = c .before .before .before .before .before .before .loop in
-    let t = c .before .before .before .before .before .loop-test .taken in
-    (omega arith, rw (codesU-take (st .args .matrix .now) (l .i) 0 t) (wrote-then (st .pre .sound) (l .inv .1) (c .before .before .put-uint .ensures)))
+    let p = c .before .before in
+    let g = p .before .before in
+    let t = g .before in
+    let l = t .before .loop in
+    let k = t .before .before in
+    let st = k .before in
+    (omega arith, rw (codesU-take (st .args .t3 .values) (l .i) 0 (omega (arith, t .loop-test .taken, st .pre .0 .0, st .pre .0 .1))) (wrote-then (st .pre .1 .sound) (l .inv .1) (p .put-uint .ensures)))
 
 same-length : tie.Need-same-length Inv-loop μ-loop
 same-length c = c .before .loop .inv .1 .size
@@ -56,8 +62,10 @@ same-length c = c .before .loop .inv .1 .size
 returns : tie.Need-returns Inv-loop μ-loop
 returns c =
     let l = c .before .loop in
-    let m = c .before .before .before .before .args .matrix .now in
-    rw (take-all (l .i) m (omega (arith, c .loop-test .left))) at (l .inv .1)
+    let k = c .before .before in
+    let m = k .before .args .t3 in
+    let e : l .i ≡ m .count = omega (arith, l .inv .0, c .loop-test .left) in
+    rw e at (l .inv .1)
 
 pub put-values-spec : {M : Type 1} → statement M
 put-values-spec =
@@ -67,7 +75,7 @@ put-values-spec =
     μ-loop
     loop-holds
     mul-put-uint
-    shared-slice-read-put-uint
+    element-copy-out-put-uint
     put-uint-requires
     add-i
     loop-less
