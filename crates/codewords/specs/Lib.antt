@@ -1,7 +1,6 @@
 pub mod Bit
-pub mod Code
+pub mod CodeWord
 pub mod Read
 pub mod Bytes
-pub mod Spread
-pub mod Writer
+pub mod Code
 pub mod Laws

@@ -5,9 +5,9 @@ ghost use mathlib.Core.List.{[], _∷_};
 ghost use Prim.Native.Nat.{_≤_, _^_};
 ghost use lib.ListN.{length};
 ghost use Rattle.codewords.specs.Bit.{lit, oneBits};
-ghost use Rattle.codewords.specs.Code.{codeU, codeM, codeS};
+ghost use Rattle.codewords.specs.CodeWord.{codeU, codeM, codeS};
 ghost use Rattle.codewords.specs.Bytes.{padding};
-ghost use Rattle.codewords.specs.Writer.{Room, Wrote, Flushes, Aligns};
+ghost use Rattle.codewords.specs.Code.Writer.{Room, Wrote, Flushes, Aligns};
 
 // Puts one bit.
 pub(crate) fn put_bit(out: &mut [u8], w: &mut BitWriter, bit: bool)

@@ -7,7 +7,7 @@ ghost use mathlib.Core.Path.{_≡_};
 ghost use Prim.Native.Nat.{_≤_, _^_};
 ghost use lib.ListN.{length};
 ghost use lib.IntN.{natAbs};
-ghost use Rattle.codewords.specs.Code.{codeU, codeS};
+ghost use Rattle.codewords.specs.CodeWord.{codeU, codeS};
 
 // How far v is from 0: 2^63 for the least i64.
 pub fn unsigned_abs(v: i64) -> u64

@@ -8,9 +8,9 @@ ghost use lib.ListN.{length};
 ghost use Rattle.laws.specs.Code.Laid.{laid};
 ghost use Rattle.codewords.specs.Bit.{lit, oneBits};
 ghost use Rattle.codewords.specs.Bytes.{toBytes, padding};
-ghost use Rattle.codewords.specs.Code.{interleaved, codeU, codeM, codeS};
-ghost use Rattle.codewords.specs.Spread.{spreadBits};
-ghost use Rattle.codewords.specs.Writer.{Room, Wrote, Flushes, Aligns};
+ghost use Rattle.codewords.specs.CodeWord.{interleaved, codeU, codeM, codeS};
+ghost use Rattle.codewords.specs.Code.Spread.{spreadBits};
+ghost use Rattle.codewords.specs.Code.Writer.{Room, Wrote, Flushes, Aligns};
 
 // The place where the bits pending go, these bits, and how many they are: fewer than 32.
 pub struct BitWriter {

@@ -5,7 +5,7 @@ use unit::Answer;
 ghost use mathlib.Core.Path.{_≡_};
 ghost use lib.IntN.{pos};
 ghost use lib.ListN.{length};
-ghost use Rattle.codewords.specs.Code.{codeU, codeS};
+ghost use Rattle.codewords.specs.CodeWord.{codeU, codeS};
 ghost use Rattle.quantiser.specs.Quant.{quantFactor, quantOffset, forwardQuant, inverseQuant};
 ghost use Rattle.wavelet.specs.RowCall.{Analysed};
 ghost use Rattle.unit.specs.Three.{planes};

@@ -2,3 +2,4 @@
 -- cite these files.
 pub mod Cells
 pub mod Step
+pub mod Default

@@ -2,6 +2,5 @@ pub mod Standard
 pub mod Quant
 pub mod Answer
 pub mod AnnexD
-pub mod Default
 pub mod Code
 pub mod Laws

@@ -3,7 +3,7 @@ ghost use mathlib.Core.Path.{_≡_};
 ghost use Prim.Native.Nat.{_<_};
 ghost use lib.ListN.{getD, getElem?};
 ghost use Rattle.quantiser.specs.AnnexD.{tableOf};
-ghost use Rattle.quantiser.specs.Default.{places, defaultOf};
+ghost use Rattle.quantiser.specs.Code.Default.{places, defaultOf};
 ghost use Rattle.quantiser.specs.Code.Cells.{allTables, cellOf, matrixAt};
 
 // Annex D, a matrix to a line: 14 bytes, with zeros behind the values. A table has 19: those for horizontal-only depth

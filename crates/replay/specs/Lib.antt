@@ -1,2 +1,2 @@
-pub mod Planes
-pub mod Put
+pub mod Code
+pub mod Laws

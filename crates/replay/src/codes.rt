@@ -4,8 +4,8 @@ use codewords::writer::BitWriter;
 ghost use Prim.Native.Nat.{_+_, _*_, _≤_};
 ghost use mathlib.Core.Path.{_≡_};
 ghost use lib.ListN.{length};
-ghost use Rattle.codewords.specs.Writer.{Room, Wrote};
-ghost use Rattle.replay.specs.Put.{bitsOf, Legal};
+ghost use Rattle.codewords.specs.Code.Writer.{Room, Wrote};
+ghost use Rattle.replay.specs.Code.Put.{bitsOf, Legal};
 
 pub(crate) fn uint_len(w: &[u64]) -> Verdict {
     if w.len() != 2 {

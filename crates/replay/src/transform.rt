@@ -5,7 +5,7 @@ use wavelet::component::Transform;
 ghost use mathlib.Core.Path.{_≡_};
 ghost use Prim.Native.Nat.{_+_, _*_, _≤_, _<_};
 ghost use lib.ListN.{length};
-ghost use Rattle.replay.specs.Planes.{SmallSides, Full, SidesFit};
+ghost use Rattle.replay.specs.Code.Planes.{SmallSides, Full, SidesFit};
 
 // The row's numbers are the words from place from on.
 fn load(row: &mut [i64], w: &[u64], from: usize)

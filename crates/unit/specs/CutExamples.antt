@@ -6,7 +6,7 @@ use lib.IntN.{pos}
 use lib.ListN.{length, replicate, drop}
 use Rattle.codewords.specs.Bit.{lit}
 use Rattle.codewords.specs.Bytes.{pack}
-use Rattle.codewords.specs.Code.{log2In, log2, interleaved, codeU, codeS, codes, zeroFilled}
+use Rattle.codewords.specs.CodeWord.{log2In, log2, interleaved, codeU, codeS, codes, zeroFilled}
 use Rattle.quantiser.specs.Standard.{factor}
 use Rattle.quantiser.specs.Quant.{cap, quantFactor, quantOffset, forwardBy, forwardQuant, inverseBy, inverseQuant}
 use Rattle.wavelet.specs.Depth.{depthLimit}

@@ -12,7 +12,7 @@ use Rattle.laws.specs.Wrap.{wrap}
 use Rattle.codewords.specs.Bit.{lit}
 use Rattle.codewords.specs.Bytes.{toBytes}
 use Rattle.codewords.specs.Laws.Byte.{length-toBytes}
-use Rattle.codewords.specs.Code.{log2In, log2, interleaved, codeU, codeS}
+use Rattle.codewords.specs.CodeWord.{log2In, log2, interleaved, codeU, codeS}
 use Rattle.quantiser.specs.Standard.{factor}
 use Rattle.quantiser.specs.Quant.{cap, quantFactor, quantOffset, forwardBy, forwardQuant, inverseBy, inverseQuant}
 use Rattle.wavelet.specs.Lifting.{Stage, exact, within, dot, delta, lifted, analysis}

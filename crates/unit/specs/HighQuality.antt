@@ -6,7 +6,7 @@ use lib.Dec.{leb, ltb}
 use lib.IntN.{ℤ}
 use Rattle.laws.specs.Ceiling.{ceiling, roundedUp}
 use Rattle.codewords.specs.Bit.{Bits, lit, oneBits, zeroBits}
-use Rattle.codewords.specs.Code.{codes}
+use Rattle.codewords.specs.CodeWord.{codes}
 use Rattle.laws.specs.Rows.{span}
 use Rattle.wavelet.specs.Planes.{Band}
 use Rattle.unit.specs.declared.PictureKind.the-variants.{HighQuality}

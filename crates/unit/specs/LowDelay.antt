@@ -6,7 +6,7 @@ use lib.Dec.{leb}
 use lib.IntN.{ℤ, pos}
 use lib.ListN.{length}
 use Rattle.codewords.specs.Bit.{Bits, lit, oneBits}
-use Rattle.codewords.specs.Code.{codes, zeroFilled}
+use Rattle.codewords.specs.CodeWord.{codes, zeroFilled}
 use Rattle.laws.specs.Plane.{Plane}
 use Rattle.wavelet.specs.Planes.{Band}
 use Rattle.unit.specs.declared.PictureKind.the-variants.{LowDelay}

@@ -8,7 +8,7 @@ use lib.ListN.{length}
 use Rattle.laws.specs.Ceiling.{ceiling}
 use Rattle.codewords.specs.Bit.{Bits, zeroBits}
 use Rattle.codewords.specs.Bytes.{padding}
-use Rattle.codewords.specs.Code.{codeU}
+use Rattle.codewords.specs.CodeWord.{codeU}
 
 -- 12.4.5.2: what slices are sized by
 pub data SliceParameters : Type 0 where

@@ -5,7 +5,7 @@ use Prim.Native.Nat.{ℕ, zero, suc, _-_}
 use lib.Dec.{leb}
 use lib.IntN.{ℤ, pos, negsuc}
 use lib.ListN.{length}
-use Rattle.codewords.specs.Code.{codeS, codes}
+use Rattle.codewords.specs.CodeWord.{codeS, codes}
 
 abbrev pub isZero : ℤ → Bool
 isZero (pos zero) = true

@@ -7,7 +7,7 @@ use mir.Syntax.{w64}
 use mir.Facts.{toZ-ofZ}
 use borrow.Author.Needs.{needs}
 use Rattle.codewords.specs.Laws.Code.{leading-log2, length-codeS, length-codeS-zero}
-use Rattle.codewords.specs.Code.{log2}
+use Rattle.codewords.specs.CodeWord.{log2}
 use Rattle.codewords.proofs.sint_code_len.Statement.{statement}
 use Rattle.codewords.proofs.sint_code_len.Tie as tie
 use Rattle.codewords.proofs.sint_code_len.Reads as reads

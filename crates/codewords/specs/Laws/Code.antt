@@ -14,7 +14,7 @@ use lib.Pow.{pow-mono}
 use lib.Count.{leadingZeros, leading-top}
 use Rattle.codewords.specs.Bit.{Bits, lit, value}
 use Rattle.codewords.specs.Laws.Bit.{length-lit, value-top}
-use Rattle.codewords.specs.Code.{log2In, log2, interleaved, codeU, codeS, codeM, codes}
+use Rattle.codewords.specs.CodeWord.{log2In, log2, interleaved, codeU, codeS, codeM, codes}
 
 -- ---- the place of the leading one
 pub record Top (w j : ℕ) : Type 0 where

@@ -12,7 +12,7 @@ use lib.ListN.{length, length-append}
 use lib.Seq.{drop-at}
 use Rattle.codewords.specs.Bit.{Bits, val, lit, value, oneBits}
 use Rattle.codewords.specs.Laws.Bit.{length-lit, value-of-lit}
-use Rattle.codewords.specs.Code.{log2, interleaved, codeU, sign, codeS, codes, zeroFilled}
+use Rattle.codewords.specs.CodeWord.{log2, interleaved, codeU, sign, codeS, codes, zeroFilled}
 use Rattle.codewords.specs.Laws.Code.{value-code}
 use Rattle.codewords.specs.Read.{got, stop, Parser, give, orStop, checked, such, after, _⊳_, nbitsFrom, readNbits, readBool, uintFrom, readUint, signFrom, sintFrom, readSint, byteAlign, splitFrom, readBits, uintb, signb, sintb, sintsb}
 use Rattle.codewords.specs.Laws.Byte.{Full}

@@ -13,8 +13,8 @@ use mir.Val.{boolByte}
 use Rattle.laws.specs.Laws.Rows.{table}
 use Rattle.codewords.specs.Bit.{Bits, val, lit}
 use Rattle.codewords.specs.Laws.Bit.{val-bit, byte-val, lit-none, lit-low, lit-more}
-use Rattle.codewords.specs.Code.{log2, interleaved, codeU, codeM}
-use Rattle.codewords.specs.Spread.{spreadBits}
+use Rattle.codewords.specs.CodeWord.{log2, interleaved, codeU, codeM}
+use Rattle.codewords.specs.Code.Spread.{spreadBits}
 use Rattle.codewords.specs.Laws.Code.{interleaved-none, interleaved-append, codeM-pos}
 
 -- ---- the bits of a number, each at twice its place

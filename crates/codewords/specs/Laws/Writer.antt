@@ -16,7 +16,7 @@ use Rattle.codewords.specs.Bit.{Bits, lit}
 use Rattle.codewords.specs.Laws.Bit.{length-lit, lit-none, lit-split, lit-mod, lit-join}
 use Rattle.codewords.specs.Bytes.{toBytes}
 use Rattle.codewords.specs.Laws.Byte.{Full, pack-none, pack-part, length-toBytes, toBytes-append}
-use Rattle.codewords.specs.Writer.{pendingOf, Sound, Room, Wrote, Flushes}
+use Rattle.codewords.specs.Code.Writer.{pendingOf, Sound, Room, Wrote, Flushes}
 
 -- ---- a writer at the start of a byte, with no bit pending
 abbrev pub startAt : ℕ → BitWriter

@@ -6,7 +6,7 @@ use Prim.Native.Nat.{ℕ, _+_, _<_}
 use lib.IntN.{ℤ, pos}
 use lib.ListN.{length}
 use Rattle.laws.specs.Rows.{at}
-use Rattle.quantiser.specs.Default.{places}
+use Rattle.quantiser.specs.Code.Default.{places}
 use Rattle.wavelet.specs.Planes.{Band, coefficients}
 use Rattle.unit.specs.declared.Settings.{Settings}
 use Rattle.unit.specs.declared.PictureKind.{PictureKind}
@@ -17,7 +17,7 @@ use Rattle.unit.specs.Subbands.{paddedSize}
 use Rattle.unit.specs.Matrix.{defaultOf, matrixValues}
 use Rattle.unit.specs.Refusal.{paddedArea}
 use Rattle.unit.specs.Coefficients.{coefficientsOf}
-use Rattle.unit.specs.Code.Valid.{Shaped, Framed, Lent, RateFits, MatrixFits, Sides}
+use Rattle.unit.specs.Code.Valid.{Shaped, Framed, Lent, RateFits, MatrixFits, Sized}
 use Rattle.picture.specs.declared.slices.layout.Component.{Component}
 use Rattle.picture.specs.declared.slices.layout.Layout.{Layout}
 use Rattle.picture.specs.declared.slices.layout.Picture.{Picture}
@@ -76,16 +76,16 @@ pub record Called (s : Settings) (m : List ℕ) : Type 0 where
   pub shape : Shaped s
   pub rate : RateFits (s .kind) (s .rate)
   pub matrix : MatrixFits s m (s .«custom_matrix») (defaultOf s)
-  pub luma : Sides s (lumaSize s)
-  pub colour : Sides s (colourSize s)
+  pub luma : Sized s (lumaSize s)
+  pub colour : Sized s (colourSize s)
 
 -- what is known of its settings, planes and work slice, which analysis asks
 pub record Ready (s : Settings) (p : Three (List ℕ)) (w : List ℤ) : Type 0 where
   pub shape : Shaped s
   pub frame : Framed s
   pub lent : Lent s p w
-  pub luma : Sides s (lumaSize s)
-  pub colour : Sides s (colourSize s)
+  pub luma : Sized s (lumaSize s)
+  pub colour : Sized s (colourSize s)
 
 -- the coefficients stand behind a front of zeros
 pub record Analysed (s : Settings) (p : Three (List ℕ)) (w : List ℤ) : Type 0 where

@@ -5,7 +5,7 @@ use Prim.Native.Nat.{ℕ, _*_, _≤_}
 use lib.Dec.{eqb, leb}
 use lib.ListN.{length}
 use Rattle.codewords.specs.Bit.{Bits, lit}
-use Rattle.codewords.specs.Code.{codeU}
+use Rattle.codewords.specs.CodeWord.{codeU}
 use Rattle.unit.specs.declared.Settings.{Settings}
 use Rattle.unit.specs.declared.PictureKind.{PictureKind}
 use Rattle.unit.specs.Limits.{sliceLimit}
@@ -27,8 +27,8 @@ extensionOf s =
     []
 
 -- what stands before the slice parameters
-unfoldable pub frontOf : Settings → Bits
-frontOf s = (codeU (s .«wavelet_index») ++ codeU (s .«dwt_depth»)) ++ (extensionOf s ++ (codeU (s .«slices_x») ++ codeU (s .«slices_y»)))
+unfoldable pub shapeBits : Settings → Bits
+shapeBits s = (codeU (s .«wavelet_index») ++ codeU (s .«dwt_depth»)) ++ (extensionOf s ++ (codeU (s .«slices_x») ++ codeU (s .«slices_y»)))
 
 -- parse information
 unfoldable pub infoOf : PictureKind → ℕ → ℕ → Bits

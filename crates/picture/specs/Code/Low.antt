@@ -10,7 +10,7 @@ use Rattle.laws.specs.Code.Chunks.{chunks}
 use Rattle.laws.specs.Rows.{span, total}
 use Rattle.codewords.specs.Bit.{Bits}
 use Rattle.codewords.specs.Bytes.{toBytes}
-use Rattle.codewords.specs.Code.{codes}
+use Rattle.codewords.specs.CodeWord.{codes}
 use Rattle.unit.specs.declared.PictureKind.the-variants.{LowDelay}
 use Rattle.unit.specs.Limits.{lowestIndex, lastIndex}
 use Rattle.unit.specs.Trim.{bitsOf, trimmedCost}

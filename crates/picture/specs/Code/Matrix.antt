@@ -5,7 +5,7 @@ use mathlib.Core.List.{List}
 use mathlib.Core.Option.{Option, none, some}
 use Prim.Native.Nat.{ℕ, _≤_}
 use lib.ListN.{length, take}
-use Rattle.quantiser.specs.Default.{places}
+use Rattle.quantiser.specs.Code.Default.{places}
 use Rattle.unit.specs.declared.Settings.{Settings}
 use Rattle.unit.specs.Matrix.{defaultOf, matrixValues, carriedMatrix}
 use Rattle.unit.specs.Code.Valid.{MatrixFits}

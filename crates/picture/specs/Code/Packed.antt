@@ -9,7 +9,7 @@ use lib.IntN.{ℤ, pos, negsuc}
 use lib.ListN.{length, replicate}
 use Rattle.laws.specs.Code.Laid.{laid}
 use Rattle.laws.specs.Code.Window.{piece}
-use Rattle.codewords.specs.Code.{codeS}
+use Rattle.codewords.specs.CodeWord.{codeS}
 use Rattle.unit.specs.Trim.{isZero}
 use Rattle.picture.specs.declared.slices.strip.Strip.{Strip}
 use Rattle.picture.specs.declared.high.packed.Packing.{Packing}

@@ -4,8 +4,8 @@ use mathlib.Core.List.{List}
 use Prim.Native.Nat.{ℕ, _-_}
 use lib.IntN.{ℤ}
 use lib.ListN.{length, take}
-use Rattle.codewords.specs.Code.{codes}
-use Rattle.codewords.specs.Writer.{Room, Wrote}
+use Rattle.codewords.specs.CodeWord.{codes}
+use Rattle.codewords.specs.Code.Writer.{Room, Wrote}
 use Rattle.picture.specs.declared.low.put.Put.{Put}
 
 -- there is room for those of xs that are still to be kept

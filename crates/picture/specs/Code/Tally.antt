@@ -5,7 +5,7 @@ use Prim.Native.Nat.{ℕ, _+_, _-_}
 use lib.Dec.{eqb}
 use lib.IntN.{ℤ}
 use lib.ListN.{length}
-use Rattle.codewords.specs.Code.{codeS}
+use Rattle.codewords.specs.CodeWord.{codeS}
 use Rattle.unit.specs.Trim.{isZero, trimmed, trimmedCost}
 use Rattle.picture.specs.declared.slices.cost.Cost.{Cost}
 use Rattle.picture.specs.declared.slices.tally.Trimmed.{Trimmed}

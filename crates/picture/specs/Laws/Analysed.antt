@@ -16,7 +16,7 @@ use Rattle.laws.specs.Code.Chunks.{chunks}
 use Rattle.laws.specs.Code.Laid.{Lays}
 use Rattle.laws.specs.Laws.Laid.{laid-is}
 use Rattle.codewords.specs.Bytes.{toBytes}
-use Rattle.quantiser.specs.Default.{places}
+use Rattle.quantiser.specs.Code.Default.{places}
 use Rattle.wavelet.specs.Lifting.{exact}
 use Rattle.wavelet.specs.Pad.{padded}
 use Rattle.unit.specs.declared.Settings.{Settings}
@@ -37,7 +37,7 @@ use Rattle.unit.specs.Unit.{majorVersion, gridOf, planOf, sliceRuns, headBits, 
 use Rattle.unit.specs.Laws.Unit.{length-unit}
 use Rattle.unit.specs.Outcome.{codedOf, codingRefusal}
 use Rattle.unit.specs.Laws.Demand.{not-long}
-use Rattle.unit.specs.Code.Valid.{MatrixFits, Valid, Sides}
+use Rattle.unit.specs.Code.Valid.{MatrixFits, Valid, Sized}
 use Rattle.unit.specs.Laws.Valid.{levels-few, luma-sides, colour-sides}
 use Rattle.picture.specs.declared.front.matrix.Carried.{Carried}
 use Rattle.picture.specs.Code.Matrix.{lentIn, Carries, CarriedOf}
@@ -93,7 +93,7 @@ module _ {s : Settings} {m : List ℕ} (c : Called s m) where
   pub front-few : frontOf s + frontOf s < 2 ^ 30
   front-few = omega (arith, c .luma .padded-area .few, c .colour .padded-area .few)
 
-  component-in : (z : Size) → Sides s z → (coefs rebuilt : ℕ) → coefs < 2 ^ 30 → rebuilt < 2 ^ 30 → ComponentIn (componentAt s z coefs rebuilt)
+  component-in : (z : Size) → Sized s z → (coefs rebuilt : ℕ) → coefs < 2 ^ 30 → rebuilt < 2 ^ 30 → ComponentIn (componentAt s z coefs rebuilt)
   component-in z f coefs rebuilt a b = record {
     width = f .padded-width .few;
     height = f .padded-height .few;

@@ -13,7 +13,7 @@ use lib.Seq.{getD-append-add, length-take-le}
 use lib.Pow.{pow-mono}
 use Rattle.laws.specs.Rows.{at, span, row}
 use Rattle.laws.specs.Wrap.{wrap}
-use Rattle.quantiser.specs.Default.{places}
+use Rattle.quantiser.specs.Code.Default.{places}
 use Rattle.wavelet.specs.Planes.{Band, coefficients}
 use Rattle.wavelet.specs.Laws.Plane.{length-coefficients}
 use Rattle.wavelet.specs.Pad.{padded, componentOf}
@@ -76,7 +76,7 @@ module _ (s : Settings) where
   paddedIn = paddedSize (s .«dwt_depth_ho») (s .«dwt_depth»)
 
   -- what padding asks of sides r, which are z
-  pub padded-asks : (r : code.Sides) (z : Size) → s .«dwt_depth» + s .«dwt_depth_ho» ≤ deepest → valid.Sides s z → sizeIn r ≡ z
+  pub padded-asks : (r : code.Sides) (z : Size) → s .«dwt_depth» + s .«dwt_depth_ho» ≤ deepest → valid.Sized s z → sizeIn r ≡ z
       → (s .«dwt_depth» + s .«dwt_depth_ho» ≤ deepest) × ((r .width ≤ sideLimit) × (r .height ≤ sideLimit))
   padded-asks r z d h e =
       let w : r .width ≡ z .width = ap (λ (z : Size). z .width) e in
@@ -197,7 +197,7 @@ taken-of s p w k l c el ec =
 pub front-is : (s : Settings) (l c : below.Component) → Taken s l c → l .pw * l .ph + c .pw * c .ph + c .pw * c .ph ≡ frontOf s
 front-is s l c t = ap₂ (λ (a b : ℕ). a + b + b) (t .luma-area) (t .colour-area)
 
-deep-of : (s : Settings) (p : Three (List ℕ)) (w : List ℤ) → Ready s p w → (z : Size) → valid.Sides s z
+deep-of : (s : Settings) (p : Three (List ℕ)) (w : List ℤ) → Ready s p w → (z : Size) → valid.Sized s z
     → Deep (s .«dwt_depth_ho») (s .«dwt_depth») (paddedIn s z .height) (paddedIn s z .width) (s .«wavelet_index_ho») (s .«wavelet_index»)
 unfolding paddedSize
 deep-of s p w k z h = record {

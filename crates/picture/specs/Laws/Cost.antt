@@ -10,7 +10,7 @@ use lib.Dec.{leb, eqb}
 use lib.IntN.{ℤ, pos, negsuc, natAbs}
 use lib.ListN.{length, take, length-append}
 use lib.Seq.{take-take, take-all, append-snoc}
-use Rattle.codewords.specs.Code.{codeS, codes}
+use Rattle.codewords.specs.CodeWord.{codeS, codes}
 use Rattle.codewords.specs.Laws.Code.{codes-more, length-codeS-zero, length-codeS}
 use Rattle.unit.specs.Trim.{isZero, trimCons, trimmed, bitsOf, trimmedCost, fitPrefix}
 use Rattle.unit.specs.Laws.Trim.{Small, bits-most, fit-all, fit-prefix}

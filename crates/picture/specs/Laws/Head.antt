@@ -16,10 +16,10 @@ use Rattle.codewords.specs.Bit.{Bits, lit, zeroBits}
 use Rattle.codewords.specs.Laws.Bit.{length-lit}
 use Rattle.codewords.specs.Bytes.{toBytes, padding}
 use Rattle.codewords.specs.Laws.Byte.{length-toBytes}
-use Rattle.codewords.specs.Writer.{Room, Wrote, Aligns}
+use Rattle.codewords.specs.Code.Writer.{Room, Wrote, Aligns}
 use Rattle.codewords.specs.Laws.Writer.{startAt, start-sound, wrote-then, room-after, bytes-laid}
 use Rattle.codewords.specs.declared.writer.BitWriter.{BitWriter}
-use Rattle.codewords.specs.Code.{codeU}
+use Rattle.codewords.specs.CodeWord.{codeU}
 use Rattle.codewords.specs.Laws.Code.{length-codeU, leading-log2}
 use Rattle.unit.specs.declared.Settings.{Settings}
 use Rattle.unit.specs.declared.PictureKind.{PictureKind}
@@ -29,7 +29,7 @@ use Rattle.unit.specs.LowDelay.{numerator}
 use Rattle.unit.specs.Unit.{versionBy, majorVersion, parametersBy, targetOf, numeratorOf, headBits}
 use Rattle.picture.specs.declared.front.matrix.Carried.{Carried}
 use Rattle.picture.specs.Code.Matrix.{lentIn, carriedIn, InPlaces, Carries}
-use Rattle.picture.specs.Code.Head.{extensionOf, frontOf, infoOf, numeratorAfter}
+use Rattle.picture.specs.Code.Head.{extensionOf, shapeBits, infoOf, numeratorAfter}
 
 -- ---- the major version, by its three flags
 version-three : (a b c : Bool) (k : PictureKind) → (a ≡ true) ⊎ ((b ≡ true) ⊎ (c ≡ true)) → 3 ≡ versionBy (a || (b || c)) k
@@ -134,23 +134,23 @@ regroup a b e x y r =
     ∙ ap (λ (t : Bits). a ++ (b ++ t)) (append-assoc e (x ++ y) r ∙ ap (λ (t : Bits). e ++ t) (append-assoc x y r))
 
 pub parameters-parts : (s : Settings) (m : List ℕ) (p : SliceParameters)
-    → parameterBits (majorVersion s) (parametersBy s m p) ≡ frontOf s ++ (sliceParameterBits p ++ matrixBits (carriedMatrix s m))
-unfolding parameterBits extendedBits frontOf extensionOf
+    → parameterBits (majorVersion s) (parametersBy s m p) ≡ shapeBits s ++ (sliceParameterBits p ++ matrixBits (carriedMatrix s m))
+unfolding parameterBits extendedBits shapeBits extensionOf
 parameters-parts s m p =
     sym (regroup (codeU (s .«wavelet_index»)) (codeU (s .«dwt_depth»)) (extensionOf s) (codeU (s .«slices_x»)) (codeU (s .«slices_y»)) (sliceParameterBits p ++ matrixBits (carriedMatrix s m)))
 
-pub front-length : (s : Settings) → length (frontOf s)
+pub front-length : (s : Settings) → length (shapeBits s)
     ≡ length (codeU (s .«wavelet_index»)) + length (codeU (s .«dwt_depth»)) + length (extensionOf s) + length (codeU (s .«slices_x»)) + length (codeU (s .«slices_y»))
-unfolding frontOf
+unfolding shapeBits
 front-length s = simp length-append (omega arith)
 
 pub bytes-of-parts : (s : Settings) (m : List ℕ) (p : SliceParameters)
-    → parameterBytes (majorVersion s) (parametersBy s m p) ≡ (length (frontOf s) + length (sliceParameterBits p) + length (matrixBits (carriedMatrix s m)) + 7) / 8
+    → parameterBytes (majorVersion s) (parametersBy s m p) ≡ (length (shapeBits s) + length (sliceParameterBits p) + length (matrixBits (carriedMatrix s m)) + 7) / 8
 unfolding parameterBytes
 bytes-of-parts s m p =
     ap (λ (b : Bits). (length b + 7) / 8) (parameters-parts s m p)
-    ∙ ap (λ (k : ℕ). (k + 7) / 8) (length-append (frontOf s) (sliceParameterBits p ++ matrixBits (carriedMatrix s m))
-    ∙ ap (λ (k : ℕ). length (frontOf s) + k) (length-append (sliceParameterBits p) (matrixBits (carriedMatrix s m))) ∙ omega arith)
+    ∙ ap (λ (k : ℕ). (k + 7) / 8) (length-append (shapeBits s) (sliceParameterBits p ++ matrixBits (carriedMatrix s m))
+    ∙ ap (λ (k : ℕ). length (shapeBits s) + k) (length-append (sliceParameterBits p) (matrixBits (carriedMatrix s m))) ∙ omega arith)
 
 -- ---- the numerator
 pub numerator-twice : (s : Settings) (m : List ℕ) → numeratorOf s m ≡ numeratorAfter s m (numeratorAfter s m (targetOf (s .rate)))

@@ -17,8 +17,8 @@ use Rattle.codewords.specs.Bit.{Bits, lit, oneBits, zeroBits}
 use Rattle.codewords.specs.Laws.Bit.{length-lit, lit-zeros}
 use Rattle.codewords.specs.Bytes.{toBytes}
 use Rattle.codewords.specs.Laws.Byte.{length-toBytes}
-use Rattle.codewords.specs.Code.{codes}
-use Rattle.codewords.specs.Writer.{Sound, Room, Wrote, Flushes}
+use Rattle.codewords.specs.CodeWord.{codes}
+use Rattle.codewords.specs.Code.Writer.{Sound, Room, Wrote, Flushes}
 use Rattle.codewords.specs.Laws.Writer.{startAt, start-sound, wrote-then, room-after, flush-lays}
 use Rattle.codewords.specs.declared.writer.BitWriter.{BitWriter}
 use Rattle.unit.specs.Three.{Three}

@@ -14,7 +14,7 @@ use lib.IntN.{ℤ}
 use lib.ListN.{length, getD, length-append}
 use Rattle.laws.specs.Code.Chunks.{chunks}
 use Rattle.quantiser.specs.Quant.{quantFactor, quantOffset, bandIndex}
-use Rattle.codewords.specs.Writer.{Sound, Room}
+use Rattle.codewords.specs.Code.Writer.{Sound, Room}
 use Rattle.unit.specs.Limits.{areaLimit}
 use Rattle.unit.specs.Sizes.{Size, area}
 use Rattle.unit.specs.Slices.{bound, sliceCount, partSize}

@@ -10,7 +10,7 @@ use lib.Dec.{leb, ltb, eqb, eqb·suc-zero}
 use lib.IntN.{ℤ}
 use lib.ListN.{length, length-append}
 use Rattle.laws.specs.Rows.{at}
-use Rattle.codewords.specs.Code.{codes}
+use Rattle.codewords.specs.CodeWord.{codes}
 use Rattle.codewords.specs.Laws.Code.{codes-append}
 use Rattle.unit.specs.Limits.{areaLimit}
 use Rattle.unit.specs.Trim.{trimCons, trimmed, bitsOf, trimmedCost}

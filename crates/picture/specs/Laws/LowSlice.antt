@@ -19,8 +19,8 @@ use Rattle.codewords.specs.Bit.{Bits, lit, oneBits}
 use Rattle.codewords.specs.Laws.Bit.{length-lit}
 use Rattle.codewords.specs.Bytes.{toBytes}
 use Rattle.codewords.specs.Laws.Byte.{length-toBytes}
-use Rattle.codewords.specs.Code.{codes}
-use Rattle.codewords.specs.Writer.{Room, Wrote, Flushes}
+use Rattle.codewords.specs.CodeWord.{codes}
+use Rattle.codewords.specs.Code.Writer.{Room, Wrote, Flushes}
 use Rattle.codewords.specs.Laws.Writer.{startAt, start-sound, wrote-then, room-after, flush-lays}
 use Rattle.codewords.specs.declared.writer.BitWriter.{BitWriter}
 use Rattle.unit.specs.declared.PictureKind.the-variants.{LowDelay}

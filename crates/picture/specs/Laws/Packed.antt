@@ -19,7 +19,7 @@ use Rattle.laws.specs.Code.Chunks.{chunks}
 use Rattle.laws.specs.Laws.Chunks.{chunks-ext}
 use Rattle.laws.specs.Code.Laid.{laid, Lays}
 use Rattle.laws.specs.Laws.Laid.{laid-nil, laid-then, length-laid, lays-start}
-use Rattle.codewords.specs.Code.{codeS}
+use Rattle.codewords.specs.CodeWord.{codeS}
 use Rattle.codewords.specs.Laws.Code.{length-codeS-zero}
 use Rattle.quantiser.specs.Quant.{forwardBy}
 use Rattle.unit.specs.Slices.{partSize}

@@ -8,9 +8,9 @@ use lib.Signed.{ltZ}
 use lib.ListN.{length, take, length-append}
 use lib.Seq.{take-nil}
 use Rattle.laws.specs.Code.Chunks.{chunks}
-use Rattle.codewords.specs.Code.{codeS, codeM, codes}
+use Rattle.codewords.specs.CodeWord.{codeS, codeM, codes}
 use Rattle.codewords.specs.Laws.Code.{codes-one, codes-append}
-use Rattle.codewords.specs.Writer.{Sound, Room, Wrote}
+use Rattle.codewords.specs.Code.Writer.{Sound, Room, Wrote}
 use Rattle.codewords.specs.Laws.Writer.{wrote-none, wrote-then, room-after}
 use Rattle.codewords.specs.declared.writer.BitWriter.{BitWriter}
 use Rattle.quantiser.specs.Quant.{forwardBy}

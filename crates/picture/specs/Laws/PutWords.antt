@@ -14,9 +14,9 @@ use lib.Seq.{take-suc, take-add, getD-drop}
 use Rattle.laws.specs.Laws.Integer.{up, var, _⊟_, by-parts}
 use Rattle.laws.specs.Rows.{at}
 use Rattle.codewords.specs.Bit.{oneBits}
-use Rattle.codewords.specs.Code.{codeS, codes}
+use Rattle.codewords.specs.CodeWord.{codeS, codes}
 use Rattle.codewords.specs.Laws.Code.{code-signed, codeM-zero, codes-one, codes-append, codes-none}
-use Rattle.codewords.specs.Writer.{Sound, Room, Wrote}
+use Rattle.codewords.specs.Code.Writer.{Sound, Room, Wrote}
 use Rattle.codewords.specs.Laws.Writer.{wrote-none, wrote-then, room-after}
 use Rattle.codewords.specs.declared.writer.BitWriter.{BitWriter}
 use Rattle.unit.specs.Trim.{bitsOf}

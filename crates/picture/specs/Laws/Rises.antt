@@ -11,7 +11,7 @@ use lib.IntN.{ℤ, pos, negsuc, natAbs}
 use lib.ListN.{length, getD}
 use Rattle.laws.specs.Ceiling.{ceiling}
 use Rattle.laws.specs.Code.Chunks.{chunks}
-use Rattle.codewords.specs.Code.{codeS}
+use Rattle.codewords.specs.CodeWord.{codeS}
 use Rattle.codewords.specs.Laws.Code.{codeS-pos}
 use Rattle.quantiser.specs.Quant.{quantFactor, bandIndex}
 use Rattle.quantiser.specs.Laws.Quant.{quantFactor-least}

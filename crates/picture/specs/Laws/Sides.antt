@@ -12,8 +12,8 @@ use lib.ListN.{length, getD, take, drop, set, replicate}
 use lib.Pow.{pow-mono}
 use lib.Seq.{paste, paste-suc, take-all, take-at}
 use Rattle.quantiser.specs.AnnexD.{defaultMatrix}
-use Rattle.quantiser.specs.Default as default
-use Rattle.quantiser.specs.Default.{places, handed}
+use Rattle.quantiser.specs.Code.Default as default
+use Rattle.quantiser.specs.Code.Default.{places, handed}
 use Rattle.wavelet.specs.Depth.{deepest}
 use Rattle.unit.specs.declared.Settings.{Settings}
 use Rattle.unit.specs.Sizes.{Size, lumaSize, colourSize, intlog2}

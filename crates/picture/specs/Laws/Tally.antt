@@ -8,7 +8,7 @@ use native.Mathlib.Omega.{arith}
 use lib.Dec.{eqb}
 use lib.IntN.{ℤ, pos, negsuc, natAbs, _-ℤ_, +ℤ-idr}
 use lib.ListN.{length, length-append}
-use Rattle.codewords.specs.Code.{codeS, codes}
+use Rattle.codewords.specs.CodeWord.{codeS, codes}
 use Rattle.codewords.specs.Laws.Code.{length-codeS-zero}
 use Rattle.quantiser.specs.Quant.{forwardBy}
 use Rattle.unit.specs.Trim.{trimCons, trimmed, bitsOf, trimmedCost}

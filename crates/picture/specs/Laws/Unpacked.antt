@@ -11,7 +11,7 @@ use lib.IntN.{ℤ, pos, negsuc, natAbs}
 use lib.ListN.{length, replicate, length-append}
 use Rattle.laws.specs.Code.Chunks.{chunks}
 use Rattle.laws.specs.Laws.Integer.{up}
-use Rattle.codewords.specs.Code.{codeS}
+use Rattle.codewords.specs.CodeWord.{codeS}
 use Rattle.codewords.specs.Laws.Code.{length-codeS-zero}
 use Rattle.quantiser.specs.Quant.{quantFactor, forwardBy, forwardQuant}
 use Rattle.quantiser.specs.Laws.Quant.{number-size}

@@ -100,7 +100,7 @@ fn offset_of(excursion: u32) -> u16
 }
 
 // A component of sides z, padded sides q and an excursion, as the layer below takes it.
-fn sides_of(z: Sides, q: Sides, excursion: u32) -> wavelet::component::Component
+fn component_of(z: Sides, q: Sides, excursion: u32) -> wavelet::component::Component
     requires { ⌜ (1 ≤ excursion) × (excursion ≤ sideLimit) ⌝ }
     ensures { λ r. ⌜ (r .w ≡ z .width) × ((r .h ≡ z .height) × ((r .pw ≡ q .width) × ((r .ph ≡ q .height)
         × ((r .offset ≡ offsetOf (intlog2 (excursion + 1))) × (r .offset ≤ 2 ^ 15))))) ⌝ }
@@ -134,8 +134,8 @@ pub(crate) fn analyse(work: &mut [i64], s: Settings, y: &[u16], c1: &[u16], c2: 
 {
     let l = crate::front::sizes::luma_size(s);
     let c = crate::front::sizes::colour_size(s);
-    let luma = sides_of(l, crate::front::sizes::padded_size(s, l), s.luma_excursion);
-    let colour = sides_of(
+    let luma = component_of(l, crate::front::sizes::padded_size(s, l), s.luma_excursion);
+    let colour = component_of(
         c,
         crate::front::sizes::padded_size(s, c),
         s.color_diff_excursion,

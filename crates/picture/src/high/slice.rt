@@ -10,7 +10,7 @@ ghost use lib.ListN.{length};
 ghost use Rattle.laws.specs.Code.Laid.{Lays};
 ghost use Rattle.codewords.specs.Bit.{zeroBits};
 ghost use Rattle.codewords.specs.Bytes.{toBytes};
-ghost use Rattle.codewords.specs.Writer.{Room, Wrote};
+ghost use Rattle.codewords.specs.Code.Writer.{Room, Wrote};
 ghost use Rattle.unit.specs.HighQuality.{componentBits, highBits};
 ghost use Rattle.picture.specs.Code.Choice.{threeBits, TermsIn};
 ghost use Rattle.picture.specs.Code.Notes.{runAt, numbersAt, Held, HeldSlice};

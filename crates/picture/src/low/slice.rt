@@ -11,7 +11,7 @@ ghost use Prim.Native.Nat.{_+_, _^_, _≤_};
 ghost use lib.ListN.{length};
 ghost use Rattle.laws.specs.Code.Laid.{Lays};
 ghost use Rattle.codewords.specs.Bytes.{toBytes};
-ghost use Rattle.codewords.specs.Writer.{Room, Wrote};
+ghost use Rattle.codewords.specs.Code.Writer.{Room, Wrote};
 ghost use Rattle.picture.specs.Code.Picture.{SliceIn};
 ghost use Rattle.picture.specs.Code.LowRest.{windowsOf, Known};
 ghost use Rattle.picture.specs.Code.Low.{runBits, lowBitsBy, lowCutBy};

@@ -14,7 +14,7 @@ use borrow.Author.Tests.{lt-ltb, le-ltb, eq-eqb, ne-eqb}
 use Rattle.laws.specs.Rows.{span, total}
 use Rattle.laws.specs.Laws.Rows.{table}
 use Rattle.quantiser.specs.AnnexD.{Table, tables, tableD8, andThen, tableOf, defaultMatrix}
-use Rattle.quantiser.specs.Default.{places, handed, defaultOf}
+use Rattle.quantiser.specs.Code.Default.{places, handed, defaultOf}
 use Rattle.quantiser.specs.Code.Cells.{allTables, shape, startOf, cellOf, tableAt, matrixAt}
 
 -- ---- lists

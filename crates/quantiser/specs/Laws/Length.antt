@@ -7,7 +7,7 @@ use lib.ListN.{length}
 use lib.IntN.{ℤ, natAbs}
 use lib.Count.{leadingZeros}
 use lib.Pow.{pow-pos, pow-mono, pow-add}
-use Rattle.codewords.specs.Code.{log2, codeS}
+use Rattle.codewords.specs.CodeWord.{log2, codeS}
 use Rattle.codewords.specs.Laws.Code.{Top, log2-top, top-unique, leading-log2, length-codeS, length-codeS-zero}
 use Rattle.quantiser.specs.Quant.{forwardBy}
 use Rattle.quantiser.specs.Laws.Step.{forward-abs}

@@ -8,7 +8,7 @@ use native.Mathlib.Omega.{arith}
 use lib.IntN.{ℤ, natAbs}
 use lib.ListN.{length}
 use lib.Pow.{pow-pos, pow-mono}
-use Rattle.codewords.specs.Code.{codeS}
+use Rattle.codewords.specs.CodeWord.{codeS}
 use Rattle.codewords.specs.Laws.Code.{codeS-pos, length-codeS, length-codeS-zero}
 use Rattle.quantiser.specs.Standard.{factorBy, factor}
 use Rattle.quantiser.specs.Quant.{cap, quantFactor, forwardBy}

@@ -7,7 +7,7 @@ use lib.IntN.{ℤ, pos, negsuc, negℤ, natAbs, _-ℤ_, +ℤ-idl}
 use lib.Dec.{leb·suc-zero}
 use lib.Signed.{ltZ}
 use Rattle.laws.specs.Laws.Integer.{parts, var, minus, _⊟_, lt-yes, lt-no, abs-neg}
-use Rattle.codewords.specs.Code.{codeS, codeM}
+use Rattle.codewords.specs.CodeWord.{codeS, codeM}
 use Rattle.codewords.specs.Laws.Code.{code-signed}
 use Rattle.quantiser.specs.Standard.{signed}
 use Rattle.quantiser.specs.Quant.{cap, forwardBy}

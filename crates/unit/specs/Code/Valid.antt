@@ -81,7 +81,7 @@ pub record Valid (s : Settings) (m : List ℕ) (p : Three (List ℕ)) (work : Li
 
 -- ---- sizes
 -- a component's size z, and its padded size
-pub record Sides (s : Settings) (z : Size) : Type 0 where
+pub record Sized (s : Settings) (z : Size) : Type 0 where
   pub width : Between sideLimit (z .width)
   pub height : Between sideLimit (z .height)
   pub padded-width : Between 65536 (paddedSize (s .«dwt_depth_ho») (s .«dwt_depth») z .width)

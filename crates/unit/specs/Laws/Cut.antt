@@ -9,7 +9,7 @@ use borrow.Author.Tests.{leb-true, leb-false}
 use lib.Dec.{leb}
 use lib.IntN.{ℤ, pos, negsuc}
 use lib.ListN.{length, length-append}
-use Rattle.codewords.specs.Code.{codeS, codes, zeroFilled}
+use Rattle.codewords.specs.CodeWord.{codeS, codes, zeroFilled}
 use Rattle.wavelet.specs.Planes.{Band}
 use Rattle.unit.specs.Three.{Three}
 use Rattle.unit.specs.Slices.{Grid}

@@ -14,7 +14,7 @@ use Rattle.laws.specs.Rows.{span, total}
 use Rattle.laws.specs.Laws.Rows.{length-span, map-span, span-ext}
 use Rattle.codewords.specs.Bit.{Bits, lit, oneBits, zeroBits}
 use Rattle.codewords.specs.Laws.Bit.{length-lit}
-use Rattle.codewords.specs.Code.{codes}
+use Rattle.codewords.specs.CodeWord.{codes}
 use Rattle.codewords.specs.Read.{sintsb}
 use Rattle.codewords.specs.Laws.Read.{Reads, reads-give, reads-then, reads-last, reads-nbits, reads-bits, block-codes}
 use Rattle.codewords.specs.Laws.Byte.{Full, full-length}

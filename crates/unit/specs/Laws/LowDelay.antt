@@ -13,7 +13,7 @@ use Rattle.laws.specs.Rows.{span, total}
 use Rattle.laws.specs.Plane.{Plane}
 use Rattle.codewords.specs.Bit.{Bits, lit, oneBits}
 use Rattle.codewords.specs.Laws.Bit.{length-lit, lit-none}
-use Rattle.codewords.specs.Code.{codes, zeroFilled}
+use Rattle.codewords.specs.CodeWord.{codes, zeroFilled}
 use Rattle.codewords.specs.Laws.Code.{codes-none}
 use Rattle.codewords.specs.Read.{sintsb}
 use Rattle.codewords.specs.Laws.Read.{Reads, reads-give, reads-then, reads-last, reads-such, reads-nbits, reads-bits, block-codes}

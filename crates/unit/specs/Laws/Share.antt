@@ -16,7 +16,7 @@ use Rattle.laws.specs.Rows.{span, total}
 use Rattle.laws.specs.Plane.{Plane}
 use Rattle.codewords.specs.Bit.{Bits, lit, value, oneBits}
 use Rattle.codewords.specs.Laws.Bit.{length-lit, lit-none, value-lt, lit-value}
-use Rattle.codewords.specs.Code.{zeroFilled}
+use Rattle.codewords.specs.CodeWord.{zeroFilled}
 use Rattle.codewords.specs.Read.{Read, got, stop}
 use Rattle.codewords.specs.Laws.Read.{Reads}
 use Rattle.unit.specs.Three.{Three}

@@ -9,7 +9,7 @@ use lib.Dec.{leb}
 use lib.IntN.{ℤ, pos, negsuc, natAbs}
 use lib.ListN.{length, take, length-append}
 use Rattle.codewords.specs.Bit.{lit, oneBits}
-use Rattle.codewords.specs.Code.{log2In, log2, interleaved, codeU, codeS, codes, zeroFilled}
+use Rattle.codewords.specs.CodeWord.{log2In, log2, interleaved, codeU, codeS, codes, zeroFilled}
 use Rattle.codewords.specs.Laws.Code.{codeS-pos, codeS-short, length-codeS}
 use Rattle.unit.specs.Trim.{trimCons, trimmed, bitsOf, trimmedCost, fitPrefix}
 

@@ -24,7 +24,7 @@ use Rattle.unit.specs.Subbands.{paddedSize, subbandCount}
 use Rattle.unit.specs.Slices.{sliceCount}
 use Rattle.unit.specs.Matrix.{defaultOf, carriedMatrix}
 use Rattle.unit.specs.Refusal.{shapeRules, frameRules, noTarget, badIndex, badTarget, anyAbove, isNone, paddedArea, workNeeded, rules, refusalOf}
-use Rattle.unit.specs.Code.Valid.{Shaped, Framed, Between, RateFits, MatrixFits, Valid, Sides}
+use Rattle.unit.specs.Code.Valid.{Shaped, Framed, Between, RateFits, MatrixFits, Valid, Sized}
 use Rattle.unit.specs.Parameters.{SliceParameters}
 use Rattle.unit.specs.Unit.{versionBy, majorVersion, gridOf, parametersBy, targetOf}
 use Rattle.unit.specs.Laws.Sound.{SliceFits, CarriedFits, Legal}
@@ -178,7 +178,7 @@ some-sides (suc a) zero h = absurd (omega (arith, mul-zero (suc a)))
 some-sides (suc a) (suc b) h = omega arith
 
 sides : (s : Settings) (z : Size) → s .«dwt_depth» + s .«dwt_depth_ho» ≤ deepest → z .width ≤ sideLimit → z .height ≤ sideLimit → 1 ≤ area z
-    → paddedArea s z ≤ areaLimit → Sides s z
+    → paddedArea s z ≤ areaLimit → Sized s z
 sides s z d w h a r =
     let k = s .«dwt_depth_ho» in
     let n = s .«dwt_depth» in
@@ -230,10 +230,10 @@ pub record DepthsFit (d : Three ℕ) : Type 0 where
   pub c2 : Between 16 (d .c2)
 
 module _ {s : Settings} {m : List ℕ} {p : Three (List ℕ)} {work : List ℤ} (v : Valid s m p work) where
-  pub luma-sides : Sides s (lumaSize s)
+  pub luma-sides : Sized s (lumaSize s)
   luma-sides = let f = luma-fits s in sides s (lumaSize s) (levels-few s (v .shape)) (omega (arith, v .frame .width)) (omega (arith, v .frame .height)) (v .frame .luma-some) (v .padded)
 
-  pub colour-sides : Sides s (colourSize s)
+  pub colour-sides : Sized s (colourSize s)
   colour-sides =
       let f = luma-fits s in
       let c = colour-fits s in

@@ -3,7 +3,7 @@ use mathlib.Core.List.{[], _∷_}
 use contract.Running.{givenOf, tables, tablesOf}
 use denote.Triple.Spec.{tripleOf}
 use denote.Triple.Table.{entered, cited}
-use Rattle.codewords.specs.Writer.{Room, Wrote}
+use Rattle.codewords.specs.Code.Writer.{Room, Wrote}
 use Rattle.codewords.proofs.Lends.{bool-arg}
 use Rattle.codewords.proofs.Gives.One.{Put, meets}
 use Rattle.codewords.proofs.lent.put_bit.Symbol as callee

@@ -5,8 +5,8 @@ use denote.Triple.Spec.{tripleOf}
 use denote.Triple.Table.{entered, cited}
 use mir.Syntax.{w64}
 use lib.ListN.{length}
-use Rattle.codewords.specs.Code.{codeM}
-use Rattle.codewords.specs.Writer.{Room, Wrote}
+use Rattle.codewords.specs.CodeWord.{codeM}
+use Rattle.codewords.specs.Code.Writer.{Room, Wrote}
 use Rattle.codewords.proofs.Lends.{bool-arg, uint-arg}
 use Rattle.codewords.proofs.Gives.Two.{Put, meets}
 use Rattle.codewords.proofs.lent.put_signed.Symbol as callee

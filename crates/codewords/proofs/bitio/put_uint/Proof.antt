@@ -4,8 +4,8 @@ use contract.Running.{givenOf, tables, tablesOf}
 use denote.Triple.Spec.{tripleOf}
 use denote.Triple.Table.{entered, cited}
 use mir.Syntax.{w32}
-use Rattle.codewords.specs.Code.{codeU}
-use Rattle.codewords.specs.Writer.{Room, Wrote}
+use Rattle.codewords.specs.CodeWord.{codeU}
+use Rattle.codewords.specs.Code.Writer.{Room, Wrote}
 use Rattle.codewords.proofs.Lends.{uint-arg}
 use Rattle.codewords.proofs.Gives.One.{Put, meets}
 use Rattle.codewords.proofs.lent.put_uint.Symbol as callee

@@ -3,7 +3,7 @@ use contract.Running.{givenOf, tables, tablesOf}
 use denote.Triple.Spec.{tripleOf}
 use denote.Triple.Table.{entered, cited}
 use Rattle.codewords.specs.Bytes.{padding}
-use Rattle.codewords.specs.Writer.{Room, Aligns}
+use Rattle.codewords.specs.Code.Writer.{Room, Aligns}
 use Rattle.codewords.proofs.Lends.None.{Put, meets}
 use Rattle.codewords.proofs.writer.byte_align.Symbol as callee
 use Rattle.codewords.proofs.writer.byte_align.Met as callee-thm

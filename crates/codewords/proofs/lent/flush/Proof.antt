@@ -2,7 +2,7 @@
 use contract.Running.{givenOf, tables, tablesOf}
 use denote.Triple.Spec.{tripleOf}
 use denote.Triple.Table.{entered, cited}
-use Rattle.codewords.specs.Writer.{Room, Flushes}
+use Rattle.codewords.specs.Code.Writer.{Room, Flushes}
 use Rattle.codewords.proofs.Lends.None.{Put, meets}
 use Rattle.codewords.proofs.writer.flush.Symbol as callee
 use Rattle.codewords.proofs.writer.flush.Met as callee-thm

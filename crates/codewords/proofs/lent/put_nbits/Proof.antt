@@ -5,7 +5,7 @@ use denote.Triple.Spec.{tripleOf}
 use denote.Triple.Table.{entered, cited}
 use mir.Syntax.{w32, w64}
 use Rattle.codewords.specs.Bit.{lit}
-use Rattle.codewords.specs.Writer.{Room, Wrote}
+use Rattle.codewords.specs.Code.Writer.{Room, Wrote}
 use Rattle.codewords.proofs.Lends.{uint-arg}
 use Rattle.codewords.proofs.Lends.Two.{Put, meets}
 use Rattle.codewords.proofs.writer.put_nbits.Symbol as callee

@@ -4,7 +4,7 @@ use denote.Triple.Spec.{tripleOf}
 use denote.Triple.Table.{entered, cited}
 use mir.Syntax.{w64}
 use Rattle.codewords.specs.Bit.{oneBits}
-use Rattle.codewords.specs.Writer.{Room, Wrote}
+use Rattle.codewords.specs.Code.Writer.{Room, Wrote}
 use Rattle.codewords.proofs.Lends.{uint-arg}
 use Rattle.codewords.proofs.Lends.One.{Put, meets}
 use Rattle.codewords.proofs.writer.put_ones.Symbol as callee

@@ -4,8 +4,8 @@ use contract.Running.{givenOf, tables, tablesOf}
 use denote.Triple.Spec.{tripleOf}
 use denote.Triple.Table.{entered, cited}
 use mir.Syntax.{w64}
-use Rattle.codewords.specs.Code.{codeS}
-use Rattle.codewords.specs.Writer.{Room, Wrote}
+use Rattle.codewords.specs.CodeWord.{codeS}
+use Rattle.codewords.specs.Code.Writer.{Room, Wrote}
 use Rattle.codewords.proofs.Lends.{sint-arg}
 use Rattle.codewords.proofs.Lends.One.{Put, meets}
 use Rattle.codewords.proofs.writer.put_sint.Symbol as callee

@@ -13,7 +13,7 @@ use Rattle.codewords.specs.Bit.{lit}
 use Rattle.codewords.specs.Laws.Bit.{length-lit, lit-none, byte-up, one-shl}
 use Rattle.codewords.specs.Bytes.{toBytes}
 use Rattle.codewords.specs.Laws.Byte.{pack-none, length-toBytes, bytes-more}
-use Rattle.codewords.specs.Writer.{pendingOf}
+use Rattle.codewords.specs.Code.Writer.{pendingOf}
 use Rattle.codewords.specs.Laws.Writer.{wrote-bits}
 use Rattle.codewords.proofs.writer.flush.Statement.{statement}
 use Rattle.codewords.proofs.writer.flush.Tie as tie

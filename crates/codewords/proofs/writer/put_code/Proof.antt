@@ -2,7 +2,7 @@
 use mathlib.Core.Path.{_≡_, ap}
 use Prim.Native.Nat.{_+_, _-_}
 use lib.Count.{leadingZeros}
-use Rattle.codewords.specs.Code.{log2}
+use Rattle.codewords.specs.CodeWord.{log2}
 use Rattle.codewords.specs.Laws.Code.{leading-log2, length-codeU, codeU-is}
 use native.Mathlib.Omega.{arith}
 use borrow.Author.Needs.{needs}

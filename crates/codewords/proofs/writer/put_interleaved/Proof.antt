@@ -10,11 +10,11 @@ use borrow.Author.Needs.{needs}
 use Rattle.codewords.specs.declared.writer.BitWriter.{BitWriter}
 use Rattle.codewords.specs.Bit.{lit}
 use Rattle.codewords.specs.Laws.Bit.{length-lit, lit-none, lit-split, byte-up}
-use Rattle.codewords.specs.Code.{interleaved}
-use Rattle.codewords.specs.Spread.{spreadBits}
+use Rattle.codewords.specs.CodeWord.{interleaved}
+use Rattle.codewords.specs.Code.Spread.{spreadBits}
 use Rattle.codewords.specs.Laws.Code.{interleaved-none, interleaved-append, length-interleaved}
 use Rattle.codewords.specs.Laws.Word.{interleaved-spread, word-lit}
-use Rattle.codewords.specs.Writer.{Sound, Room, Wrote}
+use Rattle.codewords.specs.Code.Writer.{Sound, Room, Wrote}
 use Rattle.codewords.specs.Laws.Writer.{wrote-none, wrote-then, room-after}
 use Rattle.codewords.proofs.writer.put_interleaved.Statement.{statement}
 use Rattle.codewords.proofs.writer.put_interleaved.Tie as tie

@@ -7,7 +7,7 @@ use lib.ListN.{replicate-append-replicate, length-replicate}
 use Rattle.codewords.specs.declared.writer.BitWriter.{BitWriter}
 use Rattle.codewords.specs.Bit.{lit, oneBits}
 use Rattle.codewords.specs.Laws.Bit.{lit-ones}
-use Rattle.codewords.specs.Writer.{Sound, Room, Wrote}
+use Rattle.codewords.specs.Code.Writer.{Sound, Room, Wrote}
 use Rattle.codewords.specs.Laws.Writer.{wrote-none, wrote-then, room-after}
 use native.Mathlib.Omega.{arith}
 use Rattle.codewords.proofs.writer.put_ones.Statement.{statement}

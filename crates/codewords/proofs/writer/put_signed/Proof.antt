@@ -7,7 +7,7 @@ use native.Mathlib.Omega.{arith}
 use borrow.Author.Needs.{needs}
 use lib.ListN.{length, length-append}
 use Rattle.codewords.specs.Laws.Bit.{length-lit}
-use Rattle.codewords.specs.Code.{codeU, codeM}
+use Rattle.codewords.specs.CodeWord.{codeU, codeM}
 use Rattle.codewords.specs.Laws.Code.{codeM-pos}
 use Rattle.codewords.specs.Laws.Writer.{wrote-then, room-after}
 use Rattle.codewords.proofs.writer.put_signed.Statement.{statement}

@@ -7,7 +7,7 @@ use lib.Signed.{ltZ}
 use mir.Syntax.{w64}
 use mir.Val.{ofZ, toZ}
 use mir.Facts.{toZ-ofZ}
-use Rattle.codewords.specs.Code.{codeS, codeM}
+use Rattle.codewords.specs.CodeWord.{codeS, codeM}
 use Rattle.codewords.specs.Laws.Code.{code-signed}
 use Rattle.codewords.proofs.writer.put_sint.Statement.{statement}
 use Rattle.codewords.proofs.writer.put_sint.Tie as tie

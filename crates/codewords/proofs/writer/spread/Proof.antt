@@ -2,7 +2,7 @@
 use mathlib.Core.Path.{_≡_, _∙_}
 use Prim.Native.Nat.{_%_}
 use native.Mathlib.Omega.{arith}
-use Rattle.codewords.specs.Spread.{spreadBits}
+use Rattle.codewords.specs.Code.Spread.{spreadBits}
 use Rattle.codewords.specs.Laws.Word.{steps, spread-lt, spread-mod, spread-steps}
 use Rattle.codewords.proofs.writer.spread.Statement.{statement}
 use Rattle.codewords.proofs.writer.spread.Tie as tie

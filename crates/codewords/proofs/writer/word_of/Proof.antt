@@ -6,7 +6,7 @@ use borrow.Author.Needs.{needs}
 use lib.Count.{leadingZeros}
 use Rattle.codewords.specs.Bit.{lit}
 use Rattle.codewords.specs.Laws.Bit.{val-lt, byte-val}
-use Rattle.codewords.specs.Code.{log2, codeM}
+use Rattle.codewords.specs.CodeWord.{log2, codeM}
 use Rattle.codewords.specs.Laws.Code.{leading-log2, codeM-zero}
 use Rattle.codewords.specs.Laws.Word.{code-lit}
 use Rattle.codewords.proofs.writer.word_of.Statement.{statement}

@@ -1,9 +1,9 @@
 -- `replay::words::put_all` is safe: the bits of a case fit the 24 bytes.
 use mathlib.Core.Bool.{true}
 use lib.ListN.{length-replicate}
-use Rattle.codewords.specs.Writer.{Room}
+use Rattle.codewords.specs.Code.Writer.{Room}
 use Rattle.codewords.specs.Laws.Writer.{room-after}
-use Rattle.replay.specs.Put.{short}
+use Rattle.replay.specs.Laws.Put.{short}
 use native.Mathlib.Omega.{arith}
 use borrow.Author.Needs.{needs}
 use Rattle.replay.proofs.codes.put_all.Statement.{statement}

@@ -1,6 +1,6 @@
 -- `replay::transform::full_sides` is safe.
 use mathlib.Core.Path.{refl}
-use Rattle.replay.specs.Planes.{full}
+use Rattle.replay.specs.Laws.Planes.{full}
 use borrow.Author.Needs.{needs}
 use Rattle.replay.proofs.transform.full_sides.Statement.{statement}
 use Rattle.replay.proofs.transform.full_sides.Tie as tie

@@ -12,7 +12,7 @@ use Rattle.picture.proofs.coder.analysis.analyse.Tie as tie
 use Rattle.picture.proofs.coder.analysis.analyse.Reads as reads
 use Rattle.picture.proofs.coder.analysis.analyse.Lts as lts
 use Rattle.picture.proofs.coder.analysis.clear.Reads as clear-reads
-use Rattle.picture.proofs.coder.analysis.sides_of.Reads as sides-of-reads
+use Rattle.picture.proofs.coder.analysis.component_of.Reads as component-of-reads
 use Rattle.picture.proofs.front.sizes.colour_size.Reads as colour-size-reads
 use Rattle.picture.proofs.front.sizes.luma_size.Reads as luma-size-reads
 use Rattle.picture.proofs.front.sizes.padded_size.Reads as padded-size-reads
@@ -26,7 +26,7 @@ samples c = record {
   c2 = λ n. omega (arith, c .shared-slice-known3 .given n);
 }
 
-known : (c : tie.After-sides-of2) → Taken (c .before .before .before .before .before .before .before .before .before .args .s) (c .before .before .sides-of .result) (c .sides-of2 .result)
+known : (c : tie.After-component-of2) → Taken (c .before .before .before .before .before .before .before .before .before .args .s) (c .before .before .component-of .result) (c .component-of2 .result)
 known c =
     let st = c .before .before .before .before .before .before .before .before .before in
     let a = st .args in
@@ -34,9 +34,9 @@ known c =
     let l = c .before .before .before .before .before .luma-size in
     let k = c .before .before .before .before .colour-size in
     let p = c .before .before .before .padded-size in
-    let y = c .before .before .sides-of in
+    let y = c .before .before .component-of in
     let q = c .before .padded-size2 in
-    let u = c .sides-of2 in
+    let u = c .component-of2 in
     taken-of s (planes (a .y .now) (a .c1 .now) (a .c2 .now)) (a .work .now) (st .pre) (y .result) (u .result)
     (taken-is s (lumaSize s) (s .«luma_excursion») (l .result) (p .result) (y .result) (l .ensures) (p .ensures) (y .ensures))
     (taken-is s (colourSize s) (s .«color_diff_excursion») (k .result) (q .result) (u .result) (k .ensures) (q .ensures) (u .ensures))
@@ -53,8 +53,8 @@ padded-size-requires c κs =
     let l = c .before .luma-size in
     padded-asks (st .args .s) (l .result) (lumaSize (st .args .s)) (levels-few (st .args .s) (st .pre .shape)) (st .pre .luma) (l .ensures)
 
-sides-of-requires : tie.Need-sides-of-requires
-sides-of-requires c κs = search needs
+component-of-requires : tie.Need-component-of-requires
+component-of-requires c κs = search needs
 
 padded-size-requires-2 : tie.Need-padded-size-requires-2
 padded-size-requires-2 c κs =
@@ -62,8 +62,8 @@ padded-size-requires-2 c κs =
     let k = c .before .before .colour-size in
     padded-asks (st .args .s) (k .result) (colourSize (st .args .s)) (levels-few (st .args .s) (st .pre .shape)) (st .pre .colour) (k .ensures)
 
-sides-of-requires-2 : tie.Need-sides-of-requires-2
-sides-of-requires-2 c κs = search needs
+component-of-requires-2 : tie.Need-component-of-requires-2
+component-of-requires-2 c κs = search needs
 
 mul-front : tie.Need-mul-front
 mul-front c = omega (arith, known (c .before) .luma-few)
@@ -91,8 +91,8 @@ analyse-components-requires c κs =
     let at = c .before .before .before .before .before .before in
     let st = at .before .before .before .before .before .before .before .before .before in
     let a = st .args in
-    let l = at .before .before .sides-of .result in
-    let u = at .sides-of2 .result in
+    let l = at .before .before .component-of .result in
+    let u = at .component-of2 .result in
     components-in (a .s) (planes (a .y .now) (a .c1 .now) (a .c2 .now)) (a .work .now) (st .pre) l u (known at) (l .pw * l .ph + u .pw * u .ph + u .pw * u .ph) (front-is (a .s) l u (known at))
 
 sub-clear : tie.Need-sub-clear
@@ -107,7 +107,7 @@ part-clear-end c =
     let st = at .before .before .before .before .before .before .before .before .before in
     let a = st .args in
     let r = c .before .analyse-components in
-    front-room (a .s) (planes (a .y .now) (a .c1 .now) (a .c2 .now)) (a .work .now) (r .last .0) (st .pre) (at .before .before .sides-of .result) (at .sides-of2 .result) (known at) (r .kept .0)
+    front-room (a .s) (planes (a .y .now) (a .c1 .now) (a .c2 .now)) (a .work .now) (r .last .0) (st .pre) (at .before .before .component-of .result) (at .component-of2 .result) (known at) (r .kept .0)
 
 clear-requires : tie.Need-clear-requires
 clear-requires c κs = search needs
@@ -120,8 +120,8 @@ returns c =
     let at = c .before .before .before .before .before .before .before .before .before .before .before in
     let st = at .before .before .before .before .before .before .before .before .before in
     let a = st .args in
-    let l = at .before .before .sides-of .result in
-    let u = at .sides-of2 .result in
+    let l = at .before .before .component-of .result in
+    let u = at .component-of2 .result in
     let w = a .work .now in
     let r = c .before .before .before .before .analyse-components in
     let z = c .before .clear in
@@ -138,9 +138,9 @@ analyse-spec =
     luma-size-requires
     colour-size-requires
     padded-size-requires
-    sides-of-requires
+    component-of-requires
     padded-size-requires-2
-    sides-of-requires-2
+    component-of-requires-2
     mul-front
     mul-front-2
     add-front

@@ -14,12 +14,12 @@ use Rattle.picture.proofs.front.header.overhead.Statement.{statement}
 use Rattle.picture.proofs.front.header.overhead.Tie as tie
 use Rattle.picture.proofs.front.header.overhead.Reads as reads
 use Rattle.picture.proofs.front.header.overhead.Lts as lts
-use Rattle.picture.proofs.front.header.front_len.Reads as front-len-reads
+use Rattle.picture.proofs.front.header.shape_len.Reads as shape-len-reads
 use Rattle.picture.proofs.front.header.matrix_len.Reads as matrix-len-reads
 use Rattle.picture.proofs.front.header.slice_parameters_len.Reads as slice-parameters-len-reads
 
-front-len-requires : tie.Need-front-len-requires
-front-len-requires c κs = search needs
+shape-len-requires : tie.Need-shape-len-requires
+shape-len-requires c κs = search needs
 
 slice-parameters-len-requires : tie.Need-slice-parameters-len-requires
 slice-parameters-len-requires c κs = search needs
@@ -47,7 +47,7 @@ returns c =
     let f = c .before .before in
     let st = f .before in
     let a = st .args in
-    let x = f .front-len .ensures in
+    let x = f .shape-len .ensures in
     let y = c .before .slice-parameters-len .ensures in
     let z = c .matrix-len .ensures in
     let e = ap (λ (o : Option (List ℕ)). length (matrixBits o)) (carried-is (st .pre .carries)) in
@@ -57,7 +57,7 @@ pub overhead-spec : {M : Type 1} → statement M
 overhead-spec =
     tie.close
     (tie.spec
-    front-len-requires
+    shape-len-requires
     slice-parameters-len-requires
     add-bits
     matrix-len-requires

@@ -1,7 +1,7 @@
 -- `picture::front::header::put_flagged` meets its contract.
 use native.Mathlib.Omega.{arith}
 use Rattle.codewords.specs.Laws.Writer.{wrote-then, room-after}
-use Rattle.codewords.specs.Code.{codeU}
+use Rattle.codewords.specs.CodeWord.{codeU}
 use lib.ListN.{length}
 use Rattle.picture.specs.Laws.Head.{flagged-on, flagged-off, flagged-pos, room-less}
 use borrow.Author.Needs.{needs}

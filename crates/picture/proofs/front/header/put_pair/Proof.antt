@@ -1,6 +1,6 @@
 -- `picture::front::header::put_pair` meets its contract.
 use Rattle.codewords.specs.Laws.Writer.{wrote-then}
-use Rattle.codewords.specs.Code.{codeU}
+use Rattle.codewords.specs.CodeWord.{codeU}
 use Rattle.picture.specs.Laws.Head.{room-first, room-rest}
 use borrow.Author.Needs.{needs}
 use Rattle.picture.proofs.front.header.put_pair.Statement.{statement}

@@ -3,8 +3,8 @@ use mathlib.Core.Path.{_≡_}
 use Prim.Native.Nat.{_-_, _≤_}
 use borrow.Author.Needs.{needs}
 use lib.ListN.{length, take, getD}
-use Rattle.codewords.specs.Code.{codeU}
-use Rattle.codewords.specs.Writer.{Wrote}
+use Rattle.codewords.specs.CodeWord.{codeU}
+use Rattle.codewords.specs.Code.Writer.{Wrote}
 use Rattle.codewords.specs.Laws.Writer.{wrote-none, wrote-then, room-after}
 use Rattle.unit.specs.Parameters.{codesU}
 use Rattle.picture.specs.Laws.Head.{codesU-none, codesU-take, codesU-part}

@@ -1,7 +1,7 @@
 -- `picture::front::header::slice_parameters_len` meets its contract.
 use native.Mathlib.Omega.{arith}
 use lib.ListN.{length-append}
-use Rattle.codewords.specs.Code.{codeU}
+use Rattle.codewords.specs.CodeWord.{codeU}
 use borrow.Author.Needs.{needs}
 use Rattle.picture.proofs.front.header.slice_parameters_len.Statement.{statement}
 use Rattle.picture.proofs.front.header.slice_parameters_len.Tie as tie

@@ -4,7 +4,7 @@ use mathlib.Core.Path.{_≡_, sym, ap, _∙_}
 use Prim.Native.Nat.{ℕ, _*_, _-_, _≤_}
 use borrow.Author.Needs.{needs}
 use lib.ListN.{length, take, getD, length-append}
-use Rattle.codewords.specs.Code.{codeU}
+use Rattle.codewords.specs.CodeWord.{codeU}
 use Rattle.unit.specs.Parameters.{codesU}
 use Rattle.picture.specs.Laws.Head.{codesU-none, codesU-take}
 use native.Mathlib.Omega.{arith}

@@ -3,7 +3,7 @@ use Rattle.codewords.specs.Laws.Writer.{wrote-then}
 use mathlib.Core.List.{_++_}
 use lib.ListN.{length}
 use Rattle.codewords.specs.Bit.{Bits, lit}
-use Rattle.codewords.specs.Writer.{Room}
+use Rattle.codewords.specs.Code.Writer.{Room}
 use Rattle.unit.specs.Unit.{parseCode}
 use Rattle.picture.specs.Code.Head.{infoOf}
 use Rattle.picture.specs.Laws.Head.{room-first, room-rest}

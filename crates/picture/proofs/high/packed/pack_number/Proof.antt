@@ -7,7 +7,7 @@ use lib.IntN.{ℤ}
 use lib.ListN.{length, set}
 use mir.Facts.{toZ-ofZ}
 use Rattle.laws.specs.Laws.Laid.{laid-one}
-use Rattle.codewords.specs.Code.{codeS}
+use Rattle.codewords.specs.CodeWord.{codeS}
 use Rattle.picture.specs.Code.Packed.{zerosWord}
 use borrow.Author.Needs.{needs}
 use Rattle.picture.specs.Laws.Unpacked.{zeros-due}

@@ -7,8 +7,8 @@ use mir.Val.{toZ, ofZ}
 use mir.Facts.{toZ-ofZ}
 use borrow.Author.Needs.{needs, sfits-of}
 use Rattle.laws.specs.Rows.{at}
-use Rattle.codewords.specs.Code.{codes}
-use Rattle.codewords.specs.Writer.{Wrote}
+use Rattle.codewords.specs.CodeWord.{codes}
+use Rattle.codewords.specs.Code.Writer.{Wrote}
 use Rattle.picture.specs.Code.Packed.{unpacked, wordsAt}
 use Rattle.picture.specs.Laws.PutWords.{words-none, word-room, word-turn, words-all}
 use Rattle.picture.proofs.high.packed.put_words.Statement.{statement}

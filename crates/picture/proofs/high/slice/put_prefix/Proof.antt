@@ -2,7 +2,7 @@
 use Prim.Native.Nat.{_*_, _-_, _≤_}
 use native.Mathlib.Omega.{arith}
 use Rattle.codewords.specs.Bit.{zeroBits}
-use Rattle.codewords.specs.Writer.{Wrote}
+use Rattle.codewords.specs.Code.Writer.{Wrote}
 use Rattle.codewords.specs.Laws.Writer.{wrote-none}
 use Rattle.picture.specs.Laws.HighSlice.{prefix-next, prefix-turn, prefix-all}
 use Rattle.picture.proofs.high.slice.put_prefix.Statement.{statement}

@@ -8,7 +8,7 @@ use mir.Syntax.{w64}
 use mir.Val.{toZ, ofZ}
 use mir.Facts.{toZ-ofZ}
 use borrow.Author.Needs.{needs, sfits-of}
-use Rattle.codewords.specs.Code.{codeS, codeM}
+use Rattle.codewords.specs.CodeWord.{codeS, codeM}
 use Rattle.quantiser.specs.Quant.{forwardBy}
 use Rattle.picture.specs.Code.Strip.{planeFrom}
 use Rattle.picture.specs.Laws.Put.{forward-word, puts-past, puts-one, room-one}

@@ -1,7 +1,7 @@
 -- `low::slice::put_runs` meets its contract.
 use lib.ListN.{take}
 use Rattle.codewords.specs.Bit.{Bits}
-use Rattle.codewords.specs.Code.{codes}
+use Rattle.codewords.specs.CodeWord.{codes}
 use Rattle.codewords.specs.Laws.Writer.{wrote-then}
 use Rattle.picture.specs.Laws.Head.{room-first, room-rest}
 use Rattle.picture.specs.Code.Low.{lumaIn, colourIn}

@@ -5,7 +5,7 @@ use lib.ListN.{length}
 use mir.Syntax.{w64}
 use mir.Facts.{toZ-ofZ}
 use borrow.Author.Needs.{needs, sfits-of}
-use Rattle.codewords.specs.Code.{codeS}
+use Rattle.codewords.specs.CodeWord.{codeS}
 use Rattle.quantiser.specs.Quant.{forwardBy}
 use Rattle.picture.proofs.slices.strip.number_len.Statement.{statement}
 use Rattle.picture.proofs.slices.strip.number_len.Tie as tie

@@ -6,7 +6,7 @@ use lib.ListN.{length}
 use mir.Syntax.{w64}
 use mir.Facts.{toZ-ofZ}
 use borrow.Author.Needs.{needs, sfits-of}
-use Rattle.codewords.specs.Code.{codeS}
+use Rattle.codewords.specs.CodeWord.{codeS}
 use Rattle.quantiser.specs.Quant.{forwardBy}
 use Rattle.picture.specs.Code.Strip.{planeFrom}
 use Rattle.picture.specs.Laws.Tally.{tallied-len}

@@ -1,19 +1,19 @@
--- `picture::front::header::put_front` meets its contract.
+-- `picture::front::header::put_shape` meets its contract.
 use Rattle.codewords.specs.Laws.Writer.{wrote-then}
-use Rattle.codewords.specs.Code.{codeU}
+use Rattle.codewords.specs.CodeWord.{codeU}
 use mathlib.Core.List.{_++_}
-use Rattle.picture.specs.Code.Head.{extensionOf, frontOf}
+use Rattle.picture.specs.Code.Head.{extensionOf, shapeBits}
 use Rattle.picture.specs.Laws.Head.{room-first, room-rest}
 use borrow.Author.Needs.{needs}
-use Rattle.picture.proofs.front.header.put_front.Statement.{statement}
-use Rattle.picture.proofs.front.header.put_front.Tie as tie
-use Rattle.picture.proofs.front.header.put_front.Reads as reads
-use Rattle.picture.proofs.front.header.put_front.Lts as lts
+use Rattle.picture.proofs.front.header.put_shape.Statement.{statement}
+use Rattle.picture.proofs.front.header.put_shape.Tie as tie
+use Rattle.picture.proofs.front.header.put_shape.Reads as reads
+use Rattle.picture.proofs.front.header.put_shape.Lts as lts
 use Rattle.picture.proofs.front.header.put_extension.Reads as put-extension-reads
 use Rattle.picture.proofs.front.header.put_pair.Reads as put-pair-reads
 
 put-pair-requires : tie.Need-put-pair-requires
-unfolding frontOf
+unfolding shapeBits
 put-pair-requires c κs =
     let st = c .before .before in
     let s = st .args .s in
@@ -22,7 +22,7 @@ put-pair-requires c κs =
     room-first x (extensionOf s ++ y) (st .pre)
 
 put-extension-requires : tie.Need-put-extension-requires
-unfolding frontOf
+unfolding shapeBits
 put-extension-requires c κs =
     let st = c .before .before .before .before .before .before in
     let s = st .args .s in
@@ -31,7 +31,7 @@ put-extension-requires c κs =
     room-first (extensionOf s) y (room-rest x (extensionOf s ++ y) (st .pre) (c .before .before .before .put-pair .ensures))
 
 put-pair-requires-2 : tie.Need-put-pair-requires-2
-unfolding frontOf
+unfolding shapeBits
 put-pair-requires-2 c κs =
     let st = c .before .before .before .before .before .before .before .before .before .before in
     let s = st .args .s in
@@ -43,10 +43,10 @@ same-length : tie.Need-same-length
 same-length c = search needs
 
 returns : tie.Need-returns
-unfolding frontOf
+unfolding shapeBits
 returns c = wrote-then (c .before .before .before .before .before .before .before .before .before .before .before .before .before .pre .sound) (c .before .before .before .before .before .before .before .before .before .before .put-pair .ensures) (wrote-then (c .before .before .before .before .before .before .before .before .before .before .put-pair .ensures .sound) (c .before .before .before .before .before .before .put-extension .ensures) (c .before .before .put-pair2 .ensures))
 
-pub put-front-spec : {M : Type 1} → statement M
-put-front-spec =
+pub put-shape-spec : {M : Type 1} → statement M
+put-shape-spec =
     tie.close
     (tie.spec put-pair-requires put-extension-requires put-pair-requires-2 same-length returns)

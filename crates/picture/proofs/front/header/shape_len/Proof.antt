@@ -1,11 +1,11 @@
--- `picture::front::header::front_len` meets its contract.
+-- `picture::front::header::shape_len` meets its contract.
 use native.Mathlib.Omega.{arith}
 use Rattle.picture.specs.Laws.Head.{front-length}
 use borrow.Author.Needs.{needs}
-use Rattle.picture.proofs.front.header.front_len.Statement.{statement}
-use Rattle.picture.proofs.front.header.front_len.Tie as tie
-use Rattle.picture.proofs.front.header.front_len.Reads as reads
-use Rattle.picture.proofs.front.header.front_len.Lts as lts
+use Rattle.picture.proofs.front.header.shape_len.Statement.{statement}
+use Rattle.picture.proofs.front.header.shape_len.Tie as tie
+use Rattle.picture.proofs.front.header.shape_len.Reads as reads
+use Rattle.picture.proofs.front.header.shape_len.Lts as lts
 use Rattle.picture.proofs.front.header.extension_len.Reads as extension-len-reads
 use Rattle.picture.proofs.front.header.uint_len.Reads as uint-len-reads
 
@@ -45,8 +45,8 @@ returns c =
     let v = c .uint-len4 .ensures in
     (omega (arith, front-length (c .before .before .before .before .before .args .s), x .0, y .0, e .0, u .0, v .0), omega (arith, x .1, y .1, e .1, u .1, v .1))
 
-pub front-len-spec : {M : Type 1} → statement M
-front-len-spec =
+pub shape-len-spec : {M : Type 1} → statement M
+shape-len-spec =
     tie.close
     (tie.spec
     uint-len-requires

@@ -1,27 +1,13 @@
 -- What a case puts behind its ones.
-use Prim.Native.Nat.{_+_, _≤_, _<_, _^_}
+use Prim.Native.Nat.{_+_, _≤_}
 use native.Mathlib.Omega.{arith}
-use mir.Syntax.{w64}
-use mir.Val.{SFits}
 use lib.ListN.{length}
 use Rattle.laws.specs.Laws.Machine.{unfit}
-use Rattle.codewords.specs.Bit.{Bits, lit}
 use Rattle.codewords.specs.Laws.Bit.{length-lit}
-use Rattle.codewords.specs.Code.{codeU, codeS}
 use Rattle.codewords.specs.Laws.Code.{length-codeU, leading-log2, codeS-short}
 use Rattle.replay.specs.declared.codes.Put.{Put}
 use Rattle.replay.specs.declared.codes.Put.the-variants.{Uint, Sint, Nbits}
-
-abbrev pub bitsOf : Put → Bits
-bitsOf (Uint v) = codeU v
-bitsOf (Sint z) = codeS z
-bitsOf (Nbits n v) = lit n v
-
--- a number that the writer takes
-abbrev pub Legal : Put → Type 0
-Legal (Uint v) = v < 2 ^ 32
-Legal (Sint z) = SFits w64 z
-Legal (Nbits n v) = n ≤ 64
+use Rattle.replay.specs.Code.Put.{bitsOf, Legal}
 
 pub short : (p : Put) → Legal p → length (bitsOf p) ≤ 128
 short (Uint v) h = omega (arith, length-codeU v, leading-log2 33 (v + 1) (omega arith) (omega arith))
