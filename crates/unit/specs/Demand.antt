@@ -12,6 +12,7 @@ use Rattle.wavelet.specs.Planes.{Band}
 use Rattle.unit.specs.declared.Settings.{Settings}
 use Rattle.unit.specs.declared.PictureKind.{PictureKind}
 use Rattle.unit.specs.declared.PictureKind.the-variants.{LowDelay, HighQuality}
+use Rattle.unit.specs.Limits.{lastIndex}
 use Rattle.unit.specs.Three.{Three}
 use Rattle.unit.specs.Sizes.{Size, sizesOf, depthsOf}
 use Rattle.unit.specs.Slices.{Grid, sliceOf}
@@ -74,7 +75,7 @@ FitsIn a = trimmedCost (a .numbers .y) + trimmedCost (alternated (a .numbers .c1
 -- a slice that fits drops nothing, and every slice of an index below 127 fits
 pub record LowDrops (a : SlicePlan) : Type 0 where
   pub whole : FitsIn a → a .kept ≡ a .numbers
-  pub fits : a .index < 127 → FitsIn a
+  pub fits : a .index < lastIndex LowDelay → FitsIn a
 
 -- which slices drop no number: a low-delay one that fits, and every one of high quality
 abbrev pub Drops : PictureKind → SlicePlan → Type 0

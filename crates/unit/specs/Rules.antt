@@ -3,7 +3,7 @@ use mathlib.Core.Bool.{Bool, cond}
 use mathlib.Core.List.{List, [], _∷_}
 use Prim.Native.Nat.{ℕ, zero, suc}
 
--- a rule: its number, and whether the call breaks it
+-- a rule: its number, which is not 0 (`Laws.Valid.numbered`), and whether the call breaks it
 pub record Rule : Type 0 where
   pub number : ℕ
   pub broken : Bool

@@ -1,8 +1,8 @@
 -- Wrong encoders, each shut out by what one small call comes to. The picture call's answer, output and work slice equal
 -- what `outcomeOf` gives (Encoded), and those of the row call what `answerOf` and `analysisBy` give
 -- (wavelet/RowCall), so an encoder that leaves anything else at one of these calls breaks that contract. At each call
--- stands what the definition gives, and what wrong encoders told and left: each was built without proof from edited
--- code, and run at that call.
+-- stands what the definition gives (`right`), and that it is not what wrong encoders told and left there (`apart`): each
+-- was built without proof from edited code, and run at that call.
 use mathlib.Core.Path.{_≡_, refl}
 use mathlib.Core.Bool.{Bool, true, false, _&&_, _||_}
 use mathlib.Core.List.{List, [], _∷_, _++_, map, flatten}
@@ -13,10 +13,10 @@ use lib.ListN.{length, replicate, set}
 use Rattle.laws.specs.Wrap.{wrap}
 use Rattle.codewords.specs.Bit.{lit}
 use Rattle.codewords.specs.Bytes.{pack}
-use Rattle.codewords.specs.Code.{log2In, log2, interleaved, codeU, codeS, codes, zeroFilled}
+use Rattle.codewords.specs.CodeWord.{log2In, log2, interleaved, codeU, codeS, codes, zeroFilled}
 use Rattle.quantiser.specs.Standard.{factor}
 use Rattle.quantiser.specs.Quant.{cap, quantFactor, quantOffset, forwardBy, forwardQuant, inverseBy, inverseQuant}
-use Rattle.quantiser.specs.AnnexD.{tableD2, tableD4, defaultMatrix}
+use Rattle.quantiser.specs.AnnexD.{tableD2, tableD4, tableD7, defaultMatrix}
 use Rattle.wavelet.specs.Depth.{depthLimit}
 use Rattle.wavelet.specs.Lifting.{within, dot, delta, lifted, analysis}
 use Rattle.wavelet.specs.Filters.{legall, haar0, fidelity, analysisBy}
@@ -387,6 +387,58 @@ pub record WrongEncoders : Type 0 where
       ((1 ∷ 2 ∷ 3 ∷ 4 ∷ 5 ∷ 6 ∷ 7 ∷ 8 ∷ 9 ∷ 10 ∷ 12 ∷ 12 ∷ [])
       ∷ [])
 
+-- ---- the number of the first rule that a call breaks
+-- with planes p, and a work slice of n numbers
+abbrev first : ℕ → Three (List ℕ) → List ℕ → List ℕ → ℕ
+first n p m ws = refusalOf (settingsOf ws) m p (replicate n (pos 5))
+
+-- without planes, so that a call that breaks no rule before 12 breaks this one; without a matrix
+abbrev firsts : List (List ℕ) → List ℕ
+firsts wss = map (first 0 (planes [] [] []) []) wss
+
+abbrev format : ℕ → List ℕ → List ℕ
+format n ws = set ws 13 n
+
+abbrev mode : ℕ → List ℕ → List ℕ
+mode n ws = set ws 14 n
+
+-- two samples across and two down
+abbrev frame : List ℕ
+frame = wide 2 (high 2 job)
+
+pub record Numbers : Type 0 where
+  -- each limit and one more: both wavelets, the depths, slices across, down and all, scaler, prefix bytes
+  pub shape : firsts
+      (wavelet 6 job ∷ set job 1 7 ∷ set job 2 7
+      ∷ depth 8 job ∷ depth 9 job ∷ depthHo 8 job ∷ depthHo 9 job
+      ∷ across 65535 job ∷ across 65536 job ∷ across 0 job ∷ set job 6 65535 ∷ set job 6 65536 ∷ set job 6 0
+      ∷ set (across 1024 job) 6 1024 ∷ set (across 1025 job) 6 1024
+      ∷ scaler 65535 job ∷ scaler 65536 job ∷ scaler 0 job ∷ set job 7 255 ∷ set job 7 256 ∷ [])
+      ≡ 12 ∷ 1 ∷ 1 ∷ 10 ∷ 2 ∷ 10 ∷ 2 ∷ 12 ∷ 3 ∷ 3 ∷ 12 ∷ 3 ∷ 3 ∷ 12 ∷ 3 ∷ 12 ∷ 4 ∷ 4 ∷ 12 ∷ 4 ∷ []
+  -- low delay by rate, the fixed index, the target
+  pub rate : firsts
+      (set job 0 0 ∷ set (index 1 job) 0 0 ∷ low 1 ∷ index 255 job ∷ index 256 job ∷ target 1073741824 job ∷ target 1073741825 job ∷ [])
+      ≡ 5 ∷ 5 ∷ 12 ∷ 12 ∷ 6 ∷ 12 ∷ 7 ∷ []
+  -- format, mode, sides, excursions, a colour without samples, a field without rows
+  pub frame-kept : firsts
+      (format 2 frame ∷ format 3 frame ∷ mode 1 frame ∷ mode 2 frame ∷ wide 65535 job ∷ wide 65536 job ∷ wide 0 job ∷ high 65535 job ∷ high 65536 job
+      ∷ high 0 job ∷ excursion 65535 job ∷ set job 15 65536 ∷ set job 15 0 ∷ set job 16 65536 ∷ set job 16 0 ∷ format 1 job ∷ mode 1 job ∷ [])
+      ≡ 12 ∷ 8 ∷ 12 ∷ 8 ∷ 12 ∷ 8 ∷ 8 ∷ 12 ∷ 8 ∷ 8 ∷ 12 ∷ 8 ∷ 8 ∷ 8 ∷ 8 ∷ 8 ∷ 8 ∷ []
+  -- a custom matrix by its values, the default by its depth
+  pub matrix : map (λ m. first 0 (planes [] [] []) m (custom job)) ((255 ∷ []) ∷ (256 ∷ []) ∷ [] ∷ (0 ∷ 0 ∷ []) ∷ []) ≡ 12 ∷ 9 ∷ 9 ∷ 9 ∷ []
+  pub default : firsts (depth 4 job ∷ depth 5 job ∷ []) ≡ 12 ∷ 10 ∷ []
+  -- the padded area, each plane, the work slice
+  pub area : firsts (wide 8192 (high 8192 job) ∷ wide 8193 (high 8192 job) ∷ []) ≡ 12 ∷ 11 ∷ []
+  pub lent : first 9 (luma (128 ∷ [])) [] job ∷ first 8 (luma (128 ∷ [])) [] job ∷ first 9 (planes [] (128 ∷ []) (128 ∷ [])) [] job
+      ∷ first 9 (planes (128 ∷ []) [] (128 ∷ [])) [] job ∷ first 9 (planes (128 ∷ []) (128 ∷ []) []) [] job ∷ []
+      ≡ 0 ∷ 13 ∷ 12 ∷ 12 ∷ 12 ∷ []
+  -- two rules that can be broken together, one behind the other: the first one counts
+  pub order : firsts
+      (wavelet 7 (depth 9 job) ∷ depth 9 (across 0 job) ∷ across 0 (scaler 0 job) ∷ scaler 0 (set job 0 0) ∷ set (index 256 job) 0 0
+      ∷ index 256 (wide 0 job) ∷ target 1073741825 (wide 0 job) ∷ wide 0 (custom job) ∷ custom (wide 8193 (high 8192 job))
+      ∷ depth 5 (wide 8193 (high 8192 job)) ∷ wide 8193 (high 8192 job) ∷ job ∷ [])
+      ≡ 1 ∷ 2 ∷ 3 ∷ 4 ∷ 5 ∷ 6 ∷ 7 ∷ 8 ∷ 9 ∷ 10 ∷ 11 ∷ 12 ∷ []
+
 pub record WrongRows : Type 0 where
   pub legall-row :
       Becomes 1 (0 ∷ 1 ∷ []) (1 ∷ 1 ∷ [])
@@ -400,6 +452,8 @@ pub record WrongRows : Type 0 where
       -- tap_sign has another sign of one tap
       ((3 ∷ 0 ∷ [])
       ∷ [])
+  -- the row call's refusals, and the row of 65,536 numbers, which is not refused
+  pub row-numbers : answerOf 6 [] ∷ answerOf 7 [] ∷ answerOf 1 (replicate 65537 (pos 0)) ∷ answerOf 7 (replicate 65537 (pos 0)) ∷ [] ≡ 0 ∷ 1 ∷ 15 ∷ 1 ∷ []
   pub longest-row :
       GivesList (answerOf 1 (replicate 65536 (pos 0)) ∷ []) (0 ∷ [])
       -- longest_refused refuses a row of 65,536 numbers
@@ -441,5 +495,19 @@ unfolding analysis legall fidelity within dot delta lifted answerOf wrap
 wrong-rows = record {
   legall-row = record { right = refl; apart = refl };
   fidelity-row = record { right = refl; apart = refl };
+  row-numbers = refl;
   longest-row = record { right = refl; apart = refl };
+}
+
+pub call-numbers : Numbers
+unfolding settingsOf refusalOf workNeeded depthLimit lumaSize colourSize paddedSize defaultMatrix tableD2 tableD4 tableD7
+call-numbers = record {
+  shape = refl;
+  rate = refl;
+  frame-kept = refl;
+  matrix = refl;
+  default = refl;
+  area = refl;
+  lent = refl;
+  order = refl;
 }
