@@ -17,12 +17,19 @@ use Rattle.picture.proofs.front.refusal.no_matrix.Reads as no-matrix-re
 abbrev rules : tie.Start → List Rule
 rules c = matrixRules (c .args .s) (c .args .matrix .now)
 
+-- the start of the call
+abbrev known : tie.After-shared-slice-known → tie.Start
+known c = c .before
+
+abbrev start : tie.After-bad-matrix → tie.Start
+start c = known (c .before)
+
 -- the same where the first of them are kept
 abbrev rules-1 : tie.Else1 → List Rule
-rules-1 c = rules (c .before .before .before)
+rules-1 c = rules (start (c .before))
 
-passed-1 : (c : tie.Else1) → first (drop 1 (rules (c .before .before .before))) ≡ first (rules (c .before .before .before))
-passed-1 c = goes-on 9 (drop 1 (rules (c .before .before .before))) (c .before .bad-matrix .ensures) (c .if1 .left)
+passed-1 : (c : tie.Else1) → first (drop 1 (rules (start (c .before)))) ≡ first (rules (start (c .before)))
+passed-1 c = goes-on 9 (drop 1 (rules (start (c .before)))) (c .before .bad-matrix .ensures) (c .if1 .left)
 
 passed-2 : (c : tie.Else2) → first (drop 2 (rules-1 (c .before .before))) ≡ first (rules-1 (c .before .before))
 passed-2 c = goes-on 10 (drop 2 (rules-1 (c .before .before))) (c .before .no-matrix .ensures) (c .if2 .left) ∙ passed-1 (c .before .before)
@@ -31,7 +38,7 @@ bad-matrix-requires : tie.Need-bad-matrix-requires
 bad-matrix-requires c κs = search needs
 
 returns : tie.Need-returns
-returns c = stops 9 (drop 1 (rules (c .before .before .before))) (c .before .bad-matrix .ensures) (c .if1 .taken)
+returns c = stops 9 (drop 1 (rules (start (c .before)))) (c .before .bad-matrix .ensures) (c .if1 .taken)
 
 no-matrix-requires : tie.Need-no-matrix-requires
 no-matrix-requires c κs = search needs

@@ -19,15 +19,22 @@ use Rattle.picture.proofs.front.refusal.short_work.Reads as short-work-
 abbrev rules : tie.Start → List Rule
 rules c = memoryRules (c .args .s) (planes (c .args .y .now) (c .args .c1 .now) (c .args .c2 .now)) (c .args .work .now)
 
+-- the start of the call
+abbrev known : tie.After-shared-slice-known2 → tie.Start
+known c = c .before .before
+
+abbrev start : tie.After-bad-area → tie.Start
+start c = known (c .before .before)
+
 -- the same where the first of them are kept
 abbrev rules-1 : tie.Else1 → List Rule
-rules-1 c = rules (c .before .before .before .before .before)
+rules-1 c = rules (start (c .before))
 
 abbrev rules-2 : tie.Else2 → List Rule
 rules-2 c = rules-1 (c .before .before)
 
-passed-1 : (c : tie.Else1) → first (drop 1 (rules (c .before .before .before .before .before))) ≡ first (rules (c .before .before .before .before .before))
-passed-1 c = goes-on 11 (drop 1 (rules (c .before .before .before .before .before))) (c .before .bad-area .ensures) (c .if1 .left)
+passed-1 : (c : tie.Else1) → first (drop 1 (rules (start (c .before)))) ≡ first (rules (start (c .before)))
+passed-1 c = goes-on 11 (drop 1 (rules (start (c .before)))) (c .before .bad-area .ensures) (c .if1 .left)
 
 passed-2 : (c : tie.Else2) → first (drop 2 (rules-1 (c .before .before))) ≡ first (rules-1 (c .before .before))
 passed-2 c = goes-on 12 (drop 2 (rules-1 (c .before .before))) (c .before .bad-planes .ensures) (c .if2 .left) ∙ passed-1 (c .before .before)
@@ -39,7 +46,7 @@ bad-area-requires : tie.Need-bad-area-requires
 bad-area-requires c κs = search needs
 
 returns : tie.Need-returns
-returns c = stops 11 (drop 1 (rules (c .before .before .before .before .before))) (c .before .bad-area .ensures) (c .if1 .taken)
+returns c = stops 11 (drop 1 (rules (start (c .before)))) (c .before .bad-area .ensures) (c .if1 .taken)
 
 bad-planes-requires : tie.Need-bad-planes-requires
 bad-planes-requires c κs = search needs

@@ -23,8 +23,11 @@ use Rattle.picture.proofs.front.refusal.shape_refusal.Reads as shape-re
 abbrev known : tie.After-shared-slice-known2 → tie.Start
 known c = c .before .before
 
+abbrev lent : tie.After-shared-slice-known4 → tie.Start
+lent c = known (c .before .before)
+
 abbrev shaped : tie.After-shape-refusal → tie.Start
-shaped c = known (c .before .before .before)
+shaped c = lent (c .before)
 
 abbrev rated : tie.After-rate-refusal → tie.Start
 rated c = shaped (c .before .before)

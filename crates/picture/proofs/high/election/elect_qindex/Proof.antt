@@ -56,9 +56,10 @@ loop-less c =
     let tried = c .before .before in
     let next = tried .before in
     let turn = next .before in
-    let v = turn .before .before .loop in
+    let loop = turn .before .before in
+    let v = loop .loop in
     let n = next .next-index in
-    let t = turn .before .before .before .args .t in
+    let t = loop .before .args .t in
     search-less _ (t .lo) (lastIndex HighQuality) (v .r) (v .inv .0) (n .result) (n .ensures .0) (n .ensures .1) (tried .fits2 .result) _ (tried .fits2 .ensures) (c .before .narrowed .ensures)
 
 loop-again : tie.Need-loop-again Inv-loop μ-loop
@@ -66,9 +67,10 @@ loop-again c =
     let tried = c .before .before in
     let next = tried .before in
     let turn = next .before in
-    let v = turn .before .before .loop in
+    let loop = turn .before .before in
+    let v = loop .loop in
     let n = next .next-index in
-    let t = turn .before .before .before .args .t in (
+    let t = loop .before .args .t in (
       search-turn _ (t .lo) (lastIndex HighQuality) (v .r) (v .inv .0) (n .result) (n .ensures .0) (n .ensures .1) (tried .fits2 .result) _ (tried .fits2 .ensures) (c .before .narrowed .ensures),
       c .wider .ensures .1,
     )

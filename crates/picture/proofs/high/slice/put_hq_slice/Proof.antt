@@ -18,7 +18,7 @@ abbrev prefix-known : tie.After-slice-known2 → tie.After-put-prefix
 prefix-known c = c .before .before
 
 abbrev prefixed : tie.After-put-nbits → tie.After-put-prefix
-prefixed c = prefix-known (c .before .before .before)
+prefixed c = let arg = c .before .before in prefix-known (arg .before)
 
 abbrev index-known : tie.After-slice-known3 → tie.After-put-nbits
 index-known c = c .before .before
