@@ -19,22 +19,37 @@ use Rattle.picture.proofs.front.sizes.padded_size.Reads as padded-size-
 use Rattle.wavelet.proofs.component.analyse_components.Reads as analyse-components-reads
 
 -- samples have 16 bits
-samples : (c : tie.After-shared-slice-known3) → Sampled (planes (c .before .before .before .args .y .now) (c .before .before .before .args .c1 .now) (c .before .before .before .args .c2 .now))
+-- the states before the components are made
+abbrev lent : tie.After-shared-slice-known3 → tie.Start
+lent c = let second = c .before in second .before .before
+
+abbrev sized : tie.After-colour-size → tie.Start
+sized c = lent (c .before .before)
+
+abbrev sizes : tie.After-component-of → tie.After-colour-size
+sizes c = c .before .before
+
+abbrev start : tie.After-component-of2 → tie.Start
+start c = sized (sizes (c .before .before))
+
+samples : (c : tie.After-shared-slice-known3) → Sampled (planes (lent c .args .y .now) (lent c .args .c1 .now) (lent c .args .c2 .now))
 samples c = record {
   y = λ n. omega (arith, c .before .before .shared-slice-known .given n);
   c1 = λ n. omega (arith, c .before .shared-slice-known2 .given n);
   c2 = λ n. omega (arith, c .shared-slice-known3 .given n);
 }
 
-known : (c : tie.After-component-of2) → Taken (c .before .before .before .before .before .before .before .before .before .args .s) (c .before .before .component-of .result) (c .component-of2 .result)
+known : (c : tie.After-component-of2) → Taken (start c .args .s) (c .before .before .component-of .result) (c .component-of2 .result)
 known c =
-    let st = c .before .before .before .before .before .before .before .before .before in
+    let st = start c in
     let a = st .args in
     let s = a .s in
-    let l = c .before .before .before .before .before .luma-size in
-    let k = c .before .before .before .before .colour-size in
-    let p = c .before .before .before .padded-size in
-    let y = c .before .before .component-of in
+    let first = c .before .before in
+    let z = sizes first in
+    let l = z .before .luma-size in
+    let k = z .colour-size in
+    let p = first .before .padded-size in
+    let y = first .component-of in
     let q = c .before .padded-size2 in
     let u = c .component-of2 in
     taken-of s (planes (a .y .now) (a .c1 .now) (a .c2 .now)) (a .work .now) (st .pre) (y .result) (u .result)
@@ -49,7 +64,7 @@ colour-size-requires c κs = search needs
 
 padded-size-requires : tie.Need-padded-size-requires
 padded-size-requires c κs =
-    let st = c .before .before .before .before .before in
+    let st = sized c in
     let l = c .before .luma-size in
     padded-asks (st .args .s) (l .result) (lumaSize (st .args .s)) (levels-few (st .args .s) (st .pre .shape)) (st .pre .luma) (l .ensures)
 
@@ -58,8 +73,9 @@ component-of-requires c κs = search needs
 
 padded-size-requires-2 : tie.Need-padded-size-requires-2
 padded-size-requires-2 c κs =
-    let st = c .before .before .before .before .before .before .before in
-    let k = c .before .before .colour-size in
+    let z = sizes c in
+    let st = sized z in
+    let k = z .colour-size in
     padded-asks (st .args .s) (k .result) (colourSize (st .args .s)) (levels-few (st .args .s) (st .pre .shape)) (st .pre .colour) (k .ensures)
 
 component-of-requires-2 : tie.Need-component-of-requires-2
@@ -89,7 +105,7 @@ cast-t16 c = search needs
 analyse-components-requires : tie.Need-analyse-components-requires
 analyse-components-requires c κs =
     let at = c .before .before .before .before .before .before in
-    let st = at .before .before .before .before .before .before .before .before .before in
+    let st = start at in
     let a = st .args in
     let l = at .before .before .component-of .result in
     let u = at .component-of2 .result in
@@ -104,7 +120,7 @@ part-clear-start c = search needs
 part-clear-end : tie.Need-part-clear-end
 part-clear-end c =
     let at = c .before .before .before .before .before .before .before .before in
-    let st = at .before .before .before .before .before .before .before .before .before in
+    let st = start at in
     let a = st .args in
     let r = c .before .analyse-components in
     front-room (a .s) (planes (a .y .now) (a .c1 .now) (a .c2 .now)) (a .work .now) (r .last .0) (st .pre) (at .before .before .component-of .result) (at .component-of2 .result) (known at) (r .kept .0)
@@ -118,7 +134,7 @@ same-length c = search needs
 returns : tie.Need-returns
 returns c =
     let at = c .before .before .before .before .before .before .before .before .before .before .before in
-    let st = at .before .before .before .before .before .before .before .before .before in
+    let st = start at in
     let a = st .args in
     let l = at .before .before .component-of .result in
     let u = at .component-of2 .result in
