@@ -1,4 +1,4 @@
-// What follows from the settings alone: sizes, the matrix, refusals, and the header.
+// What comes before coding: sizes, the matrix of a call, refusals, and the header.
 pub(crate) mod header;
 pub(crate) mod matrix;
 pub(crate) mod refusal;

@@ -12,10 +12,10 @@ use Rattle.quantiser.specs.Quant.{cap, quantFactor, quantOffset, forwardBy, for
 use Rattle.wavelet.specs.Depth.{depthLimit}
 use Rattle.wavelet.specs.Planes.{dwtH, dwt}
 use Rattle.unit.specs.Sizes.{lumaSize, colourSize, intlog2, depthsOf}
-use Rattle.unit.specs.Subbands.{paddedSize}
+use Rattle.unit.specs.Subbands.{paddedSize, workNeeded}
 use Rattle.unit.specs.Slices.{region}
 use Rattle.unit.specs.Matrix.{matrixValues, carriedMatrix}
-use Rattle.unit.specs.Refusal.{workNeeded, refusalOf}
+use Rattle.unit.specs.Refusal.{refusalOf}
 use Rattle.unit.specs.Parameters.{codesU, parameterBits, parameterBytes}
 use Rattle.unit.specs.Predict.{predict, firstRow, scanRows, scan}
 use Rattle.unit.specs.Trim.{trimmed, trimmedCost, fitPrefix}

@@ -12,8 +12,8 @@ use Rattle.unit.specs.declared.Settings.{Settings}
 use Rattle.unit.specs.declared.PictureKind.the-variants.{HighQuality}
 use Rattle.unit.specs.declared.RateControl.the-variants.{Lossless}
 use Rattle.unit.specs.Sizes.{lumaSize, colourSize}
-use Rattle.unit.specs.Subbands.{paddedSize, subbandCount}
-use Rattle.unit.specs.Refusal.{workNeeded, refusalOf}
+use Rattle.unit.specs.Subbands.{paddedSize, subbandCount, workNeeded}
+use Rattle.unit.specs.Refusal.{refusalOf}
 
 -- a lossless picture of one grey sample in each component, by wavelet, horizontal-only wavelet, depth and
 -- horizontal-only depth, with a custom matrix or the default

@@ -2,7 +2,7 @@
 use mathlib.Core.Bool.{Bool, true, false, not, _&&_, _||_}
 use mathlib.Core.List.{List, [], _∷_, _++_}
 use mathlib.Core.Option.{Option, none, some}
-use Prim.Native.Nat.{ℕ, _+_, _*_}
+use Prim.Native.Nat.{ℕ, _*_}
 use lib.Dec.{eqb, ltb}
 use lib.IntN.{ℤ}
 use lib.ListN.{length}
@@ -14,8 +14,8 @@ use Rattle.unit.specs.declared.RateControl.{RateControl}
 use Rattle.unit.specs.declared.RateControl.the-variants.{Lossless, FixedQuantIndex, PictureBytes}
 use Rattle.unit.specs.Limits.{lastWavelet, sideLimit, sliceLimit, prefixLimit, lastIndex, targetLimit, lastFormat, lastMode, valueLimit, areaLimit}
 use Rattle.unit.specs.Three.{Three}
-use Rattle.unit.specs.Sizes.{Size, area, lumaSize, colourSize}
-use Rattle.unit.specs.Subbands.{paddedSize, subbandCount}
+use Rattle.unit.specs.Sizes.{area, lumaSize, colourSize}
+use Rattle.unit.specs.Subbands.{subbandCount, paddedArea, workNeeded}
 use Rattle.unit.specs.Matrix.{defaultOf}
 use Rattle.unit.specs.Rules.{Rule, rule, first}
 
@@ -31,14 +31,6 @@ anyAbove most (v ∷ vs) = ltb most v || anyAbove most vs
 abbrev pub isNone : {A : Type 0} → Option A → Bool
 isNone none = true
 isNone (some x) = false
-
--- the area of a component's padded plane
-abbrev pub paddedArea : Settings → Size → ℕ
-paddedArea s z = area (paddedSize (s .«dwt_depth_ho») (s .«dwt_depth») z)
-
--- how many numbers the work slice must have: three times the sum of the padded areas
-unfoldable pub workNeeded : Settings → ℕ
-workNeeded s = 3 * (paddedArea s (lumaSize s) + paddedArea s (colourSize s) + paddedArea s (colourSize s))
 
 -- ---- what breaks each rule
 -- 1: a wavelet index

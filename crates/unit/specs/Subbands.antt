@@ -1,11 +1,13 @@
--- Padded sides and the sides of the subbands: ST 2042-1, 13.2.1 and 13.2.3, by horizontal-only depth k and depth d.
+-- Padded sides and areas, and the sides of the subbands: ST 2042-1, 13.2.1 and 13.2.3, by horizontal-only depth k and
+-- depth d.
 use mathlib.Core.Bool.{cond}
 use mathlib.Core.List.{List, [], _∷_, _++_}
 use Prim.Native.Nat.{ℕ, zero, suc, _+_, _*_, _-_, _/_, _^_}
 use lib.Dec.{eqb, leb}
 use Rattle.laws.specs.Rows.{span}
 use Rattle.wavelet.specs.Pad.{paddedSide}
-use Rattle.unit.specs.Sizes.{Size}
+use Rattle.unit.specs.declared.Settings.{Settings}
+use Rattle.unit.specs.Sizes.{Size, area, lumaSize, colourSize}
 
 -- a component's padded size
 unfoldable pub paddedSize : ℕ → ℕ → Size → Size
@@ -35,3 +37,11 @@ subbandSizes k d z = let f = subbandSize k d z in f 0 ∷ (span f 1 k ++ triples
 -- how many subbands there are
 abbrev pub subbandCount : ℕ → ℕ → ℕ
 subbandCount k d = 1 + k + 3 * d
+
+-- the area of a component's padded plane
+abbrev pub paddedArea : Settings → Size → ℕ
+paddedArea s z = area (paddedSize (s .«dwt_depth_ho») (s .«dwt_depth») z)
+
+-- how many numbers the work slice must have: three times the sum of the padded areas
+unfoldable pub workNeeded : Settings → ℕ
+workNeeded s = 3 * (paddedArea s (lumaSize s) + paddedArea s (colourSize s) + paddedArea s (colourSize s))

@@ -15,7 +15,7 @@ use Rattle.unit.specs.declared.RateControl.the-variants.{Lossless, Fixed
 use Rattle.unit.specs.Three.{Three}
 use Rattle.unit.specs.Sizes.{lumaSize}
 use Rattle.unit.specs.Slices.{Grid, sliceCount}
-use Rattle.unit.specs.Refusal.{paddedArea}
+use Rattle.unit.specs.Subbands.{paddedArea}
 use Rattle.unit.specs.Matrix.{matrixValues, carriedMatrix}
 use Rattle.unit.specs.Parameters.{SliceParameters, lowDelay, highQuality, Parameters, parameterBits, overhead, fill}
 use Rattle.unit.specs.Coefficients.{coefficientsOf}

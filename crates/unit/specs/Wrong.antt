@@ -25,10 +25,10 @@ use Rattle.wavelet.specs.RowCall.{answerOf}
 use Rattle.unit.specs.declared.Answer.the-variants.{Accepted, Refused}
 use Rattle.unit.specs.Three.{Three, planes}
 use Rattle.unit.specs.Sizes.{lumaSize, colourSize, intlog2, depthsOf}
-use Rattle.unit.specs.Subbands.{paddedSize}
+use Rattle.unit.specs.Subbands.{paddedSize, workNeeded}
 use Rattle.unit.specs.Slices.{region}
 use Rattle.unit.specs.Matrix.{matrixValues, carriedMatrix}
-use Rattle.unit.specs.Refusal.{workNeeded, refusalOf}
+use Rattle.unit.specs.Refusal.{refusalOf}
 use Rattle.unit.specs.Parameters.{extendedBits, codesU, parameterBits, parameterBytes}
 use Rattle.unit.specs.Predict.{predict, firstRow, restRow, nextRow, nextRows, scanRows, scan}
 use Rattle.unit.specs.Trim.{trimmed, trimmedCost, fitPrefix}

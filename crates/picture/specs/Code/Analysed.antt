@@ -13,9 +13,8 @@ use Rattle.unit.specs.declared.PictureKind.{PictureKind}
 use Rattle.unit.specs.declared.PictureKind.the-variants.{LowDelay, HighQuality}
 use Rattle.unit.specs.Three.{Three}
 use Rattle.unit.specs.Sizes.{Size, lumaSize, colourSize}
-use Rattle.unit.specs.Subbands.{paddedSize}
+use Rattle.unit.specs.Subbands.{paddedSize, paddedArea}
 use Rattle.unit.specs.Matrix.{defaultOf, matrixValues}
-use Rattle.unit.specs.Refusal.{paddedArea}
 use Rattle.unit.specs.Coefficients.{coefficientsOf}
 use Rattle.unit.specs.Code.Valid.{Shaped, Framed, Lent, RateFits, MatrixFits, Sized}
 use Rattle.picture.specs.declared.slices.layout.Component.{Component}

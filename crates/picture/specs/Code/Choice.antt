@@ -98,6 +98,7 @@ isTarget (FixedQuantIndex q) = false
 isTarget (PictureBytes b) = true
 
 -- ---- conditions and outcomes
+-- terms by which slices can be planned
 pub record TermsIn (t : Terms) : Type 0 where
   pub rate : RateFits HighQuality (t .rate)
   pub prefix : t .prefix ≤ 255

@@ -26,6 +26,7 @@ abbrev pub outputBy : Settings → Plan → List ℕ → ℕ → List ℕ
 outputBy s a out zero = unitOf s a ++ drop (lengthOf s a) out
 outputBy s a out (suc n) = out
 
+-- answer and output after coding, by the plan a
 pub record Codes (s : Settings) (a : Plan) (out out′ : List ℕ) (r : Answer) : Type 0 where
   pub answer : r ≡ answerBy s a (codingRefusal (length out) (lengthOf s a))
   pub output : out′ ≡ outputBy s a out (codingRefusal (length out) (lengthOf s a))

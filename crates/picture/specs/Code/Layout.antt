@@ -86,6 +86,7 @@ restNumbers w l c second pair k q (suc n) =
     restNumbers w l c second pair k q n ++ stripNumbers w (stripOf l c second pair (suc n) (startOf l c (suc n)) k q)
 
 -- ---- conditions
+-- a layout that can be read: few levels, slices and values
 pub record LayoutIn (l : Layout) : Type 0 where
   pub depths : l .depth + l .«depth_ho» ≤ deepest
   pub across : (1 ≤ l .across) × (l .across ≤ sideLimit)
@@ -93,18 +94,21 @@ pub record LayoutIn (l : Layout) : Type 0 where
   -- as many as the largest matrix has, 1 + 3 * deepest
   pub values : length (l .values) ≡ 25
 
+-- a component whose sides and places are small
 pub record ComponentIn (c : Component) : Type 0 where
   pub width : c .width ≤ 65536
   pub height : c .height ≤ 65536
   pub coefs : c .coefs < 2 ^ 30
   pub rebuilt : c .rebuilt < 2 ^ 30
 
+-- what is asked of a window of slice k
 pub record WindowIn (l : Layout) (c : Component) (n k : ℕ) : Type 0 where
   pub layout : LayoutIn l
   pub first : ComponentIn c
   pub band : n < bandCount l
   pub slice : k < sliceCount (gridIn l)
 
+-- what is asked of a strip of slice k at index q
 pub record StripIn (l : Layout) (c second : Component) (n from k q : ℕ) : Type 0 where
   pub layout : LayoutIn l
   pub first : ComponentIn c

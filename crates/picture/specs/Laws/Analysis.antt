@@ -27,9 +27,8 @@ use Rattle.unit.specs.declared.Settings.{Settings}
 use Rattle.unit.specs.Limits.{areaLimit, sideLimit}
 use Rattle.unit.specs.Three.{Three}
 use Rattle.unit.specs.Sizes.{Size, area, lumaSize, colourSize, intlog2, depthsOf, offsetOf}
-use Rattle.unit.specs.Subbands.{paddedSize}
+use Rattle.unit.specs.Subbands.{paddedSize, paddedArea, workNeeded}
 use Rattle.unit.specs.Matrix.{matrixValues}
-use Rattle.unit.specs.Refusal.{paddedArea, workNeeded}
 use Rattle.unit.specs.Coefficients.{bandsOf, coefficientsOf}
 use Rattle.unit.specs.Code.Valid.{Between}
 use Rattle.unit.specs.Code.Valid as valid

@@ -21,7 +21,7 @@ use Rattle.unit.specs.Three.{Three}
 use Rattle.unit.specs.Sizes.{lumaSize}
 use Rattle.unit.specs.Slices.{Grid, sliceCount}
 use Rattle.unit.specs.Matrix.{matrixValues}
-use Rattle.unit.specs.Refusal.{paddedArea}
+use Rattle.unit.specs.Subbands.{paddedArea}
 use Rattle.unit.specs.Parameters.{overhead}
 use Rattle.unit.specs.Coefficients.{coefficientsOf}
 use Rattle.unit.specs.Quantised.{numbersHQ}

@@ -17,9 +17,9 @@ use Rattle.quantiser.specs.Code.Default.{places, handed}
 use Rattle.wavelet.specs.Depth.{deepest}
 use Rattle.unit.specs.declared.Settings.{Settings}
 use Rattle.unit.specs.Sizes.{Size, lumaSize, colourSize, intlog2}
-use Rattle.unit.specs.Subbands.{paddedSize}
+use Rattle.unit.specs.Subbands.{paddedSize, paddedArea}
 use Rattle.unit.specs.Matrix.{defaultOf, matrixValues, carriedMatrix}
-use Rattle.unit.specs.Refusal.{isNone, paddedArea}
+use Rattle.unit.specs.Refusal.{isNone}
 use Rattle.unit.specs.Code.Valid.{MatrixFits}
 use Rattle.unit.specs.Laws.Test.{no-truth}
 use Rattle.unit.specs.Laws.Intlog2.{intlog2-least}

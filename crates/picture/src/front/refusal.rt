@@ -11,9 +11,9 @@ use wavelet::depth::too_deep;
 ghost use mathlib.Core.Path.{_≡_};
 ghost use Prim.Native.Nat.{_*_, _≤_};
 ghost use Rattle.unit.specs.Sizes.{area};
-ghost use Rattle.unit.specs.Subbands.{subbandCount};
+ghost use Rattle.unit.specs.Subbands.{subbandCount, paddedArea};
 ghost use Rattle.unit.specs.Rules.{first};
-ghost use Rattle.unit.specs.Refusal.{outside, anyAbove, badWavelets, badDepths, badSlices, badSizes, noTarget, badIndex, badTarget, badFrame, badMatrix, noMatrix, badArea, badPlanes, shortWork, paddedArea, shapeRules, rateRules, frameRules, matrixRules, memoryRules, refusalOf};
+ghost use Rattle.unit.specs.Refusal.{outside, anyAbove, badWavelets, badDepths, badSlices, badSizes, noTarget, badIndex, badTarget, badFrame, badMatrix, noMatrix, badArea, badPlanes, shortWork, shapeRules, rateRules, frameRules, matrixRules, memoryRules, refusalOf};
 ghost use Rattle.unit.specs.Outcome.{codingRefusal};
 ghost use Rattle.picture.specs.Code.Sides.{sizeIn, Measured, Within};
 ghost use Rattle.unit.specs.Three.{planes};
@@ -149,6 +149,7 @@ fn product(a: u32, b: u32) -> u64
     a as u64 * b as u64
 }
 
+// The area of a component.
 fn area(z: Sides) -> u64
     ensures { λ r. ⌜ r ≡ area (sizeIn z) ⌝ }
 {
@@ -255,6 +256,7 @@ fn any_above(most: u32, values: &[u32]) -> bool
     false
 }
 
+// How many subbands a component has.
 fn subband_count(s: Settings) -> u64
     ensures { λ r. ⌜ r ≡ subbandCount (s .«dwt_depth_ho») (s .«dwt_depth») ⌝ }
 {

@@ -14,9 +14,8 @@ use Rattle.unit.specs.declared.RateControl.the-variants.{Lossless, Fixed
 use Rattle.unit.specs.Limits.{depthLimit, lastWavelet, sideLimit, sliceLimit, prefixLimit, lastIndex, targetLimit, lastFormat, lastMode, valueLimit, areaLimit}
 use Rattle.unit.specs.Three.{Three}
 use Rattle.unit.specs.Sizes.{area, lumaSize, colourSize, Size}
-use Rattle.unit.specs.Subbands.{subbandCount, paddedSize}
+use Rattle.unit.specs.Subbands.{subbandCount, paddedSize, paddedArea, workNeeded}
 use Rattle.unit.specs.Matrix.{defaultOf}
-use Rattle.unit.specs.Refusal.{paddedArea, workNeeded}
 
 -- n is from 1 to most
 pub record Between (most n : ℕ) : Type 0 where

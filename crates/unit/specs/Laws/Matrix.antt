@@ -16,8 +16,8 @@ use Rattle.unit.specs.declared.PictureKind.the-variants.{LowDelay, HighQ
 use Rattle.unit.specs.Three.{Three}
 use Rattle.unit.specs.Sizes.{lumaSize}
 use Rattle.unit.specs.Slices.{sliceCount}
-use Rattle.unit.specs.Subbands.{subbandCount}
-use Rattle.unit.specs.Refusal.{anyAbove, paddedArea}
+use Rattle.unit.specs.Subbands.{subbandCount, paddedArea}
+use Rattle.unit.specs.Refusal.{anyAbove}
 use Rattle.unit.specs.Matrix.{matrixValues, carriedMatrix}
 use Rattle.unit.specs.Parameters.{SliceParameters, lowDelay, highQuality, Parameters, overhead}
 use Rattle.unit.specs.Coefficients.{coefficientsOf}

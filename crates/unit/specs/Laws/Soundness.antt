@@ -20,7 +20,7 @@ use Rattle.unit.specs.Three.{Three, map3}
 use Rattle.unit.specs.Sizes.{Size, lumaSize, sizesOf}
 use Rattle.unit.specs.Slices.{Grid, sliceCount}
 use Rattle.unit.specs.Matrix.{matrixValues}
-use Rattle.unit.specs.Refusal.{paddedArea}
+use Rattle.unit.specs.Subbands.{paddedArea}
 use Rattle.unit.specs.Parameters.{SliceParameters, lowDelay, highQuality, overhead}
 use Rattle.unit.specs.Coefficients.{bandsOf, coefficientsOf}
 use Rattle.unit.specs.Quantised.{sizeOf}

@@ -20,10 +20,10 @@ use Rattle.unit.specs.declared.RateControl.the-variants.{Lossless, Fixed
 use Rattle.unit.specs.Limits.{depthLimit, deepest, lastWavelet, sideLimit, sliceLimit, prefixLimit, targetLimit, lastFormat, lastMode, areaLimit}
 use Rattle.unit.specs.Three.{Three}
 use Rattle.unit.specs.Sizes.{Size, area, halvedIf, fields, lumaSize, colourSize, depthsOf}
-use Rattle.unit.specs.Subbands.{paddedSize, subbandCount}
+use Rattle.unit.specs.Subbands.{paddedSize, subbandCount, paddedArea, workNeeded}
 use Rattle.unit.specs.Slices.{sliceCount}
 use Rattle.unit.specs.Matrix.{defaultOf, carriedMatrix}
-use Rattle.unit.specs.Refusal.{shapeRules, frameRules, noTarget, badIndex, badTarget, anyAbove, isNone, paddedArea, workNeeded, rules, refusalOf}
+use Rattle.unit.specs.Refusal.{shapeRules, frameRules, noTarget, badIndex, badTarget, anyAbove, isNone, rules, refusalOf}
 use Rattle.unit.specs.Code.Valid.{Shaped, Framed, Between, RateFits, MatrixFits, Valid, Sized}
 use Rattle.unit.specs.Parameters.{SliceParameters}
 use Rattle.unit.specs.Unit.{versionBy, majorVersion, gridOf, parametersBy, targetOf}

@@ -4,7 +4,7 @@ use lib.Dec.{ltb}
 use Prim.Native.Nat.{ℕ}
 use Rattle.unit.specs.Limits.{areaLimit}
 use Rattle.unit.specs.Sizes.{Size}
-use Rattle.unit.specs.Refusal.{paddedArea}
+use Rattle.unit.specs.Subbands.{paddedArea}
 use Rattle.picture.specs.Code.Sides.{sizeIn}
 use Rattle.picture.specs.Laws.Sides.{luma-within}
 use borrow.Author.Needs.{needs}

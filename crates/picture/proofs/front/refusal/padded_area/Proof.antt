@@ -2,7 +2,7 @@
 use mathlib.Core.Path.{_≡_, ap, _∙_}
 use native.Mathlib.Omega.{arith}
 use Rattle.unit.specs.Sizes.{Size, area}
-use Rattle.unit.specs.Refusal.{paddedArea}
+use Rattle.unit.specs.Subbands.{paddedArea}
 use Rattle.unit.specs.Laws.Valid.{levels-few}
 use Rattle.picture.specs.Code.Sides.{sizeIn}
 use Rattle.picture.specs.Laws.Sides.{padded-area-few}

@@ -1,7 +1,7 @@
 -- `front::refusal::short_work` meets its contract.
 use mathlib.Core.Path.{_≡_, refl, ap, _∙_}
 use Rattle.unit.specs.Sizes.{Size, lumaSize, colourSize}
-use Rattle.unit.specs.Refusal.{paddedArea, workNeeded}
+use Rattle.unit.specs.Subbands.{paddedArea, workNeeded}
 use Rattle.picture.specs.Code.Sides.{sizeIn}
 use Rattle.picture.specs.Laws.Sides.{luma-within, colour-within}
 use borrow.Author.Needs.{needs}
