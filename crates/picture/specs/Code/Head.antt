@@ -1,14 +1,13 @@
 -- The header's slice parameters as the definitions have them, its parts, and what writing it asks.
 use mathlib.Core.Bool.{not, cond}
 use mathlib.Core.List.{List, [], _++_}
-use Prim.Native.Nat.{ℕ, _*_, _≤_}
+use Prim.Native.Nat.{ℕ, _≤_}
 use lib.Dec.{eqb, leb}
 use lib.ListN.{length}
 use Rattle.codewords.specs.Bit.{Bits, lit}
 use Rattle.codewords.specs.CodeWord.{codeU}
 use Rattle.unit.specs.declared.Settings.{Settings}
 use Rattle.unit.specs.declared.PictureKind.{PictureKind}
-use Rattle.unit.specs.Limits.{sliceLimit}
 use Rattle.unit.specs.Slices.{sliceCount}
 use Rattle.unit.specs.Parameters.{flagged, SliceParameters, lowDelay, highQuality, overhead}
 use Rattle.unit.specs.LowDelay.{numeratorBy}
@@ -16,6 +15,7 @@ use Rattle.unit.specs.Unit.{majorVersion, gridOf, targetOf, lowParameters, pars
 use Rattle.picture.specs.declared.front.header.SliceParameters as code
 use Rattle.picture.specs.declared.front.header.SliceParameters.the-variants.{LowDelay, HighQuality}
 use Rattle.picture.specs.declared.front.matrix.Carried.{Carried}
+use Rattle.unit.specs.Code.Valid.{Shaped}
 use Rattle.picture.specs.Code.Matrix.{Carries}
 
 -- ---- the parts
@@ -42,10 +42,10 @@ abbrev pub sliceIn : code.SliceParameters → SliceParameters
 sliceIn (LowDelay n d) = lowDelay n d
 sliceIn (HighQuality p c) = highQuality p c
 
--- what an accepted call has: its matrix, and few slices
+-- what the header asks: the matrix of a call, and its shape
 pub record CanCarry (s : Settings) (c : Carried) : Type 0 where
   pub carries : Carries s c
-  pub slices : s .«slices_x» * s .«slices_y» ≤ sliceLimit
+  pub shape : Shaped s
 
 -- the head fits the output
 abbrev pub HeadRoom : Settings → List ℕ → code.SliceParameters → List ℕ → Type 0

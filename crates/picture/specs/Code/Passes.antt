@@ -9,9 +9,8 @@ use Rattle.laws.specs.Rows.{at}
 use Rattle.codewords.specs.Bytes.{toBytes}
 use Rattle.unit.specs.declared.Settings.{Settings}
 use Rattle.unit.specs.declared.PictureKind.the-variants.{HighQuality}
-use Rattle.unit.specs.Limits.{sideLimit}
 use Rattle.unit.specs.Plan.{SlicePlan}
-use Rattle.unit.specs.Code.Valid.{RateFits}
+use Rattle.unit.specs.Code.Valid.{Shaped, RateFits}
 use Rattle.unit.specs.Parameters.{overhead}
 use Rattle.unit.specs.HighQuality.{sliceSizeBy, needOf, largestNeed, scalerFrom}
 use Rattle.unit.specs.Unit.{majorVersion, highParameters}
@@ -61,8 +60,7 @@ pub record HighIn (s : Settings) (p : Picture) (w : List ℤ) : Type 0 where
   pub plain : p .layout .predicted ≡ false
   pub small : Small (p .front) (p .end) w
   pub rate : RateFits HighQuality (s .rate)
-  pub prefix : s .«slice_prefix_bytes» ≤ 255
-  pub scaler : (1 ≤ s .«slice_size_scaler») × (s .«slice_size_scaler» ≤ sideLimit)
+  pub shape : Shaped s
 
 -- the scaler that planning ends with, by any bound on the turns that suffices, and where the unit ends
 pub record Settles (w : List ℤ) (p : Picture) (s : Settings) (m : List ℕ) (r : Settled) : Type 0 where

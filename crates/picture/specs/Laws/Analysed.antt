@@ -67,7 +67,7 @@ values-by s m n false none e h g = absurd h
 values-by s m n false (some vs) e h g = g .many ∙ sym e
 
 pub called-carry : {s : Settings} {k : Carried} → Carries s k → Called s (lentIn k) → CanCarry s k
-called-carry h c = record { carries = h; slices = c .shape .slices }
+called-carry h c = record { carries = h; shape = c .shape }
 
 module _ {s : Settings} {m : List ℕ} (c : Called s m) where
   -- as many values as there are subbands

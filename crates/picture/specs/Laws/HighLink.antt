@@ -188,8 +188,7 @@ module _ {w : List ℤ} {p : Picture} {s : Settings} {m : List ℕ} (k : Coding 
     plain = plain-by s m (k .same);
     small = small-by s m (k .small);
     rate = rate-in;
-    prefix = k .called .shape .prefix;
-    scaler = (k .called .shape .scaler .some, k .called .shape .scaler .few);
+    shape = k .called .shape;
   })
 
   module _ {r : Settled} (z : Settles w p s m r) where

@@ -310,8 +310,7 @@ module _ {w : List ℤ} {p : Picture} {t : Terms} where
     plain = h .plain;
     small = o .small;
     rate = h .rate;
-    prefix = h .prefix;
-    scaler = h .scaler;
+    shape = h .shape;
   }
 
   -- one slice more

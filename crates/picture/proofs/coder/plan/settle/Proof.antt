@@ -25,7 +25,7 @@ abbrev μ-loop : tie.MeasureT-loop
 plan-picture-requires : tie.Need-plan-picture-requires Inv-loop μ-loop
 plan-picture-requires c κs =
     let st = c .before in
-    (st .pre .0, (st .pre .1, (st .pre .0 .scaler .0, omega (arith, st .pre .0 .scaler .1))))
+    (st .pre .0, (st .pre .1, (st .pre .0 .shape .scaler .some, omega (arith, st .pre .0 .shape .scaler .few))))
 
 loop-holds : tie.Need-loop-holds Inv-loop μ-loop
 loop-holds c =
@@ -34,7 +34,7 @@ loop-holds c =
     let a = st .args in
     let r = k .plan-picture in
     let h = st .pre .0 in (
-      settling-first _ (a .p) (a .s) (lentIn (a .m)) (r .result) (h .scaler .1) (plans-before (high-work h) (r .ensures .1) (r .ensures .0)),
+      settling-first _ (a .p) (a .s) (lentIn (a .m)) (r .result) (h .shape .scaler .few) (plans-before (high-work h) (r .ensures .1) (r .ensures .0)),
       notes-own (high-work h) (r .ensures .1),
     )
 
@@ -105,7 +105,7 @@ returns c =
     let h = st .pre .0 in
     let w = k .plan-picture in (
       settles-after (high-work h) (w .ensures .1)
-          (settling-ends _ (a .p) (a .s) (lentIn (a .m)) (v .c) (v .r) (h .scaler .0) (v .inv .0) (omega (arith, c .if1 .left))),
+          (settling-ends _ (a .p) (a .s) (lentIn (a .m)) (v .c) (v .r) (h .shape .scaler .some) (v .inv .0) (omega (arith, c .if1 .left))),
       notes-after (high-work h) (w .ensures .1) (v .inv .1),
     )
 
