@@ -1,7 +1,7 @@
 -- Wrong encoders, each shut out by what one small call comes to. The picture call's answer, output and work slice equal
 -- what `outcomeOf` gives (Encoded), and those of the row call what `answerOf` and `analysisBy` give
 -- (wavelet/RowCall), so an encoder that leaves anything else at one of these calls breaks that contract. At each call
--- stands what the definition gives (`right`), and that it is not what wrong encoders told and left there (`apart`): each
+-- stands what the definition gives (`right`), and that it is not what wrong encoders left there (`apart`): each
 -- was built without proof from edited code, and run at that call.
 use mathlib.Core.Path.{_≡_, refl}
 use mathlib.Core.Bool.{Bool, true, false, _&&_, _||_}
