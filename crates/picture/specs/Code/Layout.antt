@@ -16,7 +16,7 @@ use Rattle.picture.specs.declared.slices.strip.Strip.{Strip}
 use Rattle.picture.specs.declared.slices.layout.Component.{Component}
 use Rattle.picture.specs.declared.slices.layout.Layout.{Layout}
 use Rattle.picture.specs.declared.slices.layout.Window.{Window}
-use Rattle.picture.specs.Code.Strip.{Small, stripNumbers}
+use Rattle.picture.specs.Code.Strip.{Small, Bounds, stripNumbers}
 
 -- the level of the n-th subband: 0, the horizontal-only levels, then three to a level
 unfoldable pub levelOf : ℕ → ℕ → ℕ
@@ -131,3 +131,7 @@ pub record RunIn (l : Layout) (c second : Component) (a e k q : ℕ) (w : List �
   pub coefs2 : (a ≤ second .coefs) × (second .coefs + c .width * c .height ≤ e)
   pub rebuilt : c .rebuilt + c .width * c .height ≤ a
   pub rebuilt2 : second .rebuilt + c .width * c .height ≤ a
+
+-- components of which a slice's run lies in the work slice
+abbrev pub RunLies : Layout → Component → Component → ℕ → ℕ → List ℤ → Type 0
+RunLies l c second k q w = Bounds (λ a e. RunIn l c second a e k q w)

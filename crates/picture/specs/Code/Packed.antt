@@ -13,7 +13,11 @@ use Rattle.codewords.specs.CodeWord.{codeS}
 use Rattle.unit.specs.Trim.{isZero}
 use Rattle.picture.specs.declared.slices.strip.Strip.{Strip}
 use Rattle.picture.specs.declared.high.packed.Packing.{Packing}
-use Rattle.picture.specs.Code.Strip.{Plain}
+use Rattle.picture.specs.declared.slices.layout.Component.{Component}
+use Rattle.picture.specs.declared.slices.layout.Layout.{Layout}
+use Rattle.picture.specs.Code.Strip.{Plain, Bounds}
+use Rattle.picture.specs.Code.Layout.{RunIn}
+use Rattle.picture.specs.Code.Counts.{countOf}
 
 abbrev pub mark : ℕ
 mark = 2 ^ 52
@@ -67,6 +71,14 @@ pub record Packable (a : ℕ) (t : Packing) (k : ℕ) : Type 0 where
   pub room : t .at + due (t .zeros) + k ≤ a
   pub zeros : t .zeros + k ≤ 2 ^ 30
   pub bits : t .bits + t .zeros + 128 * k ≤ 2 ^ 62
+
+-- k more numbers of a strip of one component that is not predicted can be packed, before its coefficients
+abbrev pub PackIn : List ℤ → Strip → Packing → ℕ → Type 0
+PackIn l s t k = Bounds (λ a n. Single a n l s × Packable a t k)
+
+-- the numbers of all subbands of a component can be packed from place i on, before the coefficients
+abbrev pub PackRunIn : Layout → Component → ℕ → ℕ → ℕ → List ℤ → Type 0
+PackRunIn l c i k q w = Bounds (λ a e. RunIn l c c a e k q w × ((l .predicted ≡ false) × (i + countOf l c k ≤ a)))
 
 -- xs packed from t on, which gave v and r
 pub record Packs (w : List ℤ) (t : Packing) (xs : List ℤ) (v : List ℤ) (r : Packing) : Type 0 where

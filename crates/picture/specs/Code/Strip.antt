@@ -120,6 +120,21 @@ pub record Plain (a n : ℕ) (l : List ℤ) (s : Strip) : Type 0 where
   pub within : Within a n s
   pub plain : s .predicted ≡ false
 
+-- some bounds of the work slice of which P holds: rebuilt planes or packed runs stand before front, coefficients from
+-- there up to end
+pub record Bounds (P : ℕ → ℕ → Type 0) : Type 0 where
+  pub front : ℕ
+  pub end : ℕ
+  pub holds : P front end
+
+-- a strip lies in the work slice
+abbrev pub Lies : List ℤ → Strip → Type 0
+Lies l s = Bounds (λ a n. Small a n l × Within a n s)
+
+-- a strip that is not predicted lies in the work slice
+abbrev pub PlainLies : List ℤ → Strip → Type 0
+PlainLies l s = Bounds (λ a n. Plain a n l s)
+
 -- a place of a strip
 pub record Inside (s : Strip) (y x : ℕ) : Type 0 where
   pub below : s .top ≤ y

@@ -233,8 +233,8 @@ numbers-below : {p : Picture} {t : Terms} {w : List ℤ} {k q : ℕ} → PlanIn 
 unfolding numbersIn
 numbers-below {p} {t} {w} {k} {q} h l m =
     let s : SliceIn p w k q = plan-slice h k q l m in (
-      run-below (p .layout) (p .y) (p .front) (p .end) k q w (run-y s) (h .plain),
-      (run-below (p .layout) (p .c1) (p .front) (p .end) k q w (run-c1 s) (h .plain), run-below (p .layout) (p .c2) (p .front) (p .end) k q w (run-c2 s) (h .plain)),
+      run-below (p .layout) (p .y) (p .front) (p .end) k q w (run-y s) (h .plain) _ (omega arith),
+      (run-below (p .layout) (p .c1) (p .front) (p .end) k q w (run-c1 s) (h .plain) _ (omega arith), run-below (p .layout) (p .c2) (p .front) (p .end) k q w (run-c2 s) (h .plain) _ (omega arith)),
     )
 
 -- the choice of slice k, whose words stand behind those of the slices before

@@ -29,7 +29,7 @@ use Rattle.picture.specs.declared.slices.layout.Component.{Component}
 use Rattle.picture.specs.declared.slices.layout.Layout.{Layout}
 use Rattle.picture.specs.declared.slices.layout.Window.{Window}
 use Rattle.picture.specs.declared.slices.tally.Tally.{Tally}
-use Rattle.picture.specs.Code.Strip.{stripNumbers, Small, Within, Plain}
+use Rattle.picture.specs.Code.Strip.{stripNumbers, Within, Lies, PlainLies}
 use Rattle.picture.specs.Laws.Strip.{rows-small, rows-length}
 use Rattle.picture.specs.Code.Cost.{add1, addAll, noCost, Countable}
 use Rattle.picture.specs.Laws.Added.{added-none, added-append}
@@ -38,7 +38,7 @@ use Rattle.picture.specs.Code.Tally.{tally1, tallyAll, noTally, Addable}
 use Rattle.picture.specs.Laws.Tally.{addable-after, tally-of, TallyOf}
 use Rattle.picture.specs.Code.Put.{RoomFor, Puts}
 use Rattle.picture.specs.Laws.Put.{puts-none, puts-same, puts-then, room-same, part-room}
-use Rattle.picture.specs.Code.Layout.{levelOf, bandCount, gridIn, bandSize, startOf, windowOf, stripOf, runNumbers, restNumbers, LayoutIn, WindowIn, StripIn, RunIn}
+use Rattle.picture.specs.Code.Layout.{levelOf, bandCount, gridIn, bandSize, startOf, windowOf, stripOf, runNumbers, restNumbers, LayoutIn, WindowIn, StripIn, RunIn, RunLies}
 
 -- ---- levels
 pub level-low : (k n : ℕ) → n ≤ k → levelOf k n ≡ n
@@ -169,6 +169,9 @@ module _ {l : Layout} {k : ℕ} (i : LayoutIn l) (h : k < sliceCount (gridIn l))
 
 -- ---- strips
 module _ {l : Layout} {c second : Component} {a e k q : ℕ} {w : List ℤ} (h : RunIn l c second a e k q w) where
+  pub run-lies : RunLies l c second k q w
+  run-lies = record { front = a; end = e; holds = h }
+
   pub strip-within : (pair : Bool) (n : ℕ) → n < bandCount l → Within a e (stripOf l c second pair n (startOf l c n) k q)
   unfolding stripOf
   strip-within pair n b =
@@ -190,6 +193,9 @@ module _ {l : Layout} {c second : Component} {a e k q : ℕ} {w : List ℤ} (h :
         offset = refl;
         index = omega (arith, h .index);
       }
+
+  strip-lies : (pair : Bool) (n : ℕ) → n < bandCount l → Lies w (stripOf l c second pair n (startOf l c n) k q)
+  strip-lies pair n b = record { front = a; end = e; holds = (h .small, strip-within pair n b) }
 
   -- what a strip asks
   pub strip-in : (n start : ℕ) → n < bandCount l → start ≡ startOf l c n → StripIn l c second n start k q
@@ -383,16 +389,16 @@ module _ (w : List ℤ) (l : Layout) (c second : Component) (pair : Bool) (k q :
 
     pub cost-ready : (t r : Cost) → s ≡ bandStrip l c second pair k q n → r ≡ addAll t (runNumbers w l c second pair k q n)
         → Countable t (2 * (c .width * c .height))
-        → Small a e w × (Within a e s × Countable r (2 * ((s .bottom - s .top) * (s .right - s .left))))
-    cost-ready t r d f u = rw (f, d) (h .small, (strip-within h pair n b, run-countable w l c second pair k q t n b u))
+        → Lies w s × Countable r (2 * ((s .bottom - s .top) * (s .right - s .left)))
+    cost-ready t r d f u = rw (f, d) (strip-lies h pair n b, run-countable w l c second pair k q t n b u)
 
     pub put-ready : {o o′ : List ℕ} {p p′ : Put} → s ≡ bandStrip l c second pair k q n → RoomFor o p (runNumbers w l c second pair k q (bandCount l))
-        → Puts o p (runNumbers w l c second pair k q n) o′ p′ → RoomFor o′ p′ (stripNumbers w s) × (Small a e w × Within a e s)
+        → Puts o p (runNumbers w l c second pair k q n) o′ p′ → RoomFor o′ p′ (stripNumbers w s) × Lies w s
     put-ready {p = p} d r u =
         rw d (
           part-room (bandNumbers w l c second pair k q) (bandCount l) n b (room-same p _ _ (run-chunks w l c second pair k q (bandCount l)) r)
               (puts-same (run-chunks w l c second pair k q n) u),
-          (h .small, strip-within h pair n b),
+          strip-lies h pair n b,
         )
 
 -- ---- the first subband, and the others
@@ -467,12 +473,16 @@ module _ (w : List ℤ) (l : Layout) (c second : Component) (pair : Bool) (k q :
     -- what the next band asks
     pub tally-ready : (t r : Tally) → 1 ≤ n → s ≡ bandStrip l c second pair k q n → r ≡ tallyAll t (restNumbers w l c second pair k q (n - 1))
         → Addable t (2 * (c .width * c .height))
-        → Plain a e w s × Addable r (2 * ((s .bottom - s .top) * (s .right - s .left)))
+        → PlainLies w s × Addable r (2 * ((s .bottom - s .top) * (s .right - s .left)))
     unfolding stripOf
     tally-ready t r g d f u =
         let m : suc (n - 1) ≡ n = omega arith in
         rw (f, d) (
-          record { small = h .small; within = strip-within h pair n b; plain = ap (λ (b : Bool). l .predicted && b) (ne-eqb n 0 (omega arith)) ∙ and-false (l .predicted) },
+          record {
+            front = a;
+            end = e;
+            holds = record { small = h .small; within = strip-within h pair n b; plain = ap (λ (b : Bool). l .predicted && b) (ne-eqb n 0 (omega arith)) ∙ and-false (l .predicted) };
+          },
           addable-after t (restNumbers w l c second pair k q (n - 1)) _ _ u (rest-small (n - 1))
               (omega (arith, rest-length (n - 1), ap (startOf l c) m, partSize-most (gridIn l) (bandSize l c n) k, band-fits l c n b)),
         )
@@ -482,10 +492,13 @@ pub first-within : {l : Layout} {c second : Component} {a e k q : ℕ} {w : List
 unfolding startOf
 first-within h pair s e = rw e (strip-within h pair 0 (omega arith))
 
+pub first-lies : {l : Layout} {c second : Component} {a e k q : ℕ} {w : List ℤ} → RunIn l c second a e k q w → (pair : Bool) (s : Strip) → s ≡ stripOf l c second pair 0 0 k q → Lies w s
+first-lies h pair s e = record { front = _; end = _; holds = (h .small, first-within h pair s e) }
+
 -- the numbers of the first strip can be counted
 pub first-ready : (w : List ℤ) (l : Layout) (c second : Component) (pair : Bool) (k q : ℕ) {a e : ℕ} → RunIn l c second a e k q w → (s : Strip)
     → c .width * c .height ≤ areaLimit → s ≡ stripOf l c second pair 0 0 k q
-    → Small a e w × (Within a e s × Countable (noCost 0) (2 * ((s .bottom - s .top) * (s .right - s .left))))
+    → Lies w s × Countable (noCost 0) (2 * ((s .bottom - s .top) * (s .right - s .left)))
 unfolding startOf stripOf
 first-ready w l c second pair k q h s m e =
-    (h .small, (first-within h pair s e, record { bits = omega arith; count = rw e (omega (arith, m, partSize-most (gridIn l) (bandSize l c 0) k, band-fits l c 0 (omega arith))) }))
+    (first-lies h pair s e, record { bits = omega arith; count = rw e (omega (arith, m, partSize-most (gridIn l) (bandSize l c 0) k, band-fits l c 0 (omega arith))) })

@@ -1,6 +1,7 @@
 -- Laws of a low-delay slice's index: its bytes and bits, its candidates in the work slice, what they cost, and the
 -- election.
-use mathlib.Core.Path.{_≡_, ap, _∙_}
+use mathlib.Core.Path.{_≡_, refl, ap, _∙_}
+use mathlib.Core.Bool.{false}
 use mathlib.Core.List.{List}
 use Prim.Native.Nat.{ℕ, suc, _+_, _*_, _-_, _/_, _^_, _≤_}
 use native.Mathlib.Nat.{suc-mul, mul-le-mul-left, mul-one, add-mul-div-right}
@@ -12,10 +13,13 @@ use Rattle.unit.specs.Laws.Slice.{div-rises}
 use Rattle.unit.specs.Laws.Intlog2.{intlog2-least, intlog2-most}
 use Rattle.unit.specs.LowDelay.{sliceBytes, lengthBits}
 use Rattle.unit.specs.Laws.LowDelay.{bytes-some}
+use Rattle.picture.specs.declared.slices.layout.Component.{Component}
 use Rattle.picture.specs.declared.slices.layout.Picture.{Picture}
 use Rattle.picture.specs.Code.Strip.{rebuiltStrip}
+use Rattle.picture.specs.Laws.Strip.{rows-keep}
 use Rattle.picture.specs.Code.Cost.{noCost, Countable}
-use Rattle.picture.specs.Code.Layout.{RunIn}
+use Rattle.picture.specs.Code.Layout.{RunIn, RunLies}
+use Rattle.picture.specs.Laws.Layout.{run-lies, first-within}
 use Rattle.picture.specs.Code.Picture.{SliceIn}
 use Rattle.picture.specs.Laws.Picture.{run-y, run-pair}
 use Rattle.picture.specs.Code.Low.{strip0, rebuiltIn}
@@ -55,14 +59,24 @@ unfolding rebuiltIn
 planes-rebuilt w a b r p k q e f g =
     g ∙ ap (λ (b : List ℤ). rebuiltStrip b (strip0 p (p .c2) k q)) (f ∙ ap (λ (a : List ℤ). rebuiltStrip a (strip0 p (p .c1) k q)) e)
 
+-- a slice can be read behind the rebuilding of a component
+pub slice-rebuilt : {p : Picture} {w v : List ℤ} {k q : ℕ} (c : Component) → SliceIn p w k q → RunIn (p .layout) c c (p .front) (p .end) k q w
+    → v ≡ rebuiltStrip w (strip0 p c k q) → SliceIn p v k q
+slice-rebuilt c s h e = record {
+  arranged = s .arranged;
+  small = rw e (rows-keep (h .small) (first-within h false _ refl) _ (omega arith));
+  slice = s .slice;
+  index = s .index;
+}
+
 -- ---- costs
 none-countable : (room n : ℕ) → n ≤ areaLimit → Countable (noCost room) (2 * n)
 none-countable room n h = record { bits = omega arith; count = omega arith }
 
 pub luma-ready : {p : Picture} {w : List ℤ} {k q : ℕ} (room : ℕ) → SliceIn p w k q
-    → RunIn (p .layout) (p .y) (p .y) (p .front) (p .end) k q w × Countable (noCost room) (2 * (p .y .width * p .y .height))
-luma-ready {p = p} room s = (run-y s, none-countable room (p .y .width * p .y .height) (s .arranged .y .area))
+    → RunLies (p .layout) (p .y) (p .y) k q w × Countable (noCost room) (2 * (p .y .width * p .y .height))
+luma-ready {p = p} room s = (run-lies (run-y s), none-countable room (p .y .width * p .y .height) (s .arranged .y .area))
 
 pub colour-ready : {p : Picture} {w : List ℤ} {k q : ℕ} (room : ℕ) → SliceIn p w k q
-    → RunIn (p .layout) (p .c1) (p .c2) (p .front) (p .end) k q w × Countable (noCost room) (2 * (p .c1 .width * p .c1 .height))
-colour-ready {p = p} room s = (run-pair s, none-countable room (p .c1 .width * p .c1 .height) (s .arranged .c1 .area))
+    → RunLies (p .layout) (p .c1) (p .c2) k q w × Countable (noCost room) (2 * (p .c1 .width * p .c1 .height))
+colour-ready {p = p} room s = (run-lies (run-pair s), none-countable room (p .c1 .width * p .c1 .height) (s .arranged .c1 .area))

@@ -17,9 +17,10 @@ use Rattle.picture.specs.declared.high.packed.Packed.{Packed}
 use Rattle.picture.specs.Code.Strip.{Small}
 use Rattle.picture.specs.Code.Layout.{RunIn}
 use Rattle.picture.specs.Code.Counts.{countOf}
-use Rattle.picture.specs.Code.Packed.{packed, packedBits, Packs}
-use Rattle.picture.specs.Laws.Packed.{laid-behind, run-alike, packingAt}
-use Rattle.picture.specs.Laws.Unpacked.{packed-cost}
+use Rattle.picture.specs.Code.Packed.{packed, packedBits, PackRunIn, Packs}
+use Rattle.picture.specs.Laws.Packed.{laid-behind, run-alike, packingAt, run-packable, packs-small}
+use Rattle.picture.specs.Laws.Counts.{run-count}
+use Rattle.picture.specs.Laws.Unpacked.{packed-cost, run-below}
 use Rattle.picture.specs.Code.Picture.{runOf, numbersIn, SliceIn}
 use Rattle.picture.specs.Laws.Picture.{run-y, run-c1, run-c2}
 use Rattle.picture.specs.Code.Choice.{packedOf, choiceBy, sliceWords, sliceNumberCount}
@@ -37,6 +38,13 @@ module _ {w v : List ℤ} {i : ℕ} {r : Packing} {xs : List ℤ} (h : Packs w (
   pub run-after : i ≤ r .at
   run-after = omega (arith, h .at)
 
+-- packing a run leaves the work slice small
+run-kept : (p : Picture) (k q : ℕ) {w v : List ℤ} {r : Packing} (c : Component) (i : ℕ) → RunIn (p .layout) c c (p .front) (p .end) k q w → p .layout .predicted ≡ false
+    → i + countOf (p .layout) c k ≤ p .front → Packs w (packingAt i) (runOf w p c k q) v r → Small (p .front) (p .end) v
+run-kept p k q {w} c i h plain room a =
+    packs-small (run-below (p .layout) c (p .front) (p .end) k q w h plain _ (omega arith)) (omega (arith, run-count w (p .layout) c k q))
+    (run-packable i (countOf (p .layout) c k) (h .small) room) (h .small) a
+
 module _ (p : Picture) (k q from : ℕ) {w : List ℤ} (s : SliceIn p w k q) (plain : p .layout .predicted ≡ false) (room : from + sliceNumberCount p k ≤ p .front) where
   slice-of : {v : List ℤ} → Small (p .front) (p .end) v → SliceIn p v k q
   slice-of t = record { arranged = s .arranged; small = t; slice = s .slice; index = s .index }
@@ -46,8 +54,8 @@ module _ (p : Picture) (k q from : ℕ) {w : List ℤ} (s : SliceIn p w k q) (pl
   run-same v same c h = run-alike (p .front) (p .end) w v (λ i a b. same i a) (p .layout) c c false k q q w h plain
 
   -- luma's run can be packed
-  pub y-ready : RunIn (p .layout) (p .y) (p .y) (p .front) (p .end) k q w × ((p .layout .predicted ≡ false) × (from + countOf (p .layout) (p .y) k ≤ p .front))
-  y-ready = (run-y s, (plain, omega (arith, room)))
+  pub y-ready : PackRunIn (p .layout) (p .y) from k q w
+  y-ready = record { front = p .front; end = p .end; holds = (run-y s, (plain, omega (arith, room))) }
 
   module _ {v₁ : List ℤ} {r₁ : Packing} (a : Packs w (packingAt from) (runOf w p (p .y) k q) v₁ r₁) where
     same₁ : (i : ℕ) → p .front ≤ i → at v₁ i ≡ at w i
@@ -55,10 +63,15 @@ module _ (p : Picture) (k q from : ℕ) {w : List ℤ} (s : SliceIn p w k q) (pl
         ap (λ (v : List ℤ). at v i) (a .work)
         ∙ laid-behind w from (packed 0 (runOf w p (p .y) k q)) i (omega (arith, b, room, run-words w p (p .y) k q))
 
+    slice₁ : SliceIn p v₁ k q
+    slice₁ = slice-of (run-kept p k q (p .y) from (run-y s) plain (omega (arith, room)) a)
+
+    room₁ : r₁ .at + countOf (p .layout) (p .c1) k ≤ p .front
+    room₁ = omega (arith, room, a .at, run-words w p (p .y) k q)
+
     -- the first colour's run can be packed
-    pub c1-ready : Small (p .front) (p .end) v₁
-        → RunIn (p .layout) (p .c1) (p .c1) (p .front) (p .end) k q v₁ × ((p .layout .predicted ≡ false) × (r₁ .at + countOf (p .layout) (p .c1) k ≤ p .front))
-    c1-ready t = (run-c1 (slice-of t), (plain, omega (arith, room, a .at, run-words w p (p .y) k q)))
+    pub c1-ready : PackRunIn (p .layout) (p .c1) (r₁ .at) k q v₁
+    c1-ready = record { front = p .front; end = p .end; holds = (run-c1 slice₁, (plain, room₁)) }
 
     module _ {v₂ : List ℤ} {r₂ : Packing} (b : Packs v₁ (packingAt (r₁ .at)) (runOf v₁ p (p .c1) k q) v₂ r₂) where
       same₂ : (i : ℕ) → p .front ≤ i → at v₂ i ≡ at w i
@@ -67,10 +80,15 @@ module _ (p : Picture) (k q from : ℕ) {w : List ℤ} (s : SliceIn p w k q) (pl
           ∙ laid-behind v₁ (r₁ .at) (packed 0 (runOf v₁ p (p .c1) k q)) i (omega (arith, h, room, a .at, run-words w p (p .y) k q, run-words v₁ p (p .c1) k q))
           ∙ same₁ i h
 
+      slice₂ : SliceIn p v₂ k q
+      slice₂ = slice-of (run-kept p k q (p .c1) (r₁ .at) (run-c1 slice₁) plain room₁ b)
+
+      room₂ : r₂ .at + countOf (p .layout) (p .c2) k ≤ p .front
+      room₂ = omega (arith, room, a .at, b .at, run-words w p (p .y) k q, run-words v₁ p (p .c1) k q)
+
       -- the second colour's run can be packed
-      pub c2-ready : Small (p .front) (p .end) v₂
-          → RunIn (p .layout) (p .c2) (p .c2) (p .front) (p .end) k q v₂ × ((p .layout .predicted ≡ false) × (r₂ .at + countOf (p .layout) (p .c2) k ≤ p .front))
-      c2-ready t = (run-c2 (slice-of t), (plain, omega (arith, room, a .at, b .at, run-words w p (p .y) k q, run-words v₁ p (p .c1) k q)))
+      pub c2-ready : PackRunIn (p .layout) (p .c2) (r₂ .at) k q v₂
+      c2-ready = record { front = p .front; end = p .end; holds = (run-c2 slice₂, (plain, room₂)) }
 
       module _ {v₃ : List ℤ} {r₃ : Packing} (d : Packs v₂ (packingAt (r₂ .at)) (runOf v₂ p (p .c2) k q) v₃ r₃) where
         first : runOf v₁ p (p .c1) k q ≡ runOf w p (p .c1) k q
@@ -78,6 +96,9 @@ module _ (p : Picture) (k q from : ℕ) {w : List ℤ} (s : SliceIn p w k q) (pl
 
         second : runOf v₂ p (p .c2) k q ≡ runOf w p (p .c2) k q
         second = run-same v₂ same₂ (p .c2) (run-c2 s)
+
+        pub slice-kept : Small (p .front) (p .end) v₃
+        slice-kept = run-kept p k q (p .c2) (r₂ .at) (run-c2 slice₂) plain room₂ d
 
         pub slice-chosen : _≡_ {A = Choice} (record {
           index = q;

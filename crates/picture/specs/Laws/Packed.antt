@@ -39,8 +39,8 @@ use Rattle.picture.specs.Laws.Layout.{bandStrip, bandNumbers, run-chunks
 use Rattle.picture.specs.Code.Counts.{countOf}
 use Rattle.picture.specs.Laws.HighIndex.{band-many}
 use Rattle.picture.specs.Laws.Counts.{run-count}
-use Rattle.picture.specs.Laws.Unpacked.{Below, packed-most, place-below, band-single}
-use Rattle.picture.specs.Code.Packed.{mark, zerosWord, packed, packedBits, waiting, due, Single, Packable, Packs}
+use Rattle.picture.specs.Laws.Unpacked.{Below, packed-most, below-chunks, place-below, row-below, band-single, run-below}
+use Rattle.picture.specs.Code.Packed.{mark, zerosWord, packed, packedBits, waiting, due, Single, Packable, PackIn, Packs}
 
 -- ---- runs one after the other
 pub packed-append : (n : ℕ) (xs ys : List ℤ) → packed n (xs ++ ys) ≡ packed n xs ++ packed (waiting n xs) ys
@@ -209,18 +209,22 @@ unfolding laid
 laid-small i [] m b h = m
 laid-small i (v ∷ vs) m b h = laid-small (suc i) vs (small-set i v m (omega arith) (b .0)) (b .1) (omega arith)
 
-word-near : (n : ℕ) (z : ℤ) → n ≤ 2 ^ 30 → natAbs z ≤ reach → Near (zerosWord n ++ (z ∷ []))
+word-near : (n : ℕ) (z : ℤ) (zs : List ℤ) → n ≤ 2 ^ 30 → natAbs z ≤ reach → Near zs → Near (zerosWord n ++ (z ∷ zs))
 unfolding zerosWord
-word-near zero z h b = (b, tt)
-word-near (suc n) z h b = (omega arith, (b, tt))
+word-near zero z zs h b r = (b, r)
+word-near (suc n) z zs h b r = (omega arith, (b, r))
 
-pub packs-small : {a n k : ℕ} {w v : List ℤ} {t r : Packing} (z : ℤ) → isZero z ≡ false → natAbs z ≤ reach → Packable a t k → 1 ≤ k → Small a n w
-    → Packs w t (z ∷ []) v r → Small a n v
-packs-small {a} {n} {k} {w} {v} {t} z e b h l m p =
-    let d = packed-one (t .zeros) z e in
-    let q = packs-before h p l in
-    rw (p .work ∙ ap (laid w (t .at)) d)
-    (laid-small (t .at) (zerosWord (t .zeros) ++ (z ∷ [])) m (word-near (t .zeros) z (omega (arith, h .zeros)) b) (omega (arith, q, p .at, ap length d)))
+packed-near : (n : ℕ) (xs : List ℤ) → n + length xs ≤ 2 ^ 30 → Below xs → Near (packed n xs)
+unfolding packed Below
+packed-near n [] h b = tt
+packed-near n (pos zero ∷ xs) h b = packed-near (suc n) xs (omega arith) (b .1)
+packed-near n (pos (suc m) ∷ xs) h b = word-near n (pos (suc m)) (packed 0 xs) (omega arith) (omega (arith, b .0)) (packed-near 0 xs (omega arith) (b .1))
+packed-near n (negsuc m ∷ xs) h b = word-near n (negsuc m) (packed 0 xs) (omega arith) (omega (arith, b .0)) (packed-near 0 xs (omega arith) (b .1))
+
+-- packing leaves the work slice small
+pub packs-small : {a n k : ℕ} {w v : List ℤ} {t r : Packing} {xs : List ℤ} → Below xs → length xs ≤ k → Packable a t k → Small a n w → Packs w t xs v r → Small a n v
+packs-small {t = t} {xs = xs} b l h m p =
+    rw (p .work) (laid-small (t .at) (packed (t .zeros) xs) m (packed-near (t .zeros) xs (omega (arith, h .zeros)) b) (omega (arith, packs-before h p l, p .at)))
 
 -- ---- numbers of lists that agree from a to n
 -- a strip that is not predicted and whose coefficients lie there
@@ -307,24 +311,13 @@ module _ {a n : ℕ} {w : List ℤ} {s : Strip} (h : Single a n w s) (y x : ℕ)
   pub place-single : placeNumbers w s y x ≡ numberOf ∷ []
   place-single = place-plain w s y x (h .plain .plain) ∙ ap (λ (r : List ℤ). numberOf ∷ r) (second-none w s y x (h .single))
 
-  module _ (i : Inside s y x) {t : Packing} (p : Packable a t 1) (z : ℤ) (e : z ≡ numberOf) where
-    place-is : z ∷ [] ≡ placeNumbers w s y x
-    place-is = ap (λ (z : ℤ). z ∷ []) e ∙ sym place-single
-
-    place-near : natAbs z ≤ reach
-    unfolding Below
-    place-near = let b : Below (z ∷ []) = rw (sym place-is) at (place-below h y x i) in omega (arith, b .0)
-
-    pub place-zero : isZero z ≡ true → Packs w t (placeNumbers w s y x) w (record { at = t .at; zeros = t .zeros + 1; bits = t .bits }) × Small a n w
-    place-zero d = (packs-same place-is (packs-zero w t z d), h .plain .small)
-
-    pub place-some : {v : List ℤ} {r : Packing} → isZero z ≡ false → Packs w t (z ∷ []) v r → Packs w t (placeNumbers w s y x) v r × Small a n v
-    place-some d q = (packs-same place-is q, packs-small z d place-near p (omega arith) (h .plain .small) q)
+  pub place-is : (z : ℤ) → z ≡ numberOf → z ∷ [] ≡ placeNumbers w s y x
+  place-is z e = ap (λ (z : ℤ). z ∷ []) e ∙ sym place-single
 
 -- ---- rows and strips
 module _ {a n : ℕ} {w : List ℤ} {s : Strip} (h : Single a n w s) where
   -- the strip in another list
-  pub single-in : {v : List ℤ} → Small a n v → Single a n v s
+  single-in : {v : List ℤ} → Small a n v → Single a n v s
   single-in m = record { plain = record { small = m; within = h .plain .within; plain = h .plain .plain }; single = h .single }
 
   lies : Between a n s
@@ -342,11 +335,17 @@ module _ {a n : ℕ} {w : List ℤ} {s : Strip} (h : Single a n w s) where
   module _ {t : Packing} where
     -- the next place of a row
     module _ {v : List ℤ} {r : Packing} (y x : ℕ) (i : Inside s y x) (p : Packable a t (s .right - s .left)) (b : Packs w t (chunks (places w s y (s .left)) (x - s .left)) v r) where
-      pub row-ready : Packable a r 1
+      pub row-ready : PackIn v s r 1
       row-ready =
           let k : ℕ = x - s .left in
-          packable-after p b 1 (chunks-small (places w s y (s .left)) k (λ j. place-small w s y (s .left + j)))
-          (omega (arith, places-most y (s .left) k, i .right-of, i .left-of))
+          let F = places w s y (s .left) in
+          let l : length (chunks F k) + 1 ≤ s .right - s .left = omega (arith, places-most y (s .left) k, i .right-of, i .left-of) in
+          let d = below-chunks F k (λ j o. place-below h y (s .left + j) (record { below = i .below; above = i .above; right-of = omega arith; left-of = omega (arith, i .left-of) })) in
+          record {
+            front = a;
+            end = n;
+            holds = (single-in (packs-small d (omega arith) p (h .plain .small) b), packable-after p b 1 (chunks-small F k (λ j. place-small w s y (s .left + j))) l);
+          }
 
       pub row-turn : {u : List ℤ} {q : Packing} → Packs v r (placeNumbers v s y x) u q → Packs w t (chunks (places w s y (s .left)) (x + 1 - s .left)) u q
       row-turn d =
@@ -368,11 +367,19 @@ module _ {a n : ℕ} {w : List ℤ} {s : Strip} (h : Single a n w s) where
           let l : suc k ≤ s .bottom - s .top = omega arith in
           omega (arith, rows-most (s .top) k, mul-le-mul-right m l, suc-mul k m)
 
-      pub strip-ready : Packable a r (s .right - s .left)
+      pub strip-ready : PackIn v s r (s .right - s .left)
       strip-ready =
-          packable-after p b (s .right - s .left)
-          (chunks-small (rows w s (s .top)) (y - s .top) (λ j. row-small w s (s .top + j) (s .left) (s .right - s .left)))
-          strip-room
+          let k : ℕ = y - s .top in
+          let F = rows w s (s .top) in
+          let d = below-chunks F k (λ j o. row-below h (s .top + j) (omega arith) (omega arith)) in
+          record {
+            front = a;
+            end = n;
+            holds = (
+              single-in (packs-small d (omega (arith, strip-room)) p (h .plain .small) b),
+              packable-after p b (s .right - s .left) (chunks-small F k (λ j. row-small w s (s .top + j) (s .left) (s .right - s .left))) strip-room,
+            );
+          }
 
       pub strip-turn : {u : List ℤ} {q : Packing} → Packs v r (rowNumbers v s y (s .left) (s .right - s .left)) u q
           → Packs w t (chunks (rows w s (s .top)) (y + 1 - s .top)) u q
@@ -414,9 +421,15 @@ module _ (w : List ℤ) (l : Layout) (c : Component) (k q : ℕ) where
     module _ {t r : Packing} {v : List ℤ} (s : Strip) (n : ℕ) (b : n < bandCount l) (d : s ≡ bandStrip l c c false k q n) (p : Packable a t (countOf l c k))
         (f : Packs w t (runNumbers w l c c false k q n) v r) where
       -- what the next band asks
-      pub band-ready : Small a e v → Single a e v s × Packable a r ((s .bottom - s .top) * (s .right - s .left))
+      pub band-ready : PackIn v s r ((s .bottom - s .top) * (s .right - s .left))
       unfolding stripOf
-      band-ready m = rw d (band-single h plain n b m, packable-after p f _ (run-small w l c c false k q n) (band-room n b))
+      band-ready =
+          let m = packs-small (run-below l c a e k q w h plain n (omega (arith, b))) (omega (arith, band-room n b)) p (h .small) f in
+          rw d (record {
+            front = a;
+            end = e;
+            holds = (band-single h plain n b m, packable-after p f _ (run-small w l c c false k q n) (band-room n b));
+          })
 
       pub band-turn : {u : List ℤ} {g : Packing} → Packs v r (stripNumbers v s) u g → Packs w t (runNumbers w l c c false k q (n + 1)) u g
       band-turn x =

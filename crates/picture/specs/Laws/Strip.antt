@@ -266,3 +266,18 @@ pub rebuilt-rows-length : (l : List ℤ) (s : Strip) (y n : ℕ) → length (reb
 unfolding rebuiltRows
 rebuilt-rows-length l s y zero = refl
 rebuilt-rows-length l s y (suc n) = rebuilt-length (rebuiltRows l s y n) s (y + n) (s .left) (s .right - s .left) ∙ rebuilt-rows-length l s y n
+
+-- rebuilding leaves the work slice small
+module _ {a n : ℕ} {l : List ℤ} {s : Strip} (m : Small a n l) (w : Within a n s) where
+  pub row-keeps : (y k : ℕ) → s .top ≤ y → y < s .bottom → k ≤ s .right - s .left → Small a n (rebuiltRow l s y (s .left) k)
+  unfolding rebuiltRow
+  row-keeps y zero t b h = m
+  row-keeps y (suc k) t b h =
+      let r = row-keeps y k t b (omega arith) in
+      let i : Inside s y (s .left + k) = record { below = t; above = b; right-of = omega arith; left-of = omega arith } in
+      small-set _ _ r (omega (arith, place-lt r w i, w .rebuilt)) (value-reach r w i)
+
+pub rows-keep : {a n : ℕ} {l : List ℤ} {s : Strip} → Small a n l → Within a n s → (k : ℕ) → k ≤ s .bottom - s .top → Small a n (rebuiltRows l s (s .top) k)
+unfolding rebuiltRows
+rows-keep m w zero h = m
+rows-keep {s = s} m w (suc k) h = row-keeps (rows-keep m w k (omega arith)) w (s .top + k) (s .right - s .left) (omega arith) (omega arith) (omega arith)

@@ -175,7 +175,7 @@ unfolding Below
 below-append [] ys a b = b
 below-append (x ∷ xs) ys a b = (a .0, below-append xs ys (a .1) b)
 
-below-chunks : (F : ℕ → List ℤ) (n : ℕ) → ((k : ℕ) → k < n → Below (F k)) → Below (chunks F n)
+pub below-chunks : (F : ℕ → List ℤ) (n : ℕ) → ((k : ℕ) → k < n → Below (F k)) → Below (chunks F n)
 unfolding chunks Below
 below-chunks F zero h = tt
 below-chunks F (suc n) h = below-append (chunks F n) (F n) (below-chunks F n (λ k o. h k (omega arith))) (h n (omega arith))
@@ -195,7 +195,7 @@ module _ {a e : ℕ} {w : List ℤ} {s : Strip} (h : Single a e w s) where
       let m = p .small .coefficients (s .coefs + (y * s .width + x)) (omega (arith, n .behind)) (omega (arith, n .coefs)) in
       rw (place-plain w s y x (p .plain), second-none w s y x (h .single), n .factor) (number-below (s .index) (planeFrom w (s .coefs) (s .width) y x) m, tt)
 
-  row-below : (y : ℕ) → s .top ≤ y → y < s .bottom → Below (rowNumbers w s y (s .left) (s .right - s .left))
+  pub row-below : (y : ℕ) → s .top ≤ y → y < s .bottom → Below (rowNumbers w s y (s .left) (s .right - s .left))
   row-below y t b =
       rw (row-chunks w s y (s .left) (s .right - s .left)) (below-chunks (places w s y (s .left)) (s .right - s .left)
       (λ k o. place-below y (s .left + k) (record { below = t; above = b; right-of = omega arith; left-of = omega arith })))
@@ -214,7 +214,8 @@ band-single h d n o m = record {
   single = refl;
 }
 
--- the words of a slice's run of one component
-pub run-below : (l : Layout) (c : Component) (a e k q : ℕ) (w : List ℤ) → RunIn l c c a e k q w → l .predicted ≡ false → Below (runNumbers w l c c false k q (bandCount l))
-run-below l c a e k q w h d =
-    rw (run-chunks w l c c false k q (bandCount l)) (below-chunks (bandNumbers w l c c false k q) (bandCount l) (λ n o. strip-below (band-single h d n o (h .small))))
+-- the words of the first n subbands of a slice's run of one component
+pub run-below : (l : Layout) (c : Component) (a e k q : ℕ) (w : List ℤ) → RunIn l c c a e k q w → l .predicted ≡ false → (n : ℕ) → n ≤ bandCount l
+    → Below (runNumbers w l c c false k q n)
+run-below l c a e k q w h d n m =
+    rw (run-chunks w l c c false k q n) (below-chunks (bandNumbers w l c c false k q) n (λ i o. strip-below (band-single h d i (omega (arith, o, m)) (h .small))))

@@ -39,9 +39,9 @@ fn pack_slice(work: &mut [i64], p: Picture, k: u32, q: u32, from: usize) -> Choi
     let luma = p.y;
     let first = p.c1;
     let second = p.c2;
-    let y = crate::high::packed::pack_run(work, from, p.front, p.end, l, luma, k, q);
-    let c1 = crate::high::packed::pack_run(work, y.at, p.front, p.end, l, first, k, q);
-    let c2 = crate::high::packed::pack_run(work, c1.at, p.front, p.end, l, second, k, q);
+    let y = crate::high::packed::pack_run(work, from, l, luma, k, q);
+    let c1 = crate::high::packed::pack_run(work, y.at, l, first, k, q);
+    let c2 = crate::high::packed::pack_run(work, c1.at, l, second, k, q);
     Choice {
         index: q,
         y: Packed {

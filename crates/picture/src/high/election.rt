@@ -23,8 +23,8 @@ fn trimmed_run(work: &[i64], p: Picture, c: Component, k: u32, q: u32) -> Trimme
 {
     let l = p.layout;
     let v = crate::slices::layout::window_at(l, c, 0, k);
-    let first = crate::slices::run::first_tally(work, p.front, p.end, l, c, c, false, k, q, v);
-    let t = crate::slices::run::rest_tally(work, p.front, p.end, l, c, c, false, k, q, v, first);
+    let first = crate::slices::run::first_tally(work, l, c, c, false, k, q, v);
+    let t = crate::slices::run::rest_tally(work, l, c, c, false, k, q, v, first);
     crate::slices::tally::trimmed_of(t)
 }
 

@@ -14,10 +14,9 @@ ghost use Rattle.laws.specs.Code.Laid.{Lays};
 ghost use Rattle.codewords.specs.CodeWord.{codes};
 ghost use Rattle.codewords.specs.Code.Writer.{Room, Wrote};
 ghost use Rattle.unit.specs.Trim.{isZero, bitsOf};
-ghost use Rattle.picture.specs.Code.Strip.{placeNumbers, rowNumbers, stripNumbers, Small, Inside};
-ghost use Rattle.picture.specs.Code.Layout.{bandCount, runNumbers, RunIn};
-ghost use Rattle.picture.specs.Code.Counts.{countOf};
-ghost use Rattle.picture.specs.Code.Packed.{zerosWord, wordNumbers, unpacked, wordsAt, Single, Packable, Packs};
+ghost use Rattle.picture.specs.Code.Strip.{placeNumbers, rowNumbers, stripNumbers, Inside};
+ghost use Rattle.picture.specs.Code.Layout.{bandCount, runNumbers};
+ghost use Rattle.picture.specs.Code.Packed.{zerosWord, wordNumbers, unpacked, wordsAt, Packable, PackIn, PackRunIn, Packs};
 
 // Where the next word goes, the zeros that have none yet, and the bits of the words so far.
 pub(crate) struct Packing {
@@ -61,15 +60,13 @@ fn pack_number(work: &mut [i64], t: Packing, z: i64) -> Packing
 // Packs the number of a place.
 fn pack_place(
     work: &mut [i64],
-    a: usize,
-    n: usize,
     s: Strip,
     y: usize,
     x: usize,
     t: Packing,
 ) -> Packing
-    requires { ⌜ Single a n (now work) s × (Inside s y x × Packable a t 1) ⌝ }
-    ensures { λ r. ⌜ Packs (now (work .entry)) t (placeNumbers (now (work .entry)) s y x) (now (work .exit)) r × Small a n (now (work .exit)) ⌝ }
+    requires { ⌜ PackIn (now work) s t 1 × Inside s y x ⌝ }
+    ensures { λ r. ⌜ Packs (now (work .entry)) t (placeNumbers (now (work .entry)) s y x) (now (work .exit)) r ⌝ }
 {
     let c = crate::slices::strip::coefficient(work, s, s.coefs, y, x);
     let z = quantiser::forward_small(c, s.factor);
@@ -84,28 +81,28 @@ fn pack_place(
 }
 
 // Packs the numbers of a row of the strip.
-fn pack_row(work: &mut [i64], a: usize, n: usize, s: Strip, y: usize, t: Packing) -> Packing
-    requires { ⌜ Single a n (now work) s × ((s .top ≤ y) × ((y < s .bottom) × Packable a t (s .right - s .left))) ⌝ }
-    ensures { λ r. ⌜ Packs (now (work .entry)) t (rowNumbers (now (work .entry)) s y (s .left) (s .right - s .left)) (now (work .exit)) r × Small a n (now (work .exit)) ⌝ }
+fn pack_row(work: &mut [i64], s: Strip, y: usize, t: Packing) -> Packing
+    requires { ⌜ PackIn (now work) s t (s .right - s .left) × ((s .top ≤ y) × (y < s .bottom)) ⌝ }
+    ensures { λ r. ⌜ Packs (now (work .entry)) t (rowNumbers (now (work .entry)) s y (s .left) (s .right - s .left)) (now (work .exit)) r ⌝ }
 {
     let mut r = t;
     let mut x = s.left;
     while x < s.right {
-        r = pack_place(work, a, n, s, y, x, r);
+        r = pack_place(work, s, y, x, r);
         x += 1;
     }
     r
 }
 
 // Packs the numbers of the strip.
-fn pack_strip(work: &mut [i64], a: usize, n: usize, s: Strip, t: Packing) -> Packing
-    requires { ⌜ Single a n (now work) s × Packable a t ((s .bottom - s .top) * (s .right - s .left)) ⌝ }
-    ensures { λ r. ⌜ Packs (now (work .entry)) t (stripNumbers (now (work .entry)) s) (now (work .exit)) r × Small a n (now (work .exit)) ⌝ }
+fn pack_strip(work: &mut [i64], s: Strip, t: Packing) -> Packing
+    requires { ⌜ PackIn (now work) s t ((s .bottom - s .top) * (s .right - s .left)) ⌝ }
+    ensures { λ r. ⌜ Packs (now (work .entry)) t (stripNumbers (now (work .entry)) s) (now (work .exit)) r ⌝ }
 {
     let mut r = t;
     let mut y = s.top;
     while y < s.bottom {
-        r = pack_row(work, a, n, s, y, r);
+        r = pack_row(work, s, y, r);
         y += 1;
     }
     r
@@ -115,16 +112,13 @@ fn pack_strip(work: &mut [i64], a: usize, n: usize, s: Strip, t: Packing) -> Pac
 pub(crate) fn pack_run(
     work: &mut [i64],
     at: usize,
-    a: usize,
-    e: usize,
     l: Layout,
     c: Component,
     k: u32,
     q: u32,
 ) -> Packing
-    requires { ⌜ RunIn l c c a e k q (now work) × ((l .predicted ≡ false) × (at + countOf l c k ≤ a)) ⌝ }
-    ensures { λ r. ⌜ Packs (now (work .entry)) (record { at = at; zeros = 0; bits = 0 }) (runNumbers (now (work .entry)) l c c false k q (bandCount l)) (now (work .exit)) r
-        × Small a e (now (work .exit)) ⌝ }
+    requires { ⌜ PackRunIn l c at k q (now work) ⌝ }
+    ensures { λ r. ⌜ Packs (now (work .entry)) (record { at = at; zeros = 0; bits = 0 }) (runNumbers (now (work .entry)) l c c false k q (bandCount l)) (now (work .exit)) r ⌝ }
 {
     let bands = 1 + l.depth_ho + 3 * l.depth;
     let mut v = crate::slices::layout::window_at(l, c, 0, k);
@@ -138,7 +132,7 @@ pub(crate) fn pack_run(
     while n < bands {
         v = crate::slices::layout::next_window(l, c, n, k, v);
         let s = crate::slices::layout::strip_in(l, c, c, false, n, start, k, q, v);
-        t = pack_strip(work, a, e, s, t);
+        t = pack_strip(work, s, t);
         start += s.width * s.height;
         n += 1;
     }

@@ -28,7 +28,7 @@ fn luma_cost(work: &[i64], p: Picture, k: u32, q: u32, room: u64) -> Cost
     let none = crate::slices::cost::no_cost(room);
     let l = p.layout;
     let y = p.y;
-    crate::slices::run::cost_run(work, p.front, p.end, l, y, y, false, k, q, none)
+    crate::slices::run::cost_run(work, l, y, y, false, k, q, none)
 }
 
 // What a slice's two colours cost, with room for a run.
@@ -40,7 +40,7 @@ fn colour_cost(work: &[i64], p: Picture, k: u32, q: u32, room: u64) -> Cost
     let l = p.layout;
     let c1 = p.c1;
     let c2 = p.c2;
-    crate::slices::run::cost_run(work, p.front, p.end, l, c1, c2, true, k, q, none)
+    crate::slices::run::cost_run(work, l, c1, c2, true, k, q, none)
 }
 
 // The shorter one of the kept run and the longest run that fits.

@@ -6,9 +6,9 @@ use codewords::writer::BitWriter;
 ghost use mathlib.Core.List.{[], _∷_};
 ghost use Prim.Native.Nat.{_+_, _*_, _-_, _≤_, _<_, _^_};
 ghost use Rattle.quantiser.specs.Quant.{forwardBy};
-ghost use Rattle.picture.specs.Code.Strip.{planeFrom, secondNumber, placeNumbers, rowNumbers, stripNumbers, Readable, Small, Within, Inside, Plain};
+ghost use Rattle.picture.specs.Code.Strip.{planeFrom, secondNumber, placeNumbers, rowNumbers, stripNumbers, Readable, Inside, Lies, PlainLies};
 ghost use Rattle.picture.specs.Code.Put.{RoomFor, Puts};
-ghost use Rattle.picture.specs.Code.Layout.{bandCount, runNumbers, RunIn};
+ghost use Rattle.picture.specs.Code.Layout.{bandCount, runNumbers, RunLies};
 
 // The bit writer, and how many numbers are still to be kept.
 pub(crate) struct Put {
@@ -37,13 +37,11 @@ fn put_second(
     out: &mut [u8],
     p: Put,
     work: &[i64],
-    a: usize,
-    n: usize,
     s: Strip,
     y: usize,
     x: usize,
 ) -> Put
-    requires { ⌜ RoomFor (now out) p (secondNumber (now work) s y x) × (Small a n (now work) × (Within a n s × Inside s y x)) ⌝ }
+    requires { ⌜ RoomFor (now out) p (secondNumber (now work) s y x) × (Lies (now work) s × Inside s y x) ⌝ }
     ensures { λ r. ⌜ Puts (now (out .entry)) p (secondNumber (now (work .entry)) s y x) (now (out .exit)) r ⌝ }
 {
     if s.pair {
@@ -59,29 +57,27 @@ fn put_place(
     out: &mut [u8],
     p: Put,
     work: &[i64],
-    a: usize,
-    n: usize,
     s: Strip,
     y: usize,
     x: usize,
 ) -> Put
-    requires { ⌜ RoomFor (now out) p (placeNumbers (now work) s y x) × (Small a n (now work) × (Within a n s × Inside s y x)) ⌝ }
+    requires { ⌜ RoomFor (now out) p (placeNumbers (now work) s y x) × (Lies (now work) s × Inside s y x) ⌝ }
     ensures { λ r. ⌜ Puts (now (out .entry)) p (placeNumbers (now (work .entry)) s y x) (now (out .exit)) r ⌝ }
 {
     let z = crate::slices::strip::number_at(work, s, s.coefs, s.rebuilt, y, x);
     let q = put_number(out, p, z);
-    put_second(out, q, work, a, n, s, y, x)
+    put_second(out, q, work, s, y, x)
 }
 
 // Puts the numbers of a row of the strip, place by place.
-fn put_places(out: &mut [u8], p: Put, work: &[i64], a: usize, n: usize, s: Strip, y: usize) -> Put
-    requires { ⌜ RoomFor (now out) p (rowNumbers (now work) s y (s .left) (s .right - s .left)) × (Small a n (now work) × (Within a n s × ((s .top ≤ y) × (y < s .bottom)))) ⌝ }
+fn put_places(out: &mut [u8], p: Put, work: &[i64], s: Strip, y: usize) -> Put
+    requires { ⌜ RoomFor (now out) p (rowNumbers (now work) s y (s .left) (s .right - s .left)) × (Lies (now work) s × ((s .top ≤ y) × (y < s .bottom))) ⌝ }
     ensures { λ r. ⌜ Puts (now (out .entry)) p (rowNumbers (now (work .entry)) s y (s .left) (s .right - s .left)) (now (out .exit)) r ⌝ }
 {
     let mut t = p;
     let mut x = s.left;
     while x < s.right {
-        t = put_place(out, t, work, a, n, s, y, x);
+        t = put_place(out, t, work, s, y, x);
         x += 1;
     }
     t
@@ -119,13 +115,11 @@ fn put_plain_second(
     out: &mut [u8],
     p: Put,
     work: &[i64],
-    a: usize,
-    n: usize,
     s: Strip,
     y: usize,
     x: usize,
 ) -> Put
-    requires { ⌜ RoomFor (now out) p (secondNumber (now work) s y x) × (Plain a n (now work) s × Inside s y x) ⌝ }
+    requires { ⌜ RoomFor (now out) p (secondNumber (now work) s y x) × (PlainLies (now work) s × Inside s y x) ⌝ }
     ensures { λ r. ⌜ Puts (now (out .entry)) p (secondNumber (now (work .entry)) s y x) (now (out .exit)) r ⌝ }
 {
     if s.pair {
@@ -140,17 +134,15 @@ fn put_plain_place(
     out: &mut [u8],
     p: Put,
     work: &[i64],
-    a: usize,
-    n: usize,
     s: Strip,
     y: usize,
     x: usize,
 ) -> Put
-    requires { ⌜ RoomFor (now out) p (placeNumbers (now work) s y x) × (Plain a n (now work) s × Inside s y x) ⌝ }
+    requires { ⌜ RoomFor (now out) p (placeNumbers (now work) s y x) × (PlainLies (now work) s × Inside s y x) ⌝ }
     ensures { λ r. ⌜ Puts (now (out .entry)) p (placeNumbers (now (work .entry)) s y x) (now (out .exit)) r ⌝ }
 {
     let q = put_coefficient(out, p, work, s, s.coefs, y, x);
-    put_plain_second(out, q, work, a, n, s, y, x)
+    put_plain_second(out, q, work, s, y, x)
 }
 
 // Puts the numbers of a row of a strip that is not predicted, place by place.
@@ -158,60 +150,58 @@ fn put_plain_places(
     out: &mut [u8],
     p: Put,
     work: &[i64],
-    a: usize,
-    n: usize,
     s: Strip,
     y: usize,
 ) -> Put
-    requires { ⌜ RoomFor (now out) p (rowNumbers (now work) s y (s .left) (s .right - s .left)) × (Plain a n (now work) s × ((s .top ≤ y) × (y < s .bottom))) ⌝ }
+    requires { ⌜ RoomFor (now out) p (rowNumbers (now work) s y (s .left) (s .right - s .left)) × (PlainLies (now work) s × ((s .top ≤ y) × (y < s .bottom))) ⌝ }
     ensures { λ r. ⌜ Puts (now (out .entry)) p (rowNumbers (now (work .entry)) s y (s .left) (s .right - s .left)) (now (out .exit)) r ⌝ }
 {
     let mut t = p;
     let mut x = s.left;
     while x < s.right {
-        t = put_plain_place(out, t, work, a, n, s, y, x);
+        t = put_plain_place(out, t, work, s, y, x);
         x += 1;
     }
     t
 }
 
 // Puts the numbers of a row of the strip; none is worked out where none is to be kept.
-fn put_row(out: &mut [u8], p: Put, work: &[i64], a: usize, n: usize, s: Strip, y: usize) -> Put
-    requires { ⌜ RoomFor (now out) p (rowNumbers (now work) s y (s .left) (s .right - s .left)) × (Small a n (now work) × (Within a n s × ((s .top ≤ y) × (y < s .bottom)))) ⌝ }
+fn put_row(out: &mut [u8], p: Put, work: &[i64], s: Strip, y: usize) -> Put
+    requires { ⌜ RoomFor (now out) p (rowNumbers (now work) s y (s .left) (s .right - s .left)) × (Lies (now work) s × ((s .top ≤ y) × (y < s .bottom))) ⌝ }
     ensures { λ r. ⌜ Puts (now (out .entry)) p (rowNumbers (now (work .entry)) s y (s .left) (s .right - s .left)) (now (out .exit)) r ⌝ }
 {
     if p.left == 0 {
         return p;
     }
     if s.predicted {
-        return put_places(out, p, work, a, n, s, y);
+        return put_places(out, p, work, s, y);
     }
-    put_plain_places(out, p, work, a, n, s, y)
+    put_plain_places(out, p, work, s, y)
 }
 
 // Puts the numbers of the strip, row by row.
-fn put_rows(out: &mut [u8], p: Put, work: &[i64], a: usize, n: usize, s: Strip) -> Put
-    requires { ⌜ RoomFor (now out) p (stripNumbers (now work) s) × (Small a n (now work) × Within a n s) ⌝ }
+fn put_rows(out: &mut [u8], p: Put, work: &[i64], s: Strip) -> Put
+    requires { ⌜ RoomFor (now out) p (stripNumbers (now work) s) × Lies (now work) s ⌝ }
     ensures { λ r. ⌜ Puts (now (out .entry)) p (stripNumbers (now (work .entry)) s) (now (out .exit)) r ⌝ }
 {
     let mut t = p;
     let mut y = s.top;
     while y < s.bottom {
-        t = put_row(out, t, work, a, n, s, y);
+        t = put_row(out, t, work, s, y);
         y += 1;
     }
     t
 }
 
 // Puts the numbers of the strip; none is worked out where none is to be kept.
-fn put_strip(out: &mut [u8], p: Put, work: &[i64], a: usize, n: usize, s: Strip) -> Put
-    requires { ⌜ RoomFor (now out) p (stripNumbers (now work) s) × (Small a n (now work) × Within a n s) ⌝ }
+fn put_strip(out: &mut [u8], p: Put, work: &[i64], s: Strip) -> Put
+    requires { ⌜ RoomFor (now out) p (stripNumbers (now work) s) × Lies (now work) s ⌝ }
     ensures { λ r. ⌜ Puts (now (out .entry)) p (stripNumbers (now (work .entry)) s) (now (out .exit)) r ⌝ }
 {
     if p.left == 0 {
         return p;
     }
-    put_rows(out, p, work, a, n, s)
+    put_rows(out, p, work, s)
 }
 
 // Puts a slice's numbers that are kept.
@@ -219,8 +209,6 @@ pub(crate) fn put_run(
     out: &mut [u8],
     p: Put,
     work: &[i64],
-    a: usize,
-    e: usize,
     l: Layout,
     c: Component,
     second: Component,
@@ -228,7 +216,7 @@ pub(crate) fn put_run(
     k: u32,
     q: u32,
 ) -> Put
-    requires { ⌜ RunIn l c second a e k q (now work) × RoomFor (now out) p (runNumbers (now work) l c second pair k q (bandCount l)) ⌝ }
+    requires { ⌜ RunLies l c second k q (now work) × RoomFor (now out) p (runNumbers (now work) l c second pair k q (bandCount l)) ⌝ }
     ensures { λ r. ⌜ Puts (now (out .entry)) p (runNumbers (now (work .entry)) l c second pair k q (bandCount l)) (now (out .exit)) r ⌝ }
 {
     let bands = 1 + l.depth_ho + 3 * l.depth;
@@ -239,7 +227,7 @@ pub(crate) fn put_run(
     while n < bands {
         v = crate::slices::layout::next_window(l, c, n, k, v);
         let s = crate::slices::layout::strip_in(l, c, second, pair, n, start, k, q, v);
-        r = put_strip(out, r, work, a, e, s);
+        r = put_strip(out, r, work, s);
         start += s.width * s.height;
         n += 1;
     }

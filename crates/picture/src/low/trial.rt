@@ -68,9 +68,9 @@ pub(crate) fn rebuild_planes(work: &mut [i64], p: Picture, k: u32, q: u32, v: Wi
     let c2 = p.c2;
     let luma = v.luma;
     let colour = v.colour;
-    crate::slices::run::rebuild_run(work, p.front, p.end, l, y, k, q, luma);
-    crate::slices::run::rebuild_run(work, p.front, p.end, l, c1, k, q, colour);
-    crate::slices::run::rebuild_run(work, p.front, p.end, l, c2, k, q, colour);
+    crate::slices::run::rebuild_run(work, l, y, k, q, luma);
+    crate::slices::run::rebuild_run(work, l, c1, k, q, colour);
+    crate::slices::run::rebuild_run(work, l, c2, k, q, colour);
 }
 
 // The tallies of slice k's level-0 numbers at index q, where the planes are rebuilt.
@@ -85,11 +85,9 @@ pub(crate) fn first_tallies(work: &[i64], p: Picture, k: u32, q: u32, v: Windows
     let luma = v.luma;
     let colour = v.colour;
     First {
-        luma: crate::slices::run::first_tally(work, p.front, p.end, l, y, y, false, k, q, luma),
+        luma: crate::slices::run::first_tally(work, l, y, y, false, k, q, luma),
         colour: crate::slices::run::first_tally(
             work,
-            p.front,
-            p.end,
             l,
             c1,
             c2,
@@ -121,7 +119,7 @@ fn rest_run(
         keep: 0,
     };
     let l = p.layout;
-    let t = crate::slices::run::rest_tally(work, p.front, p.end, l, c, second, pair, k, q, v, none);
+    let t = crate::slices::run::rest_tally(work, l, c, second, pair, k, q, v, none);
     crate::slices::tally::trimmed_of(t)
 }
 

@@ -2,7 +2,7 @@
 use crate::slices::strip::Strip;
 ghost use mathlib.Core.Path.{_≡_};
 ghost use Prim.Native.Nat.{_*_, _-_, _≤_, _<_, _^_};
-ghost use Rattle.picture.specs.Code.Strip.{secondNumber, placeNumbers, rowNumbers, stripNumbers, Small, Within, Inside};
+ghost use Rattle.picture.specs.Code.Strip.{secondNumber, placeNumbers, rowNumbers, stripNumbers, Inside, Lies};
 ghost use Rattle.picture.specs.Code.Cost.{noCost, fitted, addLen, addAll, Countable, Kept};
 
 // The bits and the count of the numbers so far, the same up to the last number that is not 0, and of the longest run
@@ -89,8 +89,8 @@ fn add_len(c: Cost, n: u32) -> Cost
 }
 
 // A cost with the second colour's number of a place, where there is one.
-fn add_second(work: &[i64], a: usize, n: usize, s: Strip, y: usize, x: usize, c: Cost) -> Cost
-    requires { ⌜ Small a n (now work) × (Within a n s × (Inside s y x × Countable c 1)) ⌝ }
+fn add_second(work: &[i64], s: Strip, y: usize, x: usize, c: Cost) -> Cost
+    requires { ⌜ Lies (now work) s × (Inside s y x × Countable c 1) ⌝ }
     ensures { λ r. ⌜ r ≡ addAll c (secondNumber (now (work .entry)) s y x) ⌝ }
 {
     if s.pair {
@@ -104,37 +104,37 @@ fn add_second(work: &[i64], a: usize, n: usize, s: Strip, y: usize, x: usize, c:
 }
 
 // A cost with the numbers of a place.
-fn cost_place(work: &[i64], a: usize, n: usize, s: Strip, y: usize, x: usize, c: Cost) -> Cost
-    requires { ⌜ Small a n (now work) × (Within a n s × (Inside s y x × Countable c 2)) ⌝ }
+fn cost_place(work: &[i64], s: Strip, y: usize, x: usize, c: Cost) -> Cost
+    requires { ⌜ Lies (now work) s × (Inside s y x × Countable c 2) ⌝ }
     ensures { λ r. ⌜ r ≡ addAll c (placeNumbers (now (work .entry)) s y x) ⌝ }
 {
     let k = crate::slices::strip::number_len(work, s, s.coefs, s.rebuilt, y, x);
-    add_second(work, a, n, s, y, x, add_len(c, k))
+    add_second(work, s, y, x, add_len(c, k))
 }
 
 // A cost with the numbers of a row of the strip.
-fn cost_row(work: &[i64], a: usize, n: usize, s: Strip, y: usize, c: Cost) -> Cost
-    requires { ⌜ Small a n (now work) × (Within a n s × ((s .top ≤ y) × ((y < s .bottom) × Countable c (2 * (s .right - s .left))))) ⌝ }
+fn cost_row(work: &[i64], s: Strip, y: usize, c: Cost) -> Cost
+    requires { ⌜ Lies (now work) s × ((s .top ≤ y) × ((y < s .bottom) × Countable c (2 * (s .right - s .left)))) ⌝ }
     ensures { λ r. ⌜ r ≡ addAll c (rowNumbers (now (work .entry)) s y (s .left) (s .right - s .left)) ⌝ }
 {
     let mut t = c;
     let mut x = s.left;
     while x < s.right {
-        t = cost_place(work, a, n, s, y, x, t);
+        t = cost_place(work, s, y, x, t);
         x += 1;
     }
     t
 }
 
 // A cost with the numbers of the strip.
-pub(crate) fn cost_strip(work: &[i64], a: usize, n: usize, s: Strip, c: Cost) -> Cost
-    requires { ⌜ Small a n (now work) × (Within a n s × Countable c (2 * ((s .bottom - s .top) * (s .right - s .left)))) ⌝ }
+pub(crate) fn cost_strip(work: &[i64], s: Strip, c: Cost) -> Cost
+    requires { ⌜ Lies (now work) s × Countable c (2 * ((s .bottom - s .top) * (s .right - s .left))) ⌝ }
     ensures { λ r. ⌜ r ≡ addAll c (stripNumbers (now (work .entry)) s) ⌝ }
 {
     let mut t = c;
     let mut y = s.top;
     while y < s.bottom {
-        t = cost_row(work, a, n, s, y, t);
+        t = cost_row(work, s, y, t);
         y += 1;
     }
     t

@@ -8,16 +8,14 @@ ghost use mathlib.Core.Path.{_≡_};
 ghost use mathlib.Core.Bool.{false};
 ghost use Prim.Native.Nat.{_*_, _-_, _≤_};
 ghost use Rattle.unit.specs.Limits.{areaLimit};
-ghost use Rattle.picture.specs.Code.Strip.{stripNumbers, rebuiltStrip, Small};
+ghost use Rattle.picture.specs.Code.Strip.{stripNumbers, rebuiltStrip};
 ghost use Rattle.picture.specs.Code.Cost.{addAll, Countable};
 ghost use Rattle.picture.specs.Code.Tally.{noTally, tallyAll, Addable};
-ghost use Rattle.picture.specs.Code.Layout.{bandCount, windowOf, stripOf, runNumbers, restNumbers, RunIn};
+ghost use Rattle.picture.specs.Code.Layout.{bandCount, windowOf, stripOf, runNumbers, restNumbers, RunLies};
 
 // The cost t with a slice's numbers of all subbands added.
 pub(crate) fn cost_run(
     work: &[i64],
-    a: usize,
-    e: usize,
     l: Layout,
     c: Component,
     second: Component,
@@ -26,7 +24,7 @@ pub(crate) fn cost_run(
     q: u32,
     t: Cost,
 ) -> Cost
-    requires { ⌜ RunIn l c second a e k q (now work) × Countable t (2 * (c .width * c .height)) ⌝ }
+    requires { ⌜ RunLies l c second k q (now work) × Countable t (2 * (c .width * c .height)) ⌝ }
     ensures { λ r. ⌜ r ≡ addAll t (runNumbers (now (work .entry)) l c second pair k q (bandCount l)) ⌝ }
 {
     let bands = 1 + l.depth_ho + 3 * l.depth;
@@ -35,7 +33,7 @@ pub(crate) fn cost_run(
     let mut n: u32 = 0;
     while n < bands {
         let s = crate::slices::layout::strip_at(l, c, second, pair, n, start, k, q);
-        r = crate::slices::cost::cost_strip(work, a, e, s, r);
+        r = crate::slices::cost::cost_strip(work, s, r);
         start += s.width * s.height;
         n += 1;
     }
@@ -45,8 +43,6 @@ pub(crate) fn cost_run(
 // The tally of a slice's numbers of the first subband, of which it has the window v.
 pub(crate) fn first_tally(
     work: &[i64],
-    a: usize,
-    e: usize,
     l: Layout,
     c: Component,
     second: Component,
@@ -55,19 +51,17 @@ pub(crate) fn first_tally(
     q: u32,
     v: Window,
 ) -> Tally
-    requires { ⌜ RunIn l c second a e k q (now work) × ((c .width * c .height ≤ areaLimit) × (v ≡ windowOf l c 0 k)) ⌝ }
+    requires { ⌜ RunLies l c second k q (now work) × ((c .width * c .height ≤ areaLimit) × (v ≡ windowOf l c 0 k)) ⌝ }
     ensures { λ r. ⌜ r ≡ tallyAll noTally (stripNumbers (now (work .entry)) (stripOf l c second pair 0 0 k q)) ⌝ }
 {
     let none = crate::slices::cost::no_cost(0);
     let s = crate::slices::layout::strip_in(l, c, second, pair, 0, 0, k, q, v);
-    crate::slices::tally::tally_of(crate::slices::cost::cost_strip(work, a, e, s, none))
+    crate::slices::tally::tally_of(crate::slices::cost::cost_strip(work, s, none))
 }
 
 // The tally t with a slice's numbers of the other subbands added; first is its window of the first one.
 pub(crate) fn rest_tally(
     work: &[i64],
-    a: usize,
-    e: usize,
     l: Layout,
     c: Component,
     second: Component,
@@ -77,7 +71,7 @@ pub(crate) fn rest_tally(
     first: Window,
     t: Tally,
 ) -> Tally
-    requires { ⌜ RunIn l c second a e k q (now work) × (Addable t (2 * (c .width * c .height)) × (first ≡ windowOf l c 0 k)) ⌝ }
+    requires { ⌜ RunLies l c second k q (now work) × (Addable t (2 * (c .width * c .height)) × (first ≡ windowOf l c 0 k)) ⌝ }
     ensures { λ r. ⌜ r ≡ tallyAll t (restNumbers (now (work .entry)) l c second pair k q (bandCount l - 1)) ⌝ }
 {
     let bands = 1 + l.depth_ho + 3 * l.depth;
@@ -88,7 +82,7 @@ pub(crate) fn rest_tally(
     while n < bands {
         v = crate::slices::layout::next_window(l, c, n, k, v);
         let s = crate::slices::layout::strip_in(l, c, second, pair, n, start, k, q, v);
-        r = crate::slices::tally::tally_strip(work, a, e, s, r);
+        r = crate::slices::tally::tally_strip(work, s, r);
         start += s.width * s.height;
         n += 1;
     }
@@ -98,17 +92,15 @@ pub(crate) fn rest_tally(
 // The slice's part of the rebuilt level-0 plane of a component, of which it has the window v.
 pub(crate) fn rebuild_run(
     work: &mut [i64],
-    a: usize,
-    e: usize,
     l: Layout,
     c: Component,
     k: u32,
     q: u32,
     v: Window,
 )
-    requires { ⌜ RunIn l c c a e k q (now work) × (v ≡ windowOf l c 0 k) ⌝ }
-    ensures { λ _. ⌜ (now (work .exit) ≡ rebuiltStrip (now (work .entry)) (stripOf l c c false 0 0 k q)) × Small a e (now (work .exit)) ⌝ }
+    requires { ⌜ RunLies l c c k q (now work) × (v ≡ windowOf l c 0 k) ⌝ }
+    ensures { λ _. ⌜ now (work .exit) ≡ rebuiltStrip (now (work .entry)) (stripOf l c c false 0 0 k q) ⌝ }
 {
     let s = crate::slices::layout::strip_in(l, c, c, false, 0, 0, k, q, v);
-    crate::slices::rebuild::rebuild_strip(work, a, e, s);
+    crate::slices::rebuild::rebuild_strip(work, s);
 }

@@ -5,7 +5,7 @@ use crate::slices::strip::Strip;
 ghost use mathlib.Core.Path.{_≡_};
 ghost use Prim.Native.Nat.{_+_, _*_, _-_, _≤_, _<_, _^_};
 ghost use Rattle.quantiser.specs.Quant.{forwardBy};
-ghost use Rattle.picture.specs.Code.Strip.{planeFrom, secondNumber, placeNumbers, rowNumbers, stripNumbers, Readable, Inside, Plain};
+ghost use Rattle.picture.specs.Code.Strip.{planeFrom, secondNumber, placeNumbers, rowNumbers, stripNumbers, Readable, Inside, PlainLies};
 ghost use Rattle.picture.specs.Code.Tally.{tally1, tallyLen, tallyAll, tallyOf, trimmedBy, Addable};
 
 // The bits and the count of the numbers so far, and the count up to the last number that is not 0.
@@ -75,8 +75,8 @@ fn add_coefficient(work: &[i64], s: Strip, coefs: usize, y: usize, x: usize, t: 
 }
 
 // A tally with the second colour's number of a place, where there is one.
-fn add_second(work: &[i64], a: usize, n: usize, s: Strip, y: usize, x: usize, t: Tally) -> Tally
-    requires { ⌜ Plain a n (now work) s × (Inside s y x × Addable t 1) ⌝ }
+fn add_second(work: &[i64], s: Strip, y: usize, x: usize, t: Tally) -> Tally
+    requires { ⌜ PlainLies (now work) s × (Inside s y x × Addable t 1) ⌝ }
     ensures { λ r. ⌜ r ≡ tallyAll t (secondNumber (now (work .entry)) s y x) ⌝ }
 {
     if s.pair {
@@ -87,37 +87,37 @@ fn add_second(work: &[i64], a: usize, n: usize, s: Strip, y: usize, x: usize, t:
 }
 
 // A tally with the numbers of a place.
-fn add_place(work: &[i64], a: usize, n: usize, s: Strip, y: usize, x: usize, t: Tally) -> Tally
-    requires { ⌜ Plain a n (now work) s × (Inside s y x × Addable t 2) ⌝ }
+fn add_place(work: &[i64], s: Strip, y: usize, x: usize, t: Tally) -> Tally
+    requires { ⌜ PlainLies (now work) s × (Inside s y x × Addable t 2) ⌝ }
     ensures { λ r. ⌜ r ≡ tallyAll t (placeNumbers (now (work .entry)) s y x) ⌝ }
 {
     let r = add_coefficient(work, s, s.coefs, y, x, t);
-    add_second(work, a, n, s, y, x, r)
+    add_second(work, s, y, x, r)
 }
 
 // A tally with the numbers of a row of the strip.
-fn add_row(work: &[i64], a: usize, n: usize, s: Strip, y: usize, t: Tally) -> Tally
-    requires { ⌜ Plain a n (now work) s × ((s .top ≤ y) × ((y < s .bottom) × Addable t (2 * (s .right - s .left)))) ⌝ }
+fn add_row(work: &[i64], s: Strip, y: usize, t: Tally) -> Tally
+    requires { ⌜ PlainLies (now work) s × ((s .top ≤ y) × ((y < s .bottom) × Addable t (2 * (s .right - s .left)))) ⌝ }
     ensures { λ r. ⌜ r ≡ tallyAll t (rowNumbers (now (work .entry)) s y (s .left) (s .right - s .left)) ⌝ }
 {
     let mut r = t;
     let mut x = s.left;
     while x < s.right {
-        r = add_place(work, a, n, s, y, x, r);
+        r = add_place(work, s, y, x, r);
         x += 1;
     }
     r
 }
 
 // A tally with the numbers of the strip.
-pub(crate) fn tally_strip(work: &[i64], a: usize, n: usize, s: Strip, t: Tally) -> Tally
-    requires { ⌜ Plain a n (now work) s × Addable t (2 * ((s .bottom - s .top) * (s .right - s .left))) ⌝ }
+pub(crate) fn tally_strip(work: &[i64], s: Strip, t: Tally) -> Tally
+    requires { ⌜ PlainLies (now work) s × Addable t (2 * ((s .bottom - s .top) * (s .right - s .left))) ⌝ }
     ensures { λ r. ⌜ r ≡ tallyAll t (stripNumbers (now (work .entry)) s) ⌝ }
 {
     let mut r = t;
     let mut y = s.top;
     while y < s.bottom {
-        r = add_row(work, a, n, s, y, r);
+        r = add_row(work, s, y, r);
         y += 1;
     }
     r

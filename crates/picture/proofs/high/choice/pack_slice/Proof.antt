@@ -1,6 +1,6 @@
 -- `high::choice::pack_slice` meets its contract.
 use native.Mathlib.Omega.{arith}
-use Rattle.picture.specs.Laws.PackSlice.{run-after, y-ready, c1-ready, c2-ready, slice-chosen, slice-packed}
+use Rattle.picture.specs.Laws.PackSlice.{run-after, y-ready, c1-ready, c2-ready, slice-chosen, slice-packed, slice-kept}
 use borrow.Author.Needs.{needs}
 use Rattle.picture.proofs.high.choice.pack_slice.Statement.{statement}
 use Rattle.picture.proofs.high.choice.pack_slice.Tie as tie
@@ -19,7 +19,7 @@ pack-run-requires-2 c κs =
     let st = c .before .before .before .before .before .before .before .before in
     let a = st .args in
     let y = c .before .before .pack-run .ensures in
-    c1-ready (a .p) (a .k) (a .q) (a .from) (st .pre .0) (st .pre .1 .0) (st .pre .1 .1) (y .0) (y .1)
+    c1-ready (a .p) (a .k) (a .q) (a .from) (st .pre .0) (st .pre .1 .0) (st .pre .1 .1) y
 
 pack-run-requires-3 : tie.Need-pack-run-requires-3
 pack-run-requires-3 c κs =
@@ -27,16 +27,16 @@ pack-run-requires-3 c κs =
     let a = st .args in
     let y = c .before .before .before .before .before .pack-run .ensures in
     let c1 = c .before .before .pack-run2 .ensures in
-    c2-ready (a .p) (a .k) (a .q) (a .from) (st .pre .0) (st .pre .1 .0) (st .pre .1 .1) (y .0) (c1 .0) (c1 .1)
+    c2-ready (a .p) (a .k) (a .q) (a .from) (st .pre .0) (st .pre .1 .0) (st .pre .1 .1) y c1
 
 sub-t19 : tie.Need-sub-t19
-sub-t19 c = omega (arith, run-after (c .before .before .before .before .before .before .before .before .pack-run .ensures .0))
+sub-t19 c = omega (arith, run-after (c .before .before .before .before .before .before .before .before .pack-run .ensures))
 
 sub-t21 : tie.Need-sub-t21
-sub-t21 c = omega (arith, run-after (c .before .before .before .before .before .before .before .pack-run2 .ensures .0))
+sub-t21 c = omega (arith, run-after (c .before .before .before .before .before .before .before .pack-run2 .ensures))
 
 sub-t23 : tie.Need-sub-t23
-sub-t23 c = omega (arith, run-after (c .before .before .before .before .before .before .pack-run3 .ensures .0))
+sub-t23 c = omega (arith, run-after (c .before .before .before .before .before .before .pack-run3 .ensures))
 
 same-length : tie.Need-same-length
 same-length c = search needs
@@ -48,8 +48,11 @@ returns c =
     let y = c .before .before .before .before .before .before .before .before .before .before .before .before .pack-run .ensures in
     let c1 = c .before .before .before .before .before .before .before .before .before .pack-run2 .ensures in
     let c2 = c .before .before .before .before .before .before .pack-run3 .ensures in (
-      slice-chosen (a .p) (a .k) (a .q) (a .from) (st .pre .0) (st .pre .1 .0) (st .pre .1 .1) (y .0) (c1 .0) (c2 .0),
-      (slice-packed (a .p) (a .k) (a .q) (a .from) (st .pre .0) (st .pre .1 .0) (st .pre .1 .1) (y .0) (c1 .0) (c2 .0), c2 .1),
+      slice-chosen (a .p) (a .k) (a .q) (a .from) (st .pre .0) (st .pre .1 .0) (st .pre .1 .1) y c1 c2,
+      (
+        slice-packed (a .p) (a .k) (a .q) (a .from) (st .pre .0) (st .pre .1 .0) (st .pre .1 .1) y c1 c2,
+        slice-kept (a .p) (a .k) (a .q) (a .from) (st .pre .0) (st .pre .1 .0) (st .pre .1 .1) y c1 c2,
+      ),
     )
 
 pub pack-slice-spec : {M : Type 1} → statement M

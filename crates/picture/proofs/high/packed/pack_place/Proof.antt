@@ -9,20 +9,20 @@ use borrow.Author.Needs.{needs, sfits-of}
 use Rattle.quantiser.specs.Quant.{forwardBy}
 use Rattle.picture.specs.Code.Strip.{planeFrom}
 use Rattle.picture.specs.Laws.Strip.{numbered}
-use Rattle.picture.specs.Laws.Packed.{packs-same, packable-less, zero-bits, some-bits, place-zero, place-some}
+use Rattle.picture.specs.Laws.Packed.{packs-same, packs-zero, packable-less, zero-bits, some-bits, place-is}
 use Rattle.picture.proofs.high.packed.pack_place.Statement.{statement}
 use Rattle.picture.proofs.high.packed.pack_place.Tie as tie
 
 coefficient-requires : tie.Need-coefficient-requires
 coefficient-requires c κs =
     let h = c .before .pre in
-    numbered (h .0 .plain .small) (h .0 .plain .within) (h .1 .0) .coefficient
+    numbered (h .0 .holds .0 .plain .small) (h .0 .holds .0 .plain .within) (h .1) .coefficient
 
 forward-small-requires : tie.Need-forward-small-requires
 forward-small-requires c κs =
     let h = c .before .before .pre in
     let d = c .coefficient in
-    (numbered (h .0 .plain .small) (h .0 .plain .within) (h .1 .0) .factor, rw (toZ-ofZ {w = w64} (sfits-of (d .ok))) (omega (arith, d .ensures .1)))
+    (numbered (h .0 .holds .0 .plain .small) (h .0 .holds .0 .plain .within) (h .1) .factor, rw (toZ-ofZ {w = w64} (sfits-of (d .ok))) (omega (arith, d .ensures .1)))
 
 -- what is packed
 number : (c : tie.After-forward-small) → let a = c .before .before .before .args in
@@ -32,8 +32,8 @@ number c =
     let d = c .before .coefficient in
     c .forward-small .ensures ∙ ap (forwardBy (a .s .factor)) (toZ-ofZ {w = w64} (sfits-of (d .ok)) ∙ d .ensures .0)
 
-add-t13 : tie.Need-add-t13
-add-t13 c = search needs
+add-t11 : tie.Need-add-t11
+add-t11 c = search needs
 
 same-length : tie.Need-same-length
 same-length c = search needs
@@ -44,14 +44,14 @@ returns c =
     let a = st .args in
     let h = st .pre in
     let f = c .before .before .forward-small in
-    place-zero (h .0) (a .y) (a .x) (h .1 .0) (h .1 .1) (f .result) (number (c .before .before)) (zero-bits (f .result) (sfits-of (f .ok)) (c .before .if1 .taken))
+    packs-same (place-is (h .0 .holds .0) (a .y) (a .x) (f .result) (number (c .before .before))) (packs-zero (a .work .now) (a .t) (f .result) (zero-bits (f .result) (sfits-of (f .ok)) (c .before .if1 .taken)))
 
 pack-number-requires : tie.Need-pack-number-requires
 pack-number-requires c κs =
     let h = c .before .before .before .before .before .pre in
     let f = c .before .before .forward-small in
-    let m = h .0 .plain .small in
-    (rw (toZ-ofZ {w = w64} (sfits-of (f .ok))) (some-bits (f .result) (c .before .if1 .left)), packable-less (omega (arith, m .order, m .long)) (omega arith) (h .1 .1))
+    let m = h .0 .holds .0 .plain .small in
+    (rw (toZ-ofZ {w = w64} (sfits-of (f .ok))) (some-bits (f .result) (c .before .if1 .left)), packable-less (omega (arith, m .order, m .long)) (omega arith) (h .0 .holds .1))
 
 same-length-2 : tie.Need-same-length-2
 same-length-2 c = search needs
@@ -63,7 +63,7 @@ returns-2 c =
     let h = st .pre in
     let f = c .before .before .before .before .forward-small in
     let e = ap (λ (z : ℤ). z ∷ []) (toZ-ofZ {w = w64} (sfits-of (f .ok))) in
-    place-some (h .0) (a .y) (a .x) (h .1 .0) (h .1 .1) (f .result) (number (c .before .before .before .before)) (some-bits (f .result) (c .before .before .before .if1 .left)) (packs-same e (c .before .pack-number .ensures))
+    packs-same (e ∙ place-is (h .0 .holds .0) (a .y) (a .x) (f .result) (number (c .before .before .before .before))) (c .before .pack-number .ensures)
 
 pub pack-place-spec : {M : Type 1} → statement M
 pack-place-spec =
@@ -71,7 +71,7 @@ pack-place-spec =
     (tie.spec
     coefficient-requires
     forward-small-requires
-    add-t13
+    add-t11
     same-length
     returns
     pack-number-requires

@@ -11,16 +11,16 @@ use Rattle.picture.proofs.low.put.put_places.Statement.{statement}
 use Rattle.picture.proofs.low.put.put_places.Tie as tie
 
 abbrev Inv-loop : tie.InvT-loop
-Inv-loop out₀ work a n s y t₀ x₀ out t x = (s .left ≤ x) × ((x ≤ s .right) × Puts out₀ t₀ (chunks (places work s y (s .left)) (x - s .left)) out t)
+Inv-loop out₀ work s y t₀ x₀ out t x = (s .left ≤ x) × ((x ≤ s .right) × Puts out₀ t₀ (chunks (places work s y (s .left)) (x - s .left)) out t)
 
 abbrev μ-loop : tie.MeasureT-loop
-μ-loop out₀ work a n s y t₀ x₀ out t x = s .right - x
+μ-loop out₀ work s y t₀ x₀ out t x = s .right - x
 
 loop-holds : tie.Need-loop-holds Inv-loop μ-loop
 loop-holds c =
     let st = c .before in
     let a = st .args in
-    (omega arith, (st .pre .1 .1 .0 .columns, parts-none (places (a .work .now) (a .s) (a .y) (a .s .left)) (a .s .left) (st .pre .0)))
+    (omega arith, (st .pre .1 .0 .holds .1 .columns, parts-none (places (a .work .now) (a .s) (a .y) (a .s .left)) (a .s .left) (st .pre .0)))
 
 put-place-requires : tie.Need-put-place-requires Inv-loop μ-loop
 put-place-requires c κs =
@@ -33,8 +33,8 @@ put-place-requires c κs =
     let all = room-same (a .p) (rowNumbers (a .work .now) (a .s) (a .y) (a .s .left) (a .s .right - a .s .left)) (chunks F (a .s .right - a .s .left)) (row-chunks (a .work .now) (a .s) (a .y) (a .s .left) (a .s .right - a .s .left)) (h .0) in
     let room = room-same (l .t) (F (l .x - a .s .left)) (placeNumbers (a .work .now) (a .s) (a .y) (l .x)) (ap (placeNumbers (a .work .now) (a .s) (a .y)) e)
     (part-room F (a .s .right - a .s .left) (l .x - a .s .left) (omega (arith, l .inv .0, c .before .if1 .taken)) all (l .inv .1 .1)) in
-    let i : Inside (a .s) (a .y) (l .x) = record { below = h .1 .1 .1 .0; above = h .1 .1 .1 .1; right-of = l .inv .0; left-of = c .before .if1 .taken } in
-    (room, (h .1 .0, (h .1 .1 .0, i)))
+    let i : Inside (a .s) (a .y) (l .x) = record { below = h .1 .1 .0; above = h .1 .1 .1; right-of = l .inv .0; left-of = c .before .if1 .taken } in
+    (room, (h .1 .0, i))
 
 add-x : tie.Need-add-x Inv-loop μ-loop
 add-x c = omega arith

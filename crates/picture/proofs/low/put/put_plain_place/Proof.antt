@@ -17,13 +17,13 @@ use Rattle.picture.proofs.low.put.put_plain_second.Reads as put-plain-s
 
 -- the room, for one number after the other
 room : (c : tie.Start) → let a = c .args in RoomFor (a .out .now) (a .p) ((forwardBy (a .s .factor) (planeFrom (a .work .now) (a .s .coefs) (a .s .width) (a .y) (a .x)) ∷ []) ++ secondNumber (a .work .now) (a .s) (a .y) (a .x))
-room c = let a = c .args in room-same (a .p) (placeNumbers (a .work .now) (a .s) (a .y) (a .x)) _ (place-plain (a .work .now) (a .s) (a .y) (a .x) (c .pre .1 .0 .plain)) (c .pre .0)
+room c = let a = c .args in room-same (a .p) (placeNumbers (a .work .now) (a .s) (a .y) (a .x)) _ (place-plain (a .work .now) (a .s) (a .y) (a .x) (c .pre .1 .0 .holds .plain)) (c .pre .0)
 
 put-coefficient-requires : tie.Need-put-coefficient-requires
 put-coefficient-requires c κs =
     let st = c .before .before in
     let h = st .pre in
-    let n = numbered (h .1 .0 .small) (h .1 .0 .within) (h .1 .1) in
+    let n = numbered (h .1 .0 .holds .small) (h .1 .0 .holds .within) (h .1 .1) in
     (room-first (st .args .p) _ _ (room st), (n .coefficient, n .factor))
 
 put-plain-second-requires : tie.Need-put-plain-second-requires
@@ -38,7 +38,7 @@ returns : tie.Need-returns
 returns c =
     let st = c .before .before .before .before .before .before .before .before .before in
     let a = st .args in
-    puts-same (sym (place-plain (a .work .now) (a .s) (a .y) (a .x) (st .pre .1 .0 .plain))) (puts-then (st .pre .0 .sound) (c .before .before .before .before .before .before .put-coefficient .ensures) (c .before .before .put-plain-second .ensures))
+    puts-same (sym (place-plain (a .work .now) (a .s) (a .y) (a .x) (st .pre .1 .0 .holds .plain))) (puts-then (st .pre .0 .sound) (c .before .before .before .before .before .before .put-coefficient .ensures) (c .before .before .put-plain-second .ensures))
 
 pub put-plain-place-spec : {M : Type 1} → statement M
 put-plain-place-spec =

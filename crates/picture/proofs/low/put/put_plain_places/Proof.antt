@@ -11,16 +11,16 @@ use Rattle.picture.proofs.low.put.put_plain_places.Statement.{statement
 use Rattle.picture.proofs.low.put.put_plain_places.Tie as tie
 
 abbrev Inv-loop : tie.InvT-loop
-Inv-loop out₀ work a n s y t₀ x₀ out t x = (s .left ≤ x) × ((x ≤ s .right) × Puts out₀ t₀ (chunks (places work s y (s .left)) (x - s .left)) out t)
+Inv-loop out₀ work s y t₀ x₀ out t x = (s .left ≤ x) × ((x ≤ s .right) × Puts out₀ t₀ (chunks (places work s y (s .left)) (x - s .left)) out t)
 
 abbrev μ-loop : tie.MeasureT-loop
-μ-loop out₀ work a n s y t₀ x₀ out t x = s .right - x
+μ-loop out₀ work s y t₀ x₀ out t x = s .right - x
 
 loop-holds : tie.Need-loop-holds Inv-loop μ-loop
 loop-holds c =
     let st = c .before in
     let a = st .args in
-    (omega arith, (st .pre .1 .0 .within .columns, parts-none (places (a .work .now) (a .s) (a .y) (a .s .left)) (a .s .left) (st .pre .0)))
+    (omega arith, (st .pre .1 .0 .holds .within .columns, parts-none (places (a .work .now) (a .s) (a .y) (a .s .left)) (a .s .left) (st .pre .0)))
 
 put-plain-place-requires : tie.Need-put-plain-place-requires Inv-loop μ-loop
 put-plain-place-requires c κs =

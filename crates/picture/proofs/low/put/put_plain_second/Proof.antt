@@ -16,8 +16,8 @@ put-coefficient-requires c κs =
     let st = c .before .before .before in
     let a = st .args in
     let h = st .pre in
-    let n = numbered-second (h .1 .0 .small) (h .1 .0 .within) (h .1 .1) in
-    (room-same (a .p) (secondNumber (a .work .now) (a .s) (a .y) (a .x)) _ (second-plain (a .work .now) (a .s) (a .y) (a .x) (h .1 .0 .plain) (c .before .if1 .taken)) (h .0), (n .coefficient, n .factor))
+    let n = numbered-second (h .1 .0 .holds .small) (h .1 .0 .holds .within) (h .1 .1) in
+    (room-same (a .p) (secondNumber (a .work .now) (a .s) (a .y) (a .x)) _ (second-plain (a .work .now) (a .s) (a .y) (a .x) (h .1 .0 .holds .plain) (c .before .if1 .taken)) (h .0), (n .coefficient, n .factor))
 
 same-length : tie.Need-same-length
 same-length c = search needs
@@ -26,7 +26,7 @@ returns : tie.Need-returns
 returns c =
     let st = c .before .before .before .before .before .before in
     let a = st .args in
-    puts-same (sym (second-plain (a .work .now) (a .s) (a .y) (a .x) (st .pre .1 .0 .plain) (c .before .before .before .before .if1 .taken))) (c .before .before .put-coefficient .ensures)
+    puts-same (sym (second-plain (a .work .now) (a .s) (a .y) (a .x) (st .pre .1 .0 .holds .plain) (c .before .before .before .before .if1 .taken))) (c .before .before .put-coefficient .ensures)
 
 returns-2 : tie.Need-returns-2
 returns-2 c =

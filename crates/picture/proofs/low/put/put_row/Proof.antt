@@ -21,7 +21,8 @@ returns-2 c = search needs
 put-plain-places-requires : tie.Need-put-plain-places-requires
 put-plain-places-requires c κs =
     let h = c .before .before .before .before .before .pre in
-    (h .0, (record { small = h .1 .0; within = h .1 .1 .0; plain = c .before .if2 .left }, h .1 .1 .1))
+    let b = h .1 .0 in
+    (h .0, (record { front = b .front; end = b .end; holds = record { small = b .holds .0; within = b .holds .1; plain = c .before .if2 .left } }, h .1 .1))
 
 same-length-2 : tie.Need-same-length-2
 same-length-2 c = search needs

@@ -11,16 +11,16 @@ use Rattle.picture.proofs.low.put.put_rows.Statement.{statement}
 use Rattle.picture.proofs.low.put.put_rows.Tie as tie
 
 abbrev Inv-loop : tie.InvT-loop
-Inv-loop out₀ work a n s t₀ y₀ out t y = (s .top ≤ y) × ((y ≤ s .bottom) × Puts out₀ t₀ (chunks (rows work s (s .top)) (y - s .top)) out t)
+Inv-loop out₀ work s t₀ y₀ out t y = (s .top ≤ y) × ((y ≤ s .bottom) × Puts out₀ t₀ (chunks (rows work s (s .top)) (y - s .top)) out t)
 
 abbrev μ-loop : tie.MeasureT-loop
-μ-loop out₀ work a n s t₀ y₀ out t y = s .bottom - y
+μ-loop out₀ work s t₀ y₀ out t y = s .bottom - y
 
 loop-holds : tie.Need-loop-holds Inv-loop μ-loop
 loop-holds c =
     let st = c .before in
     let a = st .args in
-    (omega arith, (st .pre .1 .1 .rows, parts-none (rows (a .work .now) (a .s) (a .s .top)) (a .s .top) (st .pre .0)))
+    (omega arith, (st .pre .1 .holds .1 .rows, parts-none (rows (a .work .now) (a .s) (a .s .top)) (a .s .top) (st .pre .0)))
 
 put-row-requires : tie.Need-put-row-requires Inv-loop μ-loop
 put-row-requires c κs =
@@ -33,7 +33,7 @@ put-row-requires c κs =
     let all = room-same (a .p) (stripNumbers (a .work .now) (a .s)) (chunks F (a .s .bottom - a .s .top)) (rows-chunks (a .work .now) (a .s) (a .s .top) (a .s .bottom - a .s .top)) (h .0) in
     let room = room-same (l .t) (F (l .y - a .s .top)) (rowAt (a .work .now) (a .s) (l .y)) (ap (rowAt (a .work .now) (a .s)) e)
     (part-room F (a .s .bottom - a .s .top) (l .y - a .s .top) (omega (arith, l .inv .0, c .before .if1 .taken)) all (l .inv .1 .1)) in
-    (room, (h .1 .0, (h .1 .1, (l .inv .0, c .before .if1 .taken))))
+    (room, (h .1, (l .inv .0, c .before .if1 .taken)))
 
 add-y : tie.Need-add-y Inv-loop μ-loop
 add-y c = omega arith

@@ -11,23 +11,23 @@ use Rattle.picture.proofs.low.put.put_run.Statement.{statement}
 use Rattle.picture.proofs.low.put.put_run.Tie as tie
 
 abbrev Inv-loop : tie.InvT-loop
-Inv-loop out₀ work a e l c second pair k q bands v₀ r₀ start₀ n₀ out v r start n =
+Inv-loop out₀ work l c second pair k q bands v₀ r₀ start₀ n₀ out v r start n =
     (n ≤ bandCount l) × ((start ≡ startOf l c n) × ((v ≡ windowOf l c (n - 1) k) × Puts out₀ r₀ (runNumbers work l c second pair k q n) out r))
 
 abbrev μ-loop : tie.MeasureT-loop
-μ-loop out₀ work a e l c second pair k q bands v₀ r₀ start₀ n₀ out v r start n = bandCount l - n
+μ-loop out₀ work l c second pair k q bands v₀ r₀ start₀ n₀ out v r start n = bandCount l - n
 
 add-bands : tie.Need-add-bands Inv-loop μ-loop
-add-bands c = let st = c .before .before in omega (arith, st .pre .0 .layout .depths)
+add-bands c = let st = c .before .before in omega (arith, st .pre .0 .holds .layout .depths)
 
 mul-bands : tie.Need-mul-bands Inv-loop μ-loop
-mul-bands c = let st = c .before .before .before in omega (arith, st .pre .0 .layout .depths)
+mul-bands c = let st = c .before .before .before in omega (arith, st .pre .0 .holds .layout .depths)
 
 add-bands-2 : tie.Need-add-bands-2 Inv-loop μ-loop
-add-bands-2 c = let st = c .before .before .before in omega (arith, st .pre .0 .layout .depths)
+add-bands-2 c = let st = c .before .before .before in omega (arith, st .pre .0 .holds .layout .depths)
 
 window-at-requires : tie.Need-window-at-requires Inv-loop μ-loop
-window-at-requires c κs = let st = c .before .before .before in run-window (st .pre .0) 0 (omega arith)
+window-at-requires c κs = let st = c .before .before .before in run-window (st .pre .0 .holds) 0 (omega arith)
 
 loop-holds : tie.Need-loop-holds Inv-loop μ-loop
 loop-holds c =
@@ -39,13 +39,13 @@ next-window-requires : tie.Need-next-window-requires Inv-loop μ-loop
 next-window-requires c κs =
     let st = c .before .before .before .before .before .before in
     let v = c .before .loop in
-    (run-window (st .pre .0) (v .n) (c .loop-test .taken), v .inv .1 .1 .0)
+    (run-window (st .pre .0 .holds) (v .n) (c .loop-test .taken), v .inv .1 .1 .0)
 
 strip-in-requires : tie.Need-strip-in-requires Inv-loop μ-loop
 strip-in-requires c κs =
     let st = c .before .before .before .before .before .before .before in
     let v = c .before .before .loop in
-    (strip-in (st .pre .0) (v .n) (v .start) (c .before .loop-test .taken) (v .inv .1 .0), c .next-window .ensures)
+    (strip-in (st .pre .0 .holds) (v .n) (v .start) (c .before .loop-test .taken) (v .inv .1 .0), c .next-window .ensures)
 
 put-strip-requires : tie.Need-put-strip-requires Inv-loop μ-loop
 put-strip-requires c κs =
@@ -53,7 +53,7 @@ put-strip-requires c κs =
     let a = st .args in
     let v = c .before .before .before .before .loop in
     let s = c .before .strip-in in
-    put-ready (a .work .now) (a .l) (a .c) (a .second) (a .pair) (a .k) (a .q) (st .pre .0) (s .result) (v .n) (c .before .before .before .loop-test .taken) (strip-from (a .l) (a .c) (a .second) (a .pair) (a .k) (a .q) (s .result) (v .n) (v .start) (s .ensures) (v .inv .1 .0)) (st .pre .1) (v .inv .1 .1 .1)
+    put-ready (a .work .now) (a .l) (a .c) (a .second) (a .pair) (a .k) (a .q) (st .pre .0 .holds) (s .result) (v .n) (c .before .before .before .loop-test .taken) (strip-from (a .l) (a .c) (a .second) (a .pair) (a .k) (a .q) (s .result) (v .n) (v .start) (s .ensures) (v .inv .1 .0)) (st .pre .1) (v .inv .1 .1 .1)
 
 mul-start : tie.Need-mul-start Inv-loop μ-loop
 mul-start c =
@@ -61,7 +61,7 @@ mul-start c =
     let a = st .args in
     let v = c .before .before .before .before .before .before .before .before .loop in
     let s = c .before .before .before .before .before .strip-in in
-    omega (arith, start-small (a .work .now) (a .l) (a .c) (a .second) (a .pair) (a .k) (a .q) (st .pre .0) (s .result) (v .n) (c .before .before .before .before .before .before .before .loop-test .taken) (v .start) (s .ensures) (v .inv .1 .0))
+    omega (arith, start-small (a .work .now) (a .l) (a .c) (a .second) (a .pair) (a .k) (a .q) (st .pre .0 .holds) (s .result) (v .n) (c .before .before .before .before .before .before .before .loop-test .taken) (v .start) (s .ensures) (v .inv .1 .0))
 
 add-start : tie.Need-add-start Inv-loop μ-loop
 add-start c =
@@ -69,10 +69,10 @@ add-start c =
     let a = st .args in
     let v = c .before .before .before .before .before .before .before .before .loop in
     let s = c .before .before .before .before .before .strip-in in
-    omega (arith, start-small (a .work .now) (a .l) (a .c) (a .second) (a .pair) (a .k) (a .q) (st .pre .0) (s .result) (v .n) (c .before .before .before .before .before .before .before .loop-test .taken) (v .start) (s .ensures) (v .inv .1 .0))
+    omega (arith, start-small (a .work .now) (a .l) (a .c) (a .second) (a .pair) (a .k) (a .q) (st .pre .0 .holds) (s .result) (v .n) (c .before .before .before .before .before .before .before .loop-test .taken) (v .start) (s .ensures) (v .inv .1 .0))
 
 add-n : tie.Need-add-n Inv-loop μ-loop
-add-n c = omega (arith, c .before .before .before .before .before .before .before .before .before .before .before .before .before .pre .0 .layout .depths, c .before .before .before .before .before .before .before .loop-test .taken)
+add-n c = omega (arith, c .before .before .before .before .before .before .before .before .before .before .before .before .before .pre .0 .holds .layout .depths, c .before .before .before .before .before .before .before .loop-test .taken)
 
 loop-less : tie.Need-loop-less Inv-loop μ-loop
 loop-less c = omega (arith, c .before .before .before .before .before .before .before .loop-test .taken)

@@ -12,7 +12,7 @@ use Rattle.picture.proofs.low.put.put_second.Statement.{statement}
 use Rattle.picture.proofs.low.put.put_second.Tie as tie
 
 number-at-requires : tie.Need-number-at-requires
-number-at-requires c κs = let h = c .before .before .pre in numbered-second (h .1 .0) (h .1 .1 .0) (h .1 .1 .1)
+number-at-requires c κs = let h = c .before .before .pre in numbered-second (h .1 .0 .holds .0) (h .1 .0 .holds .1) (h .1 .1)
 
 put-number-requires : tie.Need-put-number-requires
 put-number-requires c κs =

@@ -5,6 +5,7 @@ use Rattle.codewords.specs.CodeWord.{codes}
 use Rattle.codewords.specs.Laws.Writer.{wrote-then}
 use Rattle.picture.specs.Laws.Head.{room-first, room-rest}
 use Rattle.picture.specs.Code.Low.{lumaIn, colourIn}
+use Rattle.picture.specs.Laws.Layout.{run-lies}
 use Rattle.picture.specs.Laws.Picture.{run-y, run-pair}
 use borrow.Author.Needs.{needs}
 use Rattle.picture.proofs.low.slice.put_runs.Statement.{statement}
@@ -22,12 +23,12 @@ colourBits c = codes (take (c .args .r .colour) (colourIn (c .args .work .now) (
 put-run-requires : tie.Need-put-run-requires
 put-run-requires c κs =
     let st = c .before .before .before .before .before .before in
-    (run-y (st .pre .0), room-first (lumaBits st) (colourBits st) (st .pre .1))
+    (run-lies (run-y (st .pre .0)), room-first (lumaBits st) (colourBits st) (st .pre .1))
 
 put-run-requires-2 : tie.Need-put-run-requires-2
 put-run-requires-2 c κs =
     let st = c .before .before .before .before .before .before .before .before .before .before .before in
-    (run-pair (st .pre .0), room-rest (lumaBits st) (colourBits st) (st .pre .1) (c .before .before .before .before .put-run .ensures .wrote))
+    (run-lies (run-pair (st .pre .0)), room-rest (lumaBits st) (colourBits st) (st .pre .1) (c .before .before .before .before .put-run .ensures .wrote))
 
 same-length : tie.Need-same-length
 same-length c = search needs

@@ -10,7 +10,7 @@ use Rattle.picture.proofs.slices.cost.add_second.Tie as tie
 use Rattle.picture.specs.Code.Cost.{add1}
 
 number-len-requires : tie.Need-number-len-requires
-number-len-requires c κs = let h = c .before .pre in numbered-second (h .0) (h .1 .0) (h .1 .1 .0)
+number-len-requires c κs = let h = c .before .pre in numbered-second (h .0 .holds .0) (h .0 .holds .1) (h .1 .0)
 
 add-len-requires : tie.Need-add-len-requires
 add-len-requires c κs = search needs

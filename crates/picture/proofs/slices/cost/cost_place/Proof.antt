@@ -18,7 +18,7 @@ added : (c : tie.After-add-len) → c .add-len .result ≡ add1 (c .before .befo
 added c = added-len (c .before .before .args .c) (number c) _ _ (c .before .number-len .ensures) (c .add-len .ensures)
 
 number-len-requires : tie.Need-number-len-requires
-number-len-requires c κs = let h = c .pre in numbered (h .0) (h .1 .0) (h .1 .1 .0)
+number-len-requires c κs = let h = c .pre in numbered (h .0 .holds .0) (h .0 .holds .1) (h .1 .0)
 
 add-len-requires : tie.Need-add-len-requires
 add-len-requires c κs = search needs
@@ -27,7 +27,7 @@ add-second-requires : tie.Need-add-second-requires
 add-second-requires c κs =
     let h = c .before .before .pre in
     let a = c .before .before .args in
-    (h .0, (h .1 .0, (h .1 .1 .0, countable-one (a .c) (c .add-len .result) (number c) (h .1 .1 .1) (number-size (a .work .now) (a .s) (a .s .coefs) (a .s .rebuilt) (a .y) (a .x)) (added c))))
+    (h .0, (h .1 .0, countable-one (a .c) (c .add-len .result) (number c) (h .1 .1) (number-size (a .work .now) (a .s) (a .s .coefs) (a .s .rebuilt) (a .y) (a .x)) (added c)))
 
 returns : tie.Need-returns
 returns c =

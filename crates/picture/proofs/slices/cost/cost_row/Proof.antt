@@ -12,15 +12,15 @@ use Rattle.picture.proofs.slices.cost.cost_row.Statement.{statement}
 use Rattle.picture.proofs.slices.cost.cost_row.Tie as tie
 
 abbrev Inv-loop : tie.InvT-loop
-Inv-loop work a n s y t₀ x₀ t x = (s .left ≤ x) × ((x ≤ s .right) × (t ≡ addAll t₀ (chunks (places work s y (s .left)) (x - s .left))))
+Inv-loop work s y t₀ x₀ t x = (s .left ≤ x) × ((x ≤ s .right) × (t ≡ addAll t₀ (chunks (places work s y (s .left)) (x - s .left))))
 
 abbrev μ-loop : tie.MeasureT-loop
-μ-loop work a n s y t₀ x₀ t x = s .right - x
+μ-loop work s y t₀ x₀ t x = s .right - x
 
 loop-holds : tie.Need-loop-holds Inv-loop μ-loop
 loop-holds c =
     let a = c .args in
-    (omega arith, (c .pre .1 .0 .columns, added-chunks-none add1 (places (a .work .now) (a .s) (a .y) (a .s .left)) (a .c) (a .s .left)))
+    (omega arith, (c .pre .0 .holds .1 .columns, added-chunks-none add1 (places (a .work .now) (a .s) (a .y) (a .s .left)) (a .c) (a .s .left)))
 
 cost-place-requires : tie.Need-cost-place-requires Inv-loop μ-loop
 cost-place-requires c κs =
@@ -30,10 +30,10 @@ cost-place-requires c κs =
     let h = st .pre in
     let F = places (a .work .now) (a .s) (a .y) (a .s .left) in
     let k : ℕ = l .x - a .s .left in
-    let i : Inside (a .s) (a .y) (l .x) = record { below = h .1 .1 .0; above = h .1 .1 .1 .0; right-of = l .inv .0; left-of = c .if1 .taken } in
+    let i : Inside (a .s) (a .y) (l .x) = record { below = h .1 .0; above = h .1 .1 .0; right-of = l .inv .0; left-of = c .if1 .taken } in
     let m = chunks-length F 2 k (λ j. place-length (a .work .now) (a .s) (a .y) (a .s .left + j)) in
-    let q = countable-after (a .c) (chunks F k) _ 2 (h .1 .1 .1 .1) (chunks-small F k (λ j. place-small (a .work .now) (a .s) (a .y) (a .s .left + j))) (omega (arith, m, l .inv .0, c .if1 .taken)) in
-    (h .0, (h .1 .0, (i, rw (l .inv .1 .1) q)))
+    let q = countable-after (a .c) (chunks F k) _ 2 (h .1 .1 .1) (chunks-small F k (λ j. place-small (a .work .now) (a .s) (a .y) (a .s .left + j))) (omega (arith, m, l .inv .0, c .if1 .taken)) in
+    (h .0, (i, rw (l .inv .1 .1) q))
 
 add-x : tie.Need-add-x Inv-loop μ-loop
 add-x c = omega arith

@@ -11,15 +11,15 @@ use Rattle.picture.proofs.slices.cost.cost_strip.Statement.{statement}
 use Rattle.picture.proofs.slices.cost.cost_strip.Tie as tie
 
 abbrev Inv-loop : tie.InvT-loop
-Inv-loop work a n s t₀ y₀ t y = (s .top ≤ y) × ((y ≤ s .bottom) × (t ≡ addAll t₀ (chunks (rows work s (s .top)) (y - s .top))))
+Inv-loop work s t₀ y₀ t y = (s .top ≤ y) × ((y ≤ s .bottom) × (t ≡ addAll t₀ (chunks (rows work s (s .top)) (y - s .top))))
 
 abbrev μ-loop : tie.MeasureT-loop
-μ-loop work a n s t₀ y₀ t y = s .bottom - y
+μ-loop work s t₀ y₀ t y = s .bottom - y
 
 loop-holds : tie.Need-loop-holds Inv-loop μ-loop
 loop-holds c =
     let a = c .args in
-    (omega arith, (c .pre .1 .0 .rows, added-chunks-none add1 (rows (a .work .now) (a .s) (a .s .top)) (a .c) (a .s .top)))
+    (omega arith, (c .pre .0 .holds .1 .rows, added-chunks-none add1 (rows (a .work .now) (a .s) (a .s .top)) (a .c) (a .s .top)))
 
 cost-row-requires : tie.Need-cost-row-requires Inv-loop μ-loop
 cost-row-requires c κs =
@@ -31,9 +31,9 @@ cost-row-requires c κs =
     let k : ℕ = l .y - a .s .top in
     let w : ℕ = a .s .right - a .s .left in
     let m = chunks-length F (w * 2) k (λ j. row-length (a .work .now) (a .s) (a .s .top + j) (a .s .left) w) in
-    let q = countable-after (a .c) (chunks F k) _ (2 * w) (h .1 .1) (chunks-small F k (λ j. row-small (a .work .now) (a .s) (a .s .top + j) (a .s .left) w))
+    let q = countable-after (a .c) (chunks F k) _ (2 * w) (h .1) (chunks-small F k (λ j. row-small (a .work .now) (a .s) (a .s .top + j) (a .s .left) w))
     (strip-room k (a .s .bottom - a .s .top) w _ (omega (arith, l .inv .0, c .if1 .taken)) m) in
-    (h .0, (h .1 .0, (l .inv .0, (c .if1 .taken, rw (l .inv .1 .1) q))))
+    (h .0, (l .inv .0, (c .if1 .taken, rw (l .inv .1 .1) q)))
 
 add-y : tie.Need-add-y Inv-loop μ-loop
 add-y c = omega arith

@@ -36,17 +36,17 @@ part-store-end : tie.Need-part-store-end
 part-store-end c = search needs
 
 mul-store-2 : tie.Need-mul-store-2
-mul-store-2 c = let h = c .before .before .before .before .pre in omega (arith, place-lt (h .0) (h .1 .0) (h .1 .1), h .1 .0 .rebuilt, h .0 .order, h .0 .few)
+mul-store-2 c = let h = c .before .before .before .before .pre in omega (arith, place-lt (h .0 .holds .0) (h .0 .holds .1) (h .1), h .0 .holds .1 .rebuilt, h .0 .holds .0 .order, h .0 .holds .0 .few)
 
 add-store : tie.Need-add-store
-add-store c = let h = c .before .before .before .before .pre in omega (arith, place-lt (h .0) (h .1 .0) (h .1 .1), h .1 .0 .rebuilt, h .0 .order, h .0 .few)
+add-store c = let h = c .before .before .before .before .pre in omega (arith, place-lt (h .0 .holds .0) (h .0 .holds .1) (h .1), h .0 .holds .1 .rebuilt, h .0 .holds .0 .order, h .0 .holds .0 .few)
 
 store-requires : tie.Need-store-requires
 store-requires c κs =
     let st = c .before .before .before .before in
     let a = st .args in
     let h = st .pre in
-    rw (length-lent (a .s .rebuilt) (a .s .height * a .s .width) (a .work .now) (omega (arith, h .1 .0 .rebuilt, h .0 .order, h .0 .long))) (place-lt (h .0) (h .1 .0) (h .1 .1))
+    rw (length-lent (a .s .rebuilt) (a .s .height * a .s .width) (a .work .now) (omega (arith, h .0 .holds .1 .rebuilt, h .0 .holds .0 .order, h .0 .holds .0 .long))) (place-lt (h .0 .holds .0) (h .0 .holds .1) (h .1))
 
 same-length : tie.Need-same-length
 same-length c = search needs
@@ -62,7 +62,7 @@ returns c =
     let m : ℕ = p + a .s .height * a .s .width - p in
     let i : ℕ = a .y * a .s .width + a .x in
     ap (λ (ys : List ℤ). take p l ++ (ys ++ drop m (drop p l))) (c .before .store .ensures)
-    ∙ set-lent p m i (toZ w64 (ofZ w64 (v .result))) l (omega (arith, place-lt (h .0) (h .1 .0) (h .1 .1)))
+    ∙ set-lent p m i (toZ w64 (ofZ w64 (v .result))) l (omega (arith, place-lt (h .0 .holds .0) (h .0 .holds .1) (h .1)))
     ∙ ap (set l (p + i)) (toZ-ofZ (sfits-of (v .ok)) ∙ v .ensures .0)
 
 pub rebuild-place-spec : {M : Type 1} → statement M

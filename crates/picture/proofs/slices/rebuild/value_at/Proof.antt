@@ -28,28 +28,28 @@ value c =
 prediction-requires : tie.Need-prediction-requires
 prediction-requires c κs =
     let h = c .pre in
-    let n = numbered (h .0) (h .1 .0) (h .1 .1) in
+    let n = numbered (h .0 .holds .0) (h .0 .holds .1) (h .1) in
     (n .plane, n .column)
 
 number-at-requires : tie.Need-number-at-requires
-number-at-requires c κs = let h = c .before .pre in numbered (h .0) (h .1 .0) (h .1 .1)
+number-at-requires c κs = let h = c .before .pre in numbered (h .0 .holds .0) (h .0 .holds .1) (h .1)
 
 inverse-by-requires : tie.Need-inverse-by-requires
 inverse-by-requires c κs =
     let h = c .before .before .pre in
-    (numbered (h .0) (h .1 .0) (h .1 .1) .factor .0, rw (h .1 .0 .offset) (quantOffset-lt (c .before .before .args .s .index)))
+    (numbered (h .0 .holds .0) (h .0 .holds .1) (h .1) .factor .0, rw (h .0 .holds .1 .offset) (quantOffset-lt (c .before .before .args .s .index)))
 
 add-result : tie.Need-add-result
 add-result c =
     let st = c .before .before .before in
     let h = st .pre in
-    rw (value c) (fit (valueIn (st .args .work .now) (st .args .s) (st .args .y) (st .args .x)) (omega (arith, value-reach (h .0) (h .1 .0) (h .1 .1))))
+    rw (value c) (fit (valueIn (st .args .work .now) (st .args .s) (st .args .y) (st .args .x)) (omega (arith, value-reach (h .0 .holds .0) (h .0 .holds .1) (h .1))))
 
 returns : tie.Need-returns
 returns c =
     let h = c .before .before .before .pre in
     let e = toZ-ofZ {w = w64} (add-result c) ∙ value c in
-    (e, rw e (value-reach (h .0) (h .1 .0) (h .1 .1)))
+    (e, rw e (value-reach (h .0 .holds .0) (h .0 .holds .1) (h .1)))
 
 pub value-at-spec : {M : Type 1} → statement M
 value-at-spec =

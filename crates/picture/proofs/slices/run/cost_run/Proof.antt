@@ -10,20 +10,20 @@ use Rattle.picture.proofs.slices.run.cost_run.Statement.{statement}
 use Rattle.picture.proofs.slices.run.cost_run.Tie as tie
 
 abbrev Inv-loop : tie.InvT-loop
-Inv-loop work a e l c second pair k q bands r₀ start₀ n₀ r start n =
+Inv-loop work l c second pair k q bands r₀ start₀ n₀ r start n =
     (n ≤ bandCount l) × ((start ≡ startOf l c n) × (r ≡ addAll r₀ (runNumbers work l c second pair k q n)))
 
 abbrev μ-loop : tie.MeasureT-loop
-μ-loop work a e l c second pair k q bands r₀ start₀ n₀ r start n = bandCount l - n
+μ-loop work l c second pair k q bands r₀ start₀ n₀ r start n = bandCount l - n
 
 add-bands : tie.Need-add-bands Inv-loop μ-loop
-add-bands c = let st = c .before in omega (arith, st .pre .0 .layout .depths)
+add-bands c = let st = c .before in omega (arith, st .pre .0 .holds .layout .depths)
 
 mul-bands : tie.Need-mul-bands Inv-loop μ-loop
-mul-bands c = let st = c .before .before in omega (arith, st .pre .0 .layout .depths)
+mul-bands c = let st = c .before .before in omega (arith, st .pre .0 .holds .layout .depths)
 
 add-bands-2 : tie.Need-add-bands-2 Inv-loop μ-loop
-add-bands-2 c = let st = c .before .before in omega (arith, st .pre .0 .layout .depths)
+add-bands-2 c = let st = c .before .before in omega (arith, st .pre .0 .holds .layout .depths)
 
 loop-holds : tie.Need-loop-holds Inv-loop μ-loop
 loop-holds c = let a = c .before .before .args in (omega arith, (sym (start-first (a .l) (a .c)), cost-none (a .work .now) (a .l) (a .c) (a .second) (a .pair) (a .k) (a .q) (a .t)))
@@ -33,7 +33,7 @@ strip-at-requires c κs =
     let st = c .before .before .before .before in
     let a = st .args in
     let v = c .before .loop in
-    strip-in (st .pre .0) (v .n) (v .start) (c .loop-test .taken) (v .inv .1 .0)
+    strip-in (st .pre .0 .holds) (v .n) (v .start) (c .loop-test .taken) (v .inv .1 .0)
 
 cost-strip-requires : tie.Need-cost-strip-requires Inv-loop μ-loop
 cost-strip-requires c κs =
@@ -42,7 +42,7 @@ cost-strip-requires c κs =
     let v = c .before .before .loop in
     let s = c .strip-at in
     let d = c .before .loop-test .taken in
-    cost-ready (a .work .now) (a .l) (a .c) (a .second) (a .pair) (a .k) (a .q) (st .pre .0) (s .result) (v .n) d (a .t) (v .r) (strip-from (a .l) (a .c) (a .second) (a .pair) (a .k) (a .q) (s .result) (v .n) (v .start) (s .ensures) (v .inv .1 .0)) (v .inv .1 .1) (st .pre .1)
+    cost-ready (a .work .now) (a .l) (a .c) (a .second) (a .pair) (a .k) (a .q) (st .pre .0 .holds) (s .result) (v .n) d (a .t) (v .r) (strip-from (a .l) (a .c) (a .second) (a .pair) (a .k) (a .q) (s .result) (v .n) (v .start) (s .ensures) (v .inv .1 .0)) (v .inv .1 .1) (st .pre .1)
 
 mul-start : tie.Need-mul-start Inv-loop μ-loop
 mul-start c =
@@ -51,7 +51,7 @@ mul-start c =
     let v = c .before .before .before .before .loop in
     let s = c .before .before .strip-at in
     let d = c .before .before .before .loop-test .taken in
-    omega (arith, start-small (a .work .now) (a .l) (a .c) (a .second) (a .pair) (a .k) (a .q) (st .pre .0) (s .result) (v .n) d (v .start) (s .ensures) (v .inv .1 .0))
+    omega (arith, start-small (a .work .now) (a .l) (a .c) (a .second) (a .pair) (a .k) (a .q) (st .pre .0 .holds) (s .result) (v .n) d (v .start) (s .ensures) (v .inv .1 .0))
 
 add-start : tie.Need-add-start Inv-loop μ-loop
 add-start c =
@@ -60,10 +60,10 @@ add-start c =
     let v = c .before .before .before .before .loop in
     let s = c .before .before .strip-at in
     let d = c .before .before .before .loop-test .taken in
-    omega (arith, start-small (a .work .now) (a .l) (a .c) (a .second) (a .pair) (a .k) (a .q) (st .pre .0) (s .result) (v .n) d (v .start) (s .ensures) (v .inv .1 .0))
+    omega (arith, start-small (a .work .now) (a .l) (a .c) (a .second) (a .pair) (a .k) (a .q) (st .pre .0 .holds) (s .result) (v .n) d (v .start) (s .ensures) (v .inv .1 .0))
 
 add-n : tie.Need-add-n Inv-loop μ-loop
-add-n c = let st = c .before .before .before .before .before .before .before in omega (arith, st .pre .0 .layout .depths, c .before .before .before .loop-test .taken)
+add-n c = let st = c .before .before .before .before .before .before .before in omega (arith, st .pre .0 .holds .layout .depths, c .before .before .before .loop-test .taken)
 
 loop-less : tie.Need-loop-less Inv-loop μ-loop
 loop-less c = omega (arith, c .before .before .before .loop-test .taken)

@@ -27,7 +27,7 @@ cost-strip-requires c κs =
     let st = c .before .before in
     let a = st .args in
     let s = c .strip-in in
-    rw (c .before .no-cost .ensures) (first-ready (a .work .now) (a .l) (a .c) (a .second) (a .pair) (a .k) (a .q) (st .pre .0) (s .result) (st .pre .1 .0) (s .ensures))
+    rw (c .before .no-cost .ensures) (first-ready (a .work .now) (a .l) (a .c) (a .second) (a .pair) (a .k) (a .q) (st .pre .0 .holds) (s .result) (st .pre .1 .0) (s .ensures))
 
 tally-of-requires : tie.Need-tally-of-requires
 tally-of-requires c κs = search needs

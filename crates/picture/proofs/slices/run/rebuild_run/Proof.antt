@@ -1,8 +1,7 @@
 -- `slices::run::rebuild_run` meets its contract.
-use Rattle.picture.specs.Laws.Layout.{first-within}
+use Rattle.picture.specs.Laws.Layout.{first-lies}
 use mathlib.Core.Bool.{false}
 use mathlib.Core.Path.{_∙_, ap}
-use Rattle.picture.specs.declared.slices.strip.Strip.{Strip}
 use Rattle.picture.specs.Code.Strip.{rebuiltStrip}
 use borrow.Author.Needs.{needs}
 use Rattle.picture.proofs.slices.run.rebuild_run.Statement.{statement}
@@ -14,15 +13,15 @@ strip-in-requires c κs = search needs
 rebuild-strip-requires : tie.Need-rebuild-strip-requires
 rebuild-strip-requires c κs =
     let st = c .before .before in
-    (st .pre .0 .small, first-within (st .pre .0) false (c .before .strip-in .result) (c .before .strip-in .ensures))
+    first-lies (st .pre .0 .holds) false (c .before .strip-in .result) (c .before .strip-in .ensures)
 
 same-length : tie.Need-same-length
 same-length c = search needs
 
 returns : tie.Need-returns
 returns c =
-    let r = c .before .rebuild-strip .ensures in
-    (r .0 ∙ ap (λ (s : Strip). rebuiltStrip (c .before .before .before .before .args .work .now) s) (c .before .before .before .strip-in .ensures), r .1)
+    let s = c .before .before in
+    c .before .rebuild-strip .ensures ∙ ap (rebuiltStrip (s .before .before .args .work .now)) (s .before .strip-in .ensures)
 
 pub rebuild-run-spec : {M : Type 1} → statement M
 rebuild-run-spec =

@@ -10,25 +10,25 @@ use Rattle.picture.proofs.slices.run.rest_tally.Statement.{statement}
 use Rattle.picture.proofs.slices.run.rest_tally.Tie as tie
 
 abbrev Inv-loop : tie.InvT-loop
-Inv-loop work a e l c second pair k q bands v₀ r₀ start₀ n₀ v r start n =
+Inv-loop work l c second pair k q bands v₀ r₀ start₀ n₀ v r start n =
     ((1 ≤ n) × (n ≤ bandCount l)) × ((start ≡ startOf l c n) × ((v ≡ windowOf l c (n - 1) k) × (r ≡ tallyAll r₀ (restNumbers work l c second pair k q (n - 1)))))
 
 abbrev μ-loop : tie.MeasureT-loop
-μ-loop work a e l c second pair k q bands v₀ r₀ start₀ n₀ v r start n = bandCount l - n
+μ-loop work l c second pair k q bands v₀ r₀ start₀ n₀ v r start n = bandCount l - n
 
 add-bands : tie.Need-add-bands Inv-loop μ-loop
-add-bands c = let st = c .before in omega (arith, st .pre .0 .layout .depths)
+add-bands c = let st = c .before in omega (arith, st .pre .0 .holds .layout .depths)
 
 mul-bands : tie.Need-mul-bands Inv-loop μ-loop
-mul-bands c = let st = c .before .before in omega (arith, st .pre .0 .layout .depths)
+mul-bands c = let st = c .before .before in omega (arith, st .pre .0 .holds .layout .depths)
 
 add-bands-2 : tie.Need-add-bands-2 Inv-loop μ-loop
-add-bands-2 c = let st = c .before .before in omega (arith, st .pre .0 .layout .depths)
+add-bands-2 c = let st = c .before .before in omega (arith, st .pre .0 .holds .layout .depths)
 
 mul-start : tie.Need-mul-start Inv-loop μ-loop
 mul-start c =
     let st = c .before .before .before in
-    omega (arith, window-few (st .pre .0) (st .args .first) (st .pre .1 .1))
+    omega (arith, window-few (st .pre .0 .holds) (st .args .first) (st .pre .1 .1))
 
 loop-holds : tie.Need-loop-holds Inv-loop μ-loop
 loop-holds c =
@@ -40,13 +40,13 @@ next-window-requires : tie.Need-next-window-requires Inv-loop μ-loop
 next-window-requires c κs =
     let st = c .before .before .before .before .before in
     let v = c .before .loop in
-    (run-window (st .pre .0) (v .n) (c .loop-test .taken), v .inv .1 .1 .0)
+    (run-window (st .pre .0 .holds) (v .n) (c .loop-test .taken), v .inv .1 .1 .0)
 
 strip-in-requires : tie.Need-strip-in-requires Inv-loop μ-loop
 strip-in-requires c κs =
     let st = c .before .before .before .before .before .before in
     let v = c .before .before .loop in
-    (strip-in (st .pre .0) (v .n) (v .start) (c .before .loop-test .taken) (v .inv .1 .0), c .next-window .ensures)
+    (strip-in (st .pre .0 .holds) (v .n) (v .start) (c .before .loop-test .taken) (v .inv .1 .0), c .next-window .ensures)
 
 tally-strip-requires : tie.Need-tally-strip-requires Inv-loop μ-loop
 tally-strip-requires c κs =
@@ -54,7 +54,7 @@ tally-strip-requires c κs =
     let a = st .args in
     let v = c .before .before .before .loop in
     let s = c .strip-in in
-    tally-ready (a .work .now) (a .l) (a .c) (a .second) (a .pair) (a .k) (a .q) (st .pre .0) (s .result) (v .n) (c .before .before .loop-test .taken) (a .t) (v .r) (v .inv .0 .0) (strip-from (a .l) (a .c) (a .second) (a .pair) (a .k) (a .q) (s .result) (v .n) (v .start) (s .ensures) (v .inv .1 .0)) (v .inv .1 .1 .1) (st .pre .1 .0)
+    tally-ready (a .work .now) (a .l) (a .c) (a .second) (a .pair) (a .k) (a .q) (st .pre .0 .holds) (s .result) (v .n) (c .before .before .loop-test .taken) (a .t) (v .r) (v .inv .0 .0) (strip-from (a .l) (a .c) (a .second) (a .pair) (a .k) (a .q) (s .result) (v .n) (v .start) (s .ensures) (v .inv .1 .0)) (v .inv .1 .1 .1) (st .pre .1 .0)
 
 mul-start-2 : tie.Need-mul-start-2 Inv-loop μ-loop
 mul-start-2 c =
@@ -62,7 +62,7 @@ mul-start-2 c =
     let a = st .args in
     let v = c .before .before .before .before .before .loop in
     let s = c .before .before .strip-in in
-    omega (arith, start-small (a .work .now) (a .l) (a .c) (a .second) (a .pair) (a .k) (a .q) (st .pre .0) (s .result) (v .n) (c .before .before .before .before .loop-test .taken) (v .start) (s .ensures) (v .inv .1 .0))
+    omega (arith, start-small (a .work .now) (a .l) (a .c) (a .second) (a .pair) (a .k) (a .q) (st .pre .0 .holds) (s .result) (v .n) (c .before .before .before .before .loop-test .taken) (v .start) (s .ensures) (v .inv .1 .0))
 
 add-start : tie.Need-add-start Inv-loop μ-loop
 add-start c =
@@ -70,10 +70,10 @@ add-start c =
     let a = st .args in
     let v = c .before .before .before .before .before .loop in
     let s = c .before .before .strip-in in
-    omega (arith, start-small (a .work .now) (a .l) (a .c) (a .second) (a .pair) (a .k) (a .q) (st .pre .0) (s .result) (v .n) (c .before .before .before .before .loop-test .taken) (v .start) (s .ensures) (v .inv .1 .0))
+    omega (arith, start-small (a .work .now) (a .l) (a .c) (a .second) (a .pair) (a .k) (a .q) (st .pre .0 .holds) (s .result) (v .n) (c .before .before .before .before .loop-test .taken) (v .start) (s .ensures) (v .inv .1 .0))
 
 add-n : tie.Need-add-n Inv-loop μ-loop
-add-n c = omega (arith, c .before .before .before .before .before .before .before .before .before .pre .0 .layout .depths, c .before .before .before .before .loop-test .taken)
+add-n c = omega (arith, c .before .before .before .before .before .before .before .before .before .pre .0 .holds .layout .depths, c .before .before .before .before .loop-test .taken)
 
 loop-less : tie.Need-loop-less Inv-loop μ-loop
 loop-less c = omega (arith, c .before .before .before .before .loop-test .taken)

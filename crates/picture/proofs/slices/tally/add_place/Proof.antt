@@ -11,7 +11,7 @@ use Rattle.picture.proofs.slices.tally.add_place.Tie as tie
 add-coefficient-requires : tie.Need-add-coefficient-requires
 add-coefficient-requires c κs =
     let h = c .pre in
-    let n = numbered (h .0 .small) (h .0 .within) (h .1 .0) in
+    let n = numbered (h .0 .holds .small) (h .0 .holds .within) (h .1 .0) in
     (n .coefficient, (n .factor, countable-less (h .1 .1)))
 
 add-second-requires : tie.Need-add-second-requires
@@ -24,7 +24,7 @@ returns : tie.Need-returns
 returns c =
     let st = c .before .before in
     let a = st .args in
-    place-added tally1 (a .work .now) (a .s) (a .y) (a .x) (a .t) _ _ _ (plain-number (a .work .now) (a .s) (a .s .coefs) (a .s .rebuilt) (a .y) (a .x) (st .pre .0 .plain)) (c .before .add-coefficient .ensures) (c .add-second .ensures)
+    place-added tally1 (a .work .now) (a .s) (a .y) (a .x) (a .t) _ _ _ (plain-number (a .work .now) (a .s) (a .s .coefs) (a .s .rebuilt) (a .y) (a .x) (st .pre .0 .holds .plain)) (c .before .add-coefficient .ensures) (c .add-second .ensures)
 
 pub add-place-spec : {M : Type 1} → statement M
 add-place-spec = tie.close (tie.spec add-coefficient-requires add-second-requires returns)

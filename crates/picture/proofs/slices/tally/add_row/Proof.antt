@@ -12,15 +12,15 @@ use Rattle.picture.proofs.slices.tally.add_row.Statement.{statement}
 use Rattle.picture.proofs.slices.tally.add_row.Tie as tie
 
 abbrev Inv-loop : tie.InvT-loop
-Inv-loop work a n s y r₀ x₀ r x = (s .left ≤ x) × ((x ≤ s .right) × (r ≡ tallyAll r₀ (chunks (places work s y (s .left)) (x - s .left))))
+Inv-loop work s y r₀ x₀ r x = (s .left ≤ x) × ((x ≤ s .right) × (r ≡ tallyAll r₀ (chunks (places work s y (s .left)) (x - s .left))))
 
 abbrev μ-loop : tie.MeasureT-loop
-μ-loop work a n s y r₀ x₀ r x = s .right - x
+μ-loop work s y r₀ x₀ r x = s .right - x
 
 loop-holds : tie.Need-loop-holds Inv-loop μ-loop
 loop-holds c =
     let a = c .args in
-    (omega arith, (c .pre .0 .within .columns, added-chunks-none tally1 (places (a .work .now) (a .s) (a .y) (a .s .left)) (a .t) (a .s .left)))
+    (omega arith, (c .pre .0 .holds .within .columns, added-chunks-none tally1 (places (a .work .now) (a .s) (a .y) (a .s .left)) (a .t) (a .s .left)))
 
 add-place-requires : tie.Need-add-place-requires Inv-loop μ-loop
 add-place-requires c κs =

@@ -9,14 +9,14 @@ use Rattle.picture.proofs.slices.tally.add_second.Tie as tie
 add-coefficient-requires : tie.Need-add-coefficient-requires
 add-coefficient-requires c κs =
     let h = c .before .pre in
-    let n = numbered-second (h .0 .small) (h .0 .within) (h .1 .0) in
+    let n = numbered-second (h .0 .holds .small) (h .0 .holds .within) (h .1 .0) in
     (n .coefficient, (n .factor, h .1 .1))
 
 returns : tie.Need-returns
 returns c =
     let st = c .before .before in
     let a = st .args in
-    second-yes tally1 (a .work .now) (a .s) (a .y) (a .x) (a .t) _ (c .before .if1 .taken) (plain-number (a .work .now) (a .s) (a .s .coefs2) (a .s .rebuilt2) (a .y) (a .x) (st .pre .0 .plain)) (c .add-coefficient .ensures)
+    second-yes tally1 (a .work .now) (a .s) (a .y) (a .x) (a .t) _ (c .before .if1 .taken) (plain-number (a .work .now) (a .s) (a .s .coefs2) (a .s .rebuilt2) (a .y) (a .x) (st .pre .0 .holds .plain)) (c .add-coefficient .ensures)
 
 returns-2 : tie.Need-returns-2
 returns-2 c = let a = c .before .args in second-no tally1 (a .work .now) (a .s) (a .y) (a .x) (a .t) (c .if1 .left)

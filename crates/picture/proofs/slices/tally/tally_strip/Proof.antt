@@ -12,15 +12,15 @@ use Rattle.picture.proofs.slices.tally.tally_strip.Statement.{statement
 use Rattle.picture.proofs.slices.tally.tally_strip.Tie as tie
 
 abbrev Inv-loop : tie.InvT-loop
-Inv-loop work a n s r₀ y₀ r y = (s .top ≤ y) × ((y ≤ s .bottom) × (r ≡ tallyAll r₀ (chunks (rows work s (s .top)) (y - s .top))))
+Inv-loop work s r₀ y₀ r y = (s .top ≤ y) × ((y ≤ s .bottom) × (r ≡ tallyAll r₀ (chunks (rows work s (s .top)) (y - s .top))))
 
 abbrev μ-loop : tie.MeasureT-loop
-μ-loop work a n s r₀ y₀ r y = s .bottom - y
+μ-loop work s r₀ y₀ r y = s .bottom - y
 
 loop-holds : tie.Need-loop-holds Inv-loop μ-loop
 loop-holds c =
     let a = c .args in
-    (omega arith, (c .pre .0 .within .rows, added-chunks-none tally1 (rows (a .work .now) (a .s) (a .s .top)) (a .t) (a .s .top)))
+    (omega arith, (c .pre .0 .holds .within .rows, added-chunks-none tally1 (rows (a .work .now) (a .s) (a .s .top)) (a .t) (a .s .top)))
 
 add-row-requires : tie.Need-add-row-requires Inv-loop μ-loop
 add-row-requires c κs =
