@@ -117,12 +117,6 @@ packs-zero w t (pos zero) e = record { work = sym (laid-nil w (t .at)); at = ome
 packs-zero w t (pos (suc n)) e = no-truth (sym e)
 packs-zero w t (negsuc n) e = no-truth (sym e)
 
-packed-one : (n : ℕ) (z : ℤ) → isZero z ≡ false → packed n (z ∷ []) ≡ zerosWord n ++ (z ∷ [])
-unfolding packed
-packed-one n (pos zero) e = no-truth e
-packed-one n (pos (suc m)) e = refl
-packed-one n (negsuc m) e = refl
-
 pub packs-one : (w v : List ℤ) (t r : Packing) (z : ℤ) → isZero z ≡ false
     → v ≡ laid w (t .at) (zerosWord (t .zeros) ++ (z ∷ [])) → r .at ≡ t .at + length (zerosWord (t .zeros)) + 1 → r .zeros ≡ 0
     → r .bits ≡ t .bits + t .zeros + length (codeS z) → Packs w t (z ∷ []) v r

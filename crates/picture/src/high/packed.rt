@@ -58,13 +58,7 @@ fn pack_number(work: &mut [i64], t: Packing, z: i64) -> Packing
 }
 
 // Packs the number of a place.
-fn pack_place(
-    work: &mut [i64],
-    s: Strip,
-    y: usize,
-    x: usize,
-    t: Packing,
-) -> Packing
+fn pack_place(work: &mut [i64], s: Strip, y: usize, x: usize, t: Packing) -> Packing
     requires { ⌜ PackIn (now work) s t 1 × Inside s y x ⌝ }
     ensures { λ r. ⌜ Packs (now (work .entry)) t (placeNumbers (now (work .entry)) s y x) (now (work .exit)) r ⌝ }
 {

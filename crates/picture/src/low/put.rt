@@ -33,14 +33,7 @@ fn put_number(out: &mut [u8], p: Put, z: i64) -> Put
 }
 
 // Puts the second colour's number of a place, where there is one.
-fn put_second(
-    out: &mut [u8],
-    p: Put,
-    work: &[i64],
-    s: Strip,
-    y: usize,
-    x: usize,
-) -> Put
+fn put_second(out: &mut [u8], p: Put, work: &[i64], s: Strip, y: usize, x: usize) -> Put
     requires { ⌜ RoomFor (now out) p (secondNumber (now work) s y x) × (Lies (now work) s × Inside s y x) ⌝ }
     ensures { λ r. ⌜ Puts (now (out .entry)) p (secondNumber (now (work .entry)) s y x) (now (out .exit)) r ⌝ }
 {
@@ -53,14 +46,7 @@ fn put_second(
 }
 
 // Puts the numbers of a place.
-fn put_place(
-    out: &mut [u8],
-    p: Put,
-    work: &[i64],
-    s: Strip,
-    y: usize,
-    x: usize,
-) -> Put
+fn put_place(out: &mut [u8], p: Put, work: &[i64], s: Strip, y: usize, x: usize) -> Put
     requires { ⌜ RoomFor (now out) p (placeNumbers (now work) s y x) × (Lies (now work) s × Inside s y x) ⌝ }
     ensures { λ r. ⌜ Puts (now (out .entry)) p (placeNumbers (now (work .entry)) s y x) (now (out .exit)) r ⌝ }
 {
@@ -111,14 +97,7 @@ fn put_coefficient(
 }
 
 // Puts the second colour's number of a place of a strip that is not predicted, where there is one.
-fn put_plain_second(
-    out: &mut [u8],
-    p: Put,
-    work: &[i64],
-    s: Strip,
-    y: usize,
-    x: usize,
-) -> Put
+fn put_plain_second(out: &mut [u8], p: Put, work: &[i64], s: Strip, y: usize, x: usize) -> Put
     requires { ⌜ RoomFor (now out) p (secondNumber (now work) s y x) × (PlainLies (now work) s × Inside s y x) ⌝ }
     ensures { λ r. ⌜ Puts (now (out .entry)) p (secondNumber (now (work .entry)) s y x) (now (out .exit)) r ⌝ }
 {
@@ -130,14 +109,7 @@ fn put_plain_second(
 }
 
 // Puts the numbers of a place of a strip that is not predicted.
-fn put_plain_place(
-    out: &mut [u8],
-    p: Put,
-    work: &[i64],
-    s: Strip,
-    y: usize,
-    x: usize,
-) -> Put
+fn put_plain_place(out: &mut [u8], p: Put, work: &[i64], s: Strip, y: usize, x: usize) -> Put
     requires { ⌜ RoomFor (now out) p (placeNumbers (now work) s y x) × (PlainLies (now work) s × Inside s y x) ⌝ }
     ensures { λ r. ⌜ Puts (now (out .entry)) p (placeNumbers (now (work .entry)) s y x) (now (out .exit)) r ⌝ }
 {
@@ -146,13 +118,7 @@ fn put_plain_place(
 }
 
 // Puts the numbers of a row of a strip that is not predicted, place by place.
-fn put_plain_places(
-    out: &mut [u8],
-    p: Put,
-    work: &[i64],
-    s: Strip,
-    y: usize,
-) -> Put
+fn put_plain_places(out: &mut [u8], p: Put, work: &[i64], s: Strip, y: usize) -> Put
     requires { ⌜ RoomFor (now out) p (rowNumbers (now work) s y (s .left) (s .right - s .left)) × (PlainLies (now work) s × ((s .top ≤ y) × (y < s .bottom))) ⌝ }
     ensures { λ r. ⌜ Puts (now (out .entry)) p (rowNumbers (now (work .entry)) s y (s .left) (s .right - s .left)) (now (out .exit)) r ⌝ }
 {

@@ -86,16 +86,7 @@ pub(crate) fn first_tallies(work: &[i64], p: Picture, k: u32, q: u32, v: Windows
     let colour = v.colour;
     First {
         luma: crate::slices::run::first_tally(work, l, y, y, false, k, q, luma),
-        colour: crate::slices::run::first_tally(
-            work,
-            l,
-            c1,
-            c2,
-            true,
-            k,
-            q,
-            colour,
-        ),
+        colour: crate::slices::run::first_tally(work, l, c1, c2, true, k, q, colour),
     }
 }
 

@@ -90,14 +90,7 @@ pub(crate) fn rest_tally(
 }
 
 // The slice's part of the rebuilt level-0 plane of a component, of which it has the window v.
-pub(crate) fn rebuild_run(
-    work: &mut [i64],
-    l: Layout,
-    c: Component,
-    k: u32,
-    q: u32,
-    v: Window,
-)
+pub(crate) fn rebuild_run(work: &mut [i64], l: Layout, c: Component, k: u32, q: u32, v: Window)
     requires { ⌜ RunLies l c c k q (now work) × (v ≡ windowOf l c 0 k) ⌝ }
     ensures { λ _. ⌜ now (work .exit) ≡ rebuiltStrip (now (work .entry)) (stripOf l c c false 0 0 k q) ⌝ }
 {

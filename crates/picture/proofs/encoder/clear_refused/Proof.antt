@@ -7,6 +7,13 @@ use Rattle.picture.proofs.encoder.clear_refused.Reads as reads
 use Rattle.picture.proofs.encoder.clear_refused.Lts as lts
 use Rattle.picture.proofs.encoder.clear_bytes.Reads as clear-bytes-reads
 
+-- earlier states
+abbrev begin : tie.After-enum-told2 → tie.Start
+begin c = let t = c .before .before in t .before
+
+abbrev after-enum-told2 : tie.After-slice-known2 → tie.After-enum-told2
+after-enum-told2 c = let t = c .before .before in t .before .before
+
 enum-told : tie.Need-enum-told
 enum-told c = search needs
 
@@ -24,8 +31,8 @@ same-length c = search needs
 
 returns-2 : tie.Need-returns-2
 returns-2 c =
-    let a = c .before .before .before .before .before .before .before .args in
-    let e = c .before .before .before .before .enum-told2 .given in
+    let a = begin (after-enum-told2 c) .args in
+    let e = after-enum-told2 c .enum-told2 .given in
     cleared-refused (a .r) (e .0 .0) (a .out .now) _ (e .1) (c .before .before .clear-bytes .ensures)
 
 pub clear-refused-spec : {M : Type 1} → statement M

@@ -18,7 +18,16 @@ use Rattle.picture.proofs.front.sizes.luma_size.Reads as luma-size-read
 use Rattle.picture.proofs.front.sizes.padded_size.Reads as padded-size-reads
 use Rattle.wavelet.proofs.component.analyse_components.Reads as analyse-components-reads
 
--- samples have 16 bits
+-- earlier states
+abbrev after-struct-known : tie.After-analyse-components-arg → tie.After-struct-known
+after-struct-known c =
+    let t = c .before .before in
+    let u = t .before .before in
+    u .before
+
+abbrev after-analyse-components : tie.After-clear → tie.After-analyse-components
+after-analyse-components c = let t = c .before .before in t .before
+
 -- the states before the components are made
 abbrev lent : tie.After-shared-slice-known3 → tie.Start
 lent c = let second = c .before in second .before .before
@@ -32,6 +41,7 @@ sizes c = c .before .before
 abbrev start : tie.After-component-of2 → tie.Start
 start c = sized (sizes (c .before .before))
 
+-- samples have 16 bits
 samples : (c : tie.After-shared-slice-known3) → Sampled (planes (lent c .args .y .now) (lent c .args .c1 .now) (lent c .args .c2 .now))
 samples c = record {
   y = λ n. omega (arith, c .before .before .shared-slice-known .given n);
@@ -91,10 +101,12 @@ add-front : tie.Need-add-front
 add-front c = let k = known (c .before .before) in omega (arith, k .luma-few, k .colour-few)
 
 mul-front-3 : tie.Need-mul-front-3
-mul-front-3 c = omega (arith, known (c .before .before .before) .colour-few)
+mul-front-3 c = let t = c .before .before in omega (arith, known (t .before) .colour-few)
 
 add-front-2 : tie.Need-add-front-2
-add-front-2 c = let k = known (c .before .before .before) in omega (arith, k .luma-few, k .colour-few)
+add-front-2 c =
+    let t = c .before .before in
+    let k = known (t .before) in omega (arith, k .luma-few, k .colour-few)
 
 cast-t13 : tie.Need-cast-t13
 cast-t13 c = search needs
@@ -104,7 +116,7 @@ cast-t16 c = search needs
 
 analyse-components-requires : tie.Need-analyse-components-requires
 analyse-components-requires c κs =
-    let at = c .before .before .before .before .before .before in
+    let at = after-struct-known c .before in
     let st = start at in
     let a = st .args in
     let l = at .before .before .component-of .result in
@@ -119,7 +131,7 @@ part-clear-start c = search needs
 
 part-clear-end : tie.Need-part-clear-end
 part-clear-end c =
-    let at = c .before .before .before .before .before .before .before .before in
+    let at = after-struct-known (c .before .before) .before in
     let st = start at in
     let a = st .args in
     let r = c .before .analyse-components in
@@ -133,16 +145,16 @@ same-length c = search needs
 
 returns : tie.Need-returns
 returns c =
-    let at = c .before .before .before .before .before .before .before .before .before .before .before in
+    let at = after-struct-known (after-analyse-components (c .before) .before) .before in
     let st = start at in
     let a = st .args in
     let l = at .before .before .component-of .result in
     let u = at .component-of2 .result in
     let w = a .work .now in
-    let r = c .before .before .before .before .analyse-components in
+    let r = after-analyse-components (c .before) .analyse-components in
     let z = c .before .clear in
     let n : ℕ = l .pw * l .ph + u .pw * u .ph + u .pw * u .ph in (
-      analysed-of (a .s) (planes (a .y .now) (a .c1 .now) (a .c2 .now)) w (r .last .0) (z .last .0) (st .pre) (samples (at .before .before .before .before .before .before)) l u (known at) n (n - 0) (front-is (a .s) l u (known at)) (omega arith)
+      analysed-of (a .s) (planes (a .y .now) (a .c1 .now) (a .c2 .now)) w (r .last .0) (z .last .0) (st .pre) (samples (sizes (at .before .before) .before .before)) l u (known at) n (n - 0) (front-is (a .s) l u (known at)) (omega arith)
           (drop (l .ph * l .pw + u .ph * u .pw + u .ph * u .pw) (drop n w)) (r .kept .0) (r .ensures) (z .ensures) (same-length c),
       same-length c,
     )

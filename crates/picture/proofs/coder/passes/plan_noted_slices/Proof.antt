@@ -25,6 +25,13 @@ Inv-loop work₀ p t at slices c₀ k₀ work c k = (k ≤ slicesIn p) × (Plans
 abbrev μ-loop : tie.MeasureT-loop
 μ-loop work₀ p t at slices c₀ k₀ work c k = slicesIn p - k
 
+-- earlier states
+abbrev after-new : tie.After-plan-noted-slice-arg Inv-loop μ-loop → tie.After-new Inv-loop μ-loop
+after-new c = let t = c .before .before in t .before
+
+abbrev in-loop : tie.After-work Inv-loop μ-loop → tie.In-loop Inv-loop μ-loop
+in-loop c = let t = c .before .before in t .before
+
 slice-count-requires : tie.Need-slice-count-requires Inv-loop μ-loop
 slice-count-requires c κs = c .pre .0 .arranged
 
@@ -39,10 +46,10 @@ loop-holds c =
 
 plan-noted-slice-requires : tie.Need-plan-noted-slice-requires Inv-loop μ-loop
 plan-noted-slice-requires c κs =
-    let st = c .before .before .before .before .before in
+    let st = after-new c .before .before in
     let a = st .args in
     let l = c .before .before .loop in
-    let n = c .before .before .before .before .slice-count in
+    let n = after-new c .before .slice-count in
     subst (λ (v : List ℤ). PlanIn (a .p) (a .t) v × ((l .k < slicesIn (a .p)) × (Notes v (a .p) (a .t) (slicesIn (a .p)) v
     × ((l .c .at < 2 ^ 60) × (l .c .words ≡ length (wordsTo v (a .p) (a .t) (l .k))))))) (sym (l .inv .1 .1)) (
       st .pre .0,
@@ -56,14 +63,14 @@ add-k : tie.Need-add-k Inv-loop μ-loop
 add-k c = omega arith
 
 loop-less : tie.Need-loop-less Inv-loop μ-loop
-loop-less c = omega (arith, c .before .before .before .loop-test .taken, c .before .before .before .before .before .before .slice-count .ensures .0)
+loop-less c = omega (arith, in-loop c .loop-test .taken, after-new (c .before .before) .before .slice-count .ensures .0)
 
 loop-again : tie.Need-loop-again Inv-loop μ-loop
 loop-again c =
-    let a = c .before .before .before .before .before .before .before .args in
-    let l = c .before .before .before .before .loop in
-    let n = c .before .before .before .before .before .before .slice-count in
-    let k : l .k < slicesIn (a .p) = omega (arith, c .before .before .before .loop-test .taken, n .ensures .0) in
+    let a = after-new (c .before .before) .before .before .args in
+    let l = in-loop c .before .loop in
+    let n = after-new (c .before .before) .before .slice-count in
+    let k : l .k < slicesIn (a .p) = omega (arith, in-loop c .loop-test .taken, n .ensures .0) in
     let s = c .before .plan-noted-slice in
     let o = subst (λ (v : List ℤ). PlansOn (planIn v (a .p) (a .t) (l .k)) (l .c) (s .result)) (l .inv .1 .1) (s .ensures .0) in
     (omega (arith, k), (plans-more (a .work .now) (a .p) (a .t) (a .at) (l .k) (l .c) (s .result) (l .inv .1 .0) o, s .ensures .1 ∙ l .inv .1 .1))
@@ -73,9 +80,10 @@ same-length c = ap length (c .before .loop .inv .1 .1)
 
 returns : tie.Need-returns Inv-loop μ-loop
 returns c =
-    let a = c .before .before .before .before .args in
+    let t = c .before .before in
+    let a = t .before .before .args in
     let l = c .before .loop in
-    let e : l .k ≡ slicesIn (a .p) = omega (arith, l .inv .0, c .loop-test .left, c .before .before .before .slice-count .ensures .0) in
+    let e : l .k ≡ slicesIn (a .p) = omega (arith, l .inv .0, c .loop-test .left, t .before .slice-count .ensures .0) in
     (subst (λ (k : ℕ). PlansTo (a .work .now) (a .p) (a .t) (a .at) k (l .c)) e (l .inv .1 .0), l .inv .1 .1)
 
 pub plan-noted-slices-spec : {M : Type 1} → statement M

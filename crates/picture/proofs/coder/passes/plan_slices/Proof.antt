@@ -22,6 +22,13 @@ Inv-loop work₀ p t at slices c₀ k₀ work c k = (k ≤ slicesIn p) × (Plans
 abbrev μ-loop : tie.MeasureT-loop
 μ-loop work₀ p t at slices c₀ k₀ work c k = slicesIn p - k
 
+-- earlier states
+abbrev after-new : tie.After-plan-hq-slice-arg Inv-loop μ-loop → tie.After-new Inv-loop μ-loop
+after-new c = let t = c .before .before in t .before
+
+abbrev in-loop : tie.After-work Inv-loop μ-loop → tie.In-loop Inv-loop μ-loop
+in-loop c = let t = c .before .before in t .before
+
 slice-count-requires : tie.Need-slice-count-requires Inv-loop μ-loop
 slice-count-requires c κs = c .pre .0 .arranged
 
@@ -36,9 +43,9 @@ loop-holds c =
 
 plan-hq-slice-requires : tie.Need-plan-hq-slice-requires Inv-loop μ-loop
 plan-hq-slice-requires c κs =
-    let st = c .before .before .before .before .before in
+    let st = after-new c .before .before in
     let l = c .before .before .loop in
-    let n = c .before .before .before .before .slice-count in
+    let n = after-new c .before .slice-count in
     let h = notes-plan (l .inv .1 .1) (st .pre .0) in
     let a = st .args in
     let k : l .k < slicesIn (a .p) = omega (arith, c .before .loop-test .taken, n .ensures .0) in (
@@ -50,15 +57,15 @@ add-k : tie.Need-add-k Inv-loop μ-loop
 add-k c = omega arith
 
 loop-less : tie.Need-loop-less Inv-loop μ-loop
-loop-less c = omega (arith, c .before .before .before .loop-test .taken, c .before .before .before .before .before .before .slice-count .ensures .0)
+loop-less c = omega (arith, in-loop c .loop-test .taken, after-new (c .before .before) .before .slice-count .ensures .0)
 
 loop-again : tie.Need-loop-again Inv-loop μ-loop
 loop-again c =
-    let st = c .before .before .before .before .before .before .before in
+    let st = after-new (c .before .before) .before .before in
     let a = st .args in
-    let l = c .before .before .before .before .loop in
-    let n = c .before .before .before .before .before .before .slice-count in
-    let k : l .k < slicesIn (a .p) = omega (arith, c .before .before .before .loop-test .taken, n .ensures .0) in
+    let l = in-loop c .before .loop in
+    let n = after-new (c .before .before) .before .slice-count in
+    let k : l .k < slicesIn (a .p) = omega (arith, in-loop c .loop-test .taken, n .ensures .0) in
     let s = c .before .plan-hq-slice in
     let o = plans-noted (l .k) (l .c) (s .result) (st .pre .0) k (l .inv .1 .1) (s .ensures .0) in
     (omega (arith, k), (plans-more (a .work .now) (a .p) (a .t) (a .at) (l .k) (l .c) (s .result) (l .inv .1 .0) o, notes-more (l .k) (l .c .words) (st .pre .0) k (l .inv .1 .1) (l .inv .1 .0 .words) (s .ensures .1 .0) (s .ensures .1 .1)))
@@ -68,9 +75,10 @@ same-length c = c .before .loop .inv .1 .1 .size
 
 returns : tie.Need-returns Inv-loop μ-loop
 returns c =
-    let a = c .before .before .before .before .args in
+    let t = c .before .before in
+    let a = t .before .before .args in
     let l = c .before .loop in
-    let e : l .k ≡ slicesIn (a .p) = omega (arith, l .inv .0, c .loop-test .left, c .before .before .before .slice-count .ensures .0) in
+    let e : l .k ≡ slicesIn (a .p) = omega (arith, l .inv .0, c .loop-test .left, t .before .slice-count .ensures .0) in
     (subst (λ (k : ℕ). PlansTo (a .work .now) (a .p) (a .t) (a .at) k (l .c)) e (l .inv .1 .0), subst (λ (k : ℕ). Notes (a .work .now) (a .p) (a .t) k (l .work)) e (l .inv .1 .1))
 
 pub plan-slices-spec : {M : Type 1} → statement M

@@ -28,6 +28,22 @@ Inv-loop out₀ at work₀ p t slices c₀ k₀ out work c k =
 abbrev μ-loop : tie.MeasureT-loop
 μ-loop out₀ at work₀ p t slices c₀ k₀ out work c k = slices - k
 
+-- earlier states
+abbrev begin : tie.At-loop Inv-loop μ-loop → tie.Start Inv-loop μ-loop
+begin c = let t = c .before .before in t .before .before
+
+abbrev after-slice-count : tie.After-loop Inv-loop μ-loop → tie.After-slice-count Inv-loop μ-loop
+after-slice-count c = let t = c .before .before in t .before
+
+abbrev at-loop : tie.After-code-hq-slice-arg2 Inv-loop μ-loop → tie.At-loop Inv-loop μ-loop
+at-loop c = let t = c .before .before in t .before
+
+abbrev in-loop : tie.After-code-hq-slice Inv-loop μ-loop → tie.In-loop Inv-loop μ-loop
+in-loop c = let t = c .before .before in t .before
+
+abbrev after-code-hq-slice : tie.After-work Inv-loop μ-loop → tie.After-code-hq-slice Inv-loop μ-loop
+after-code-hq-slice c = let t = c .before .before in t .before
+
 slice-count-requires : tie.Need-slice-count-requires Inv-loop μ-loop
 slice-count-requires c κs = c .before .pre .0 .arranged
 
@@ -36,7 +52,8 @@ new-requires c κs = tt
 
 loop-holds : tie.Need-loop-holds Inv-loop μ-loop
 loop-holds c =
-    let a = c .before .before .before .args in
+    let t = c .before .before in
+    let a = t .before .args in
     let n = c .new .ensures in (
       omega arith,
       (
@@ -47,10 +64,10 @@ loop-holds c =
 
 code-hq-slice-requires : tie.Need-code-hq-slice-requires Inv-loop μ-loop
 code-hq-slice-requires c κs =
-    let st = c .before .before .before .before .before .before .before in
+    let st = begin (at-loop c) in
     let a = st .args in
-    let v = c .before .before .before .loop in
-    let l : v .k < slicesIn (a .p) = omega (arith, c .before .before .loop-test .taken, c .before .before .before .before .before .slice-count .ensures .0) in
+    let v = at-loop c .loop in
+    let l : v .k < slicesIn (a .p) = omega (arith, c .before .before .loop-test .taken, at-loop c .before .before .slice-count .ensures .0) in
     subst (λ (w : List ℤ). PlanIn (a .p) (a .t) w × ((v .k < slicesIn (a .p)) × (Notes w (a .p) (a .t) (slicesIn (a .p)) w
     × ((v .c .words ≡ length (wordsTo w (a .p) (a .t) (v .k))) × (v .c .at + length (toBytes (planIn w (a .p) (a .t) (v .k) .bits)) ≤ length (v .out)))))) (sym (v .inv .1 .1 .1 .1))
     (st .pre .0, (l, (st .pre .1 .0, (v .inv .1 .1 .1 .0, slices-room (a .work .now) (a .p) (a .t) (v .k) (v .inv .1 .0) (slicesIn (a .p)) l (st .pre .1 .1)))))
@@ -63,14 +80,14 @@ loop-less c = omega arith
 
 loop-again : tie.Need-loop-again Inv-loop μ-loop
 loop-again c =
-    let a = c .before .before .before .before .before .before .before .before .before .before .before .args in
-    let v = c .before .before .before .before .before .before .before .loop in
+    let a = begin (at-loop (after-code-hq-slice c .before)) .args in
+    let v = at-loop (after-code-hq-slice c .before) .loop in
     let e = v .inv .1 .1 .1 .1 in
-    let s = c .before .before .before .code-hq-slice in
+    let s = after-code-hq-slice c .code-hq-slice in
     let o = subst (λ (w : List ℤ). Lays (v .out) (v .c .at) (toBytes (planIn w (a .p) (a .t) (v .k) .bits)) (s .last .1 .0) (s .result .at)) e (s .ensures .0) in
     let F = wordsIn (a .work .now) (a .p) (a .t) in
     let n = s .ensures .1 .1 .1 .0 ∙ ap (λ (w : List ℤ). v .c .words + length (wordsIn w (a .p) (a .t) (v .k))) e in (
-      omega (arith, c .before .before .before .before .before .before .loop-test .taken),
+      omega (arith, in-loop (after-code-hq-slice c) .loop-test .taken),
       (
         slices-next (a .work .now) (a .p) (a .t) (v .k) (v .inv .1 .0) o,
         (
@@ -91,9 +108,9 @@ same-length-2 c = ap length (c .before .loop .inv .1 .1 .1 .1)
 
 returns : tie.Need-returns Inv-loop μ-loop
 returns c =
-    let a = c .before .before .before .before .before .args in
+    let a = begin (c .before) .args in
     let v = c .before .loop in
-    let e : v .k ≡ slicesIn (a .p) = omega (arith, v .inv .0, c .loop-test .left, c .before .before .before .slice-count .ensures .0) in
+    let e : v .k ≡ slicesIn (a .p) = omega (arith, v .inv .0, c .loop-test .left, after-slice-count c .slice-count .ensures .0) in
     (slices-all (a .work .now) (a .p) (a .t) (v .k) (v .inv .1 .0) (slicesIn (a .p)) e, (v .inv .1 .1 .0, v .inv .1 .1 .1 .1))
 
 pub put-hq-slices-spec : {M : Type 1} → statement M

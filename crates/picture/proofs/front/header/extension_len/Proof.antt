@@ -11,6 +11,10 @@ use Rattle.picture.proofs.front.header.extension_len.Lts as lts
 use Rattle.picture.proofs.front.header.flagged_len.Reads as flagged-len-reads
 use Rattle.picture.proofs.front.header.major_version.Reads as major-version-reads
 
+-- earlier states
+abbrev else1 : tie.After-flagged-len2 → tie.Else1
+else1 c = let t = c .before .before in t .before .before
+
 major-version-requires : tie.Need-major-version-requires
 major-version-requires c κs = search needs
 
@@ -31,8 +35,8 @@ add-result c = search needs
 
 returns-2 : tie.Need-returns-2
 returns-2 c =
-    let st = c .before .before .before .before .before .before in
-    let e = ap length (extension-some (st .args .s) (omega (arith, c .before .before .before .before .if1 .left, c .before .before .before .before .before .major-version .ensures))) in
+    let st = else1 c .before .before in
+    let e = ap length (extension-some (st .args .s) (omega (arith, else1 c .if1 .left, else1 c .before .major-version .ensures))) in
     let f = c .before .before .flagged-len .ensures in
     let g = c .flagged-len2 .ensures in
     (omega (arith, simp length-append at e, f .0, g .0), omega (arith, f .1, g .1))

@@ -15,14 +15,15 @@ parse-code-requires c κs = search needs
 
 put-nbits-requires : tie.Need-put-nbits-requires
 put-nbits-requires c κs =
-    let st = c .before .before .before in
+    let t = c .before .before in
+    let st = t .before in
     (rw (length-lit 8 (parseCode (st .args .kind))) at (st .pre), omega arith)
 
 same-length : tie.Need-same-length
 same-length c = search needs
 
 returns : tie.Need-returns
-returns c = rw (c .before .before .before .parse-code .ensures) at (c .before .before .put-nbits .ensures)
+returns c = let t = c .before .before in rw (t .before .parse-code .ensures) at (t .put-nbits .ensures)
 
 pub put-parse-code-spec : {M : Type 1} → statement M
 put-parse-code-spec =

@@ -11,25 +11,37 @@ enum-known-p : tie.Need-enum-known-p
 enum-known-p c = search needs
 
 put-pair-requires : tie.Need-put-pair-requires
-put-pair-requires c κs = rw (c .before .before .p .given .1) at (c .before .before .before .before .before .pre)
+put-pair-requires c κs =
+    let t = c .before .before in
+    let u = t .before .before in
+    rw (t .p .given .1) at (u .before .pre)
 
 enum-known-p-2 : tie.Need-enum-known-p-2
 enum-known-p-2 c = search needs
 
 put-pair-requires-2 : tie.Need-put-pair-requires-2
-put-pair-requires-2 c κs = rw (c .before .before .p2 .given .1) at (c .before .before .before .before .before .pre)
+put-pair-requires-2 c κs =
+    let t = c .before .before in
+    let u = t .before .before in
+    rw (t .p2 .given .1) at (u .before .pre)
 
 same-length : tie.Need-same-length
 same-length c = search needs
 
 returns : tie.Need-returns
-returns c = rw (c .before .before .before .before .before .p .given .1) (c .before .before .put-pair .ensures)
+returns c =
+    let t = c .before .before in
+    let u = t .before .before in
+    rw (u .before .p .given .1) (t .put-pair .ensures)
 
 same-length-2 : tie.Need-same-length-2
 same-length-2 c = search needs
 
 returns-2 : tie.Need-returns-2
-returns-2 c = rw (c .before .before .before .before .before .p2 .given .1) (c .before .before .put-pair2 .ensures)
+returns-2 c =
+    let t = c .before .before in
+    let u = t .before .before in
+    rw (u .before .p2 .given .1) (t .put-pair2 .ensures)
 
 pub put-slice-parameters-spec : {M : Type 1} → statement M
 put-slice-parameters-spec =

@@ -9,6 +9,10 @@ use Rattle.picture.proofs.front.header.shape_len.Lts as lts
 use Rattle.picture.proofs.front.header.extension_len.Reads as extension-len-reads
 use Rattle.picture.proofs.front.header.uint_len.Reads as uint-len-reads
 
+-- earlier states
+abbrev after-uint-len2 : tie.After-uint-len4 → tie.After-uint-len2
+after-uint-len2 c = let t = c .before .before in t .before
+
 uint-len-requires : tie.Need-uint-len-requires
 uint-len-requires c κs = search needs
 
@@ -38,12 +42,12 @@ add-result-3 c = search needs
 
 returns : tie.Need-returns
 returns c =
-    let x = c .before .before .before .before .uint-len .ensures in
-    let y = c .before .before .before .uint-len2 .ensures in
+    let x = after-uint-len2 c .before .uint-len .ensures in
+    let y = after-uint-len2 c .uint-len2 .ensures in
     let e = c .before .before .extension-len .ensures in
     let u = c .before .uint-len3 .ensures in
     let v = c .uint-len4 .ensures in
-    (omega (arith, front-length (c .before .before .before .before .before .args .s), x .0, y .0, e .0, u .0, v .0), omega (arith, x .1, y .1, e .1, u .1, v .1))
+    (omega (arith, front-length (after-uint-len2 c .before .before .args .s), x .0, y .0, e .0, u .0, v .0), omega (arith, x .1, y .1, e .1, u .1, v .1))
 
 pub shape-len-spec : {M : Type 1} → statement M
 shape-len-spec =

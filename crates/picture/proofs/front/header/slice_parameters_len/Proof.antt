@@ -35,16 +35,18 @@ add-result-2 c = search needs
 
 returns : tie.Need-returns
 returns c =
+    let t = c .before .before in
     let x = c .before .uint-len .ensures in
     let y = c .uint-len2 .ensures in
-    let g = c .before .before .before .p .given in
+    let g = t .before .p .given in
     rw (g .1) (omega (arith, length-append (codeU (g .0 .0)) (codeU (g .0 .1 .0)), x .0, y .0), omega (arith, x .1, y .1))
 
 returns-2 : tie.Need-returns-2
 returns-2 c =
+    let t = c .before .before in
     let x = c .before .uint-len3 .ensures in
     let y = c .uint-len4 .ensures in
-    let g = c .before .before .before .p2 .given in
+    let g = t .before .p2 .given in
     rw (g .1) (omega (arith, length-append (codeU (g .0 .0)) (codeU (g .0 .1 .0)), x .0, y .0), omega (arith, x .1, y .1))
 
 pub slice-parameters-len-spec : {M : Type 1} → statement M

@@ -28,7 +28,7 @@ mul-values-2 : tie.Need-mul-values-2 Inv-loop μ-loop
 mul-values-2 c = omega arith
 
 array-write-values : tie.Need-array-write-values Inv-loop μ-loop
-array-write-values c = omega (arith, c .before .before .before .pre)
+array-write-values c = let t = c .before .before in omega (arith, t .before .pre)
 
 add-i : tie.Need-add-i Inv-loop μ-loop
 add-i c = omega arith
@@ -38,8 +38,9 @@ loop-less c = omega arith
 
 loop-again : tie.Need-loop-again Inv-loop μ-loop
 loop-again c =
-    let l = c .before .before .loop in
-    let s = c .before .before .before in
+    let t = c .before .before in
+    let l = t .loop in
+    let s = t .before in
     (omega arith, filled-next (s .args .matrix .now) (l .values) (l .i) (s .pre) (omega arith) (l .inv .1))
 
 returns : tie.Need-returns Inv-loop μ-loop

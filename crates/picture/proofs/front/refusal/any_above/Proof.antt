@@ -28,9 +28,10 @@ shared-slice-read-if1 c = omega arith
 
 returns : tie.Need-returns Inv-loop μ-loop
 returns c =
-    let a = c .before .before .before .before .args in
-    let l = c .before .before .before .loop in
-    above-here (a .most) (a .values .now) (l .i) (c .before .before .loop-test .taken) (c .if1 .taken) ∙ l .inv .1
+    let t = c .before .before in
+    let a = t .before .before .args in
+    let l = t .before .loop in
+    above-here (a .most) (a .values .now) (l .i) (t .loop-test .taken) (c .if1 .taken) ∙ l .inv .1
 
 add-i : tie.Need-add-i Inv-loop μ-loop
 add-i c = omega arith
@@ -40,9 +41,10 @@ loop-less c = omega arith
 
 loop-again : tie.Need-loop-again Inv-loop μ-loop
 loop-again c =
-    let a = c .before .before .before .before .args in
-    let l = c .before .before .before .loop in
-    (omega arith, above-next (a .most) (a .values .now) (l .i) (c .before .before .loop-test .taken) (c .if1 .left) ∙ l .inv .1)
+    let t = c .before .before in
+    let a = t .before .before .args in
+    let l = t .before .loop in
+    (omega arith, above-next (a .most) (a .values .now) (l .i) (t .loop-test .taken) (c .if1 .left) ∙ l .inv .1)
 
 returns-2 : tie.Need-returns-2 Inv-loop μ-loop
 returns-2 c =

@@ -38,11 +38,14 @@ area-requires-2 c κs = search needs
 
 returns : tie.Need-returns
 returns c =
-    let s = c .before .before .before .before .before .before .before .before .before .before .args .s in
-    let z : c .before .before .area .result ≡ area (lumaSize s) = c .before .before .area .ensures ∙ ap (λ (x : Size). area x) (c .before .before .before .luma-size .ensures) in
+    let t = c .before .before in
+    let u = t .before .before in
+    let w = u .before .before in
+    let v = w .before .before in
+    let s = v .before .before .args .s in
+    let z : t .area .result ≡ area (lumaSize s) = t .area .ensures ∙ ap (λ (x : Size). area x) (t .before .luma-size .ensures) in
     let k : c .area2 .result ≡ area (colourSize s) = c .area2 .ensures ∙ ap (λ (x : Size). area x) (c .before .colour-size .ensures) in
-    let o = c .before .before .before .before in
-    rw (z, k, o .outside4 .ensures, o .before .outside3 .ensures, o .before .before .outside2 .ensures, o .before .before .before .outside .ensures) (simp or-assoc)
+    rw (z, k, u .outside4 .ensures, u .before .outside3 .ensures, w .outside2 .ensures, w .before .outside .ensures) (simp or-assoc)
 
 pub bad-frame-spec : {M : Type 1} → statement M
 bad-frame-spec =

@@ -25,8 +25,11 @@ area-requires-2 c κs = search needs
 
 returns : tie.Need-returns
 returns c =
-    let s = c .before .before .before .before .before .before .before .args .s in
-    let z : c .before .before .area .result ≡ area (lumaSize s) = c .before .before .area .ensures ∙ ap (λ (x : Size). area x) (c .before .before .before .luma-size .ensures) in
+    let t = c .before .before in
+    let u = t .before .before in
+    let w = u .before .before in
+    let s = w .before .args .s in
+    let z : t .area .result ≡ area (lumaSize s) = t .area .ensures ∙ ap (λ (x : Size). area x) (t .before .luma-size .ensures) in
     let k : c .area2 .result ≡ area (colourSize s) = c .area2 .ensures ∙ ap (λ (x : Size). area x) (c .before .colour-size .ensures) in
     rw (z, k) (simp or-assoc)
 

@@ -15,8 +15,9 @@ default-quant-matrix-requires c κs = search needs
 
 returns-2 : tie.Need-returns-2
 returns-2 c =
-    let s = c .before .before .before .args .s in
-    rw (c .before .before .if1 .left, c .before .default-quant-matrix .ensures)
+    let t = c .before .before in
+    let s = t .before .args .s in
+    rw (t .if1 .left, c .before .default-quant-matrix .ensures)
     (default-missing (s .«wavelet_index») (s .«wavelet_index_ho») (s .«dwt_depth») (s .«dwt_depth_ho»))
 
 pub no-matrix-spec : {M : Type 1} → statement M

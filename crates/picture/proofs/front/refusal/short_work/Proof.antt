@@ -24,7 +24,8 @@ colour-size-requires c κs = search needs
 
 padded-area-requires-2 : tie.Need-padded-area-requires-2
 padded-area-requires-2 c κs =
-    let st = c .before .before .before in
+    let t = c .before .before in
+    let st = t .before in
     (st .pre, colour-within (st .args .s) (sizeIn (c .colour-size .result)) (c .colour-size .ensures))
 
 add-result : tie.Need-add-result
@@ -39,8 +40,9 @@ mul-result c = search needs
 returns : tie.Need-returns
 unfolding workNeeded
 returns c =
-    let s = c .before .before .before .before .args .s in
-    let l : c .before .before .padded-area .result ≡ paddedArea s (lumaSize s) = c .before .before .padded-area .ensures .0 ∙ ap (λ (z : Size). paddedArea s z) (c .before .before .before .luma-size .ensures) in
+    let t = c .before .before in
+    let s = t .before .before .args .s in
+    let l : t .padded-area .result ≡ paddedArea s (lumaSize s) = t .padded-area .ensures .0 ∙ ap (λ (z : Size). paddedArea s z) (t .before .luma-size .ensures) in
     let k : c .padded-area2 .result ≡ paddedArea s (colourSize s) = c .padded-area2 .ensures .0 ∙ ap (λ (z : Size). paddedArea s z) (c .before .colour-size .ensures) in
     rw (l, k) refl
 

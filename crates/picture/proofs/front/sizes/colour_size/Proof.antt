@@ -19,7 +19,7 @@ halved-if-requires-3 c κs = search needs
 
 returns : tie.Need-returns
 unfolding colourSize
-returns c = rw (c .halved-if3 .ensures, c .before .before .halved-if2 .ensures, c .before .before .before .before .halved-if .ensures) refl
+returns c = let t = c .before .before in rw (c .halved-if3 .ensures, t .halved-if2 .ensures, t .before .before .halved-if .ensures) refl
 
 pub colour-size-spec : {M : Type 1} → statement M
 colour-size-spec =

@@ -11,6 +11,10 @@ use Rattle.picture.proofs.front.sizes.padded_size.Reads as reads
 use Rattle.picture.proofs.front.sizes.padded_size.Lts as lts
 use Rattle.wavelet.proofs.pad.padded_side.Reads as padded-side-reads
 
+-- earlier states
+abbrev begin : tie.After-padded-side → tie.Start
+begin c = let t = c .before .before in t .before
+
 cast-padded-side : tie.Need-cast-padded-side
 cast-padded-side c = search needs
 
@@ -22,7 +26,8 @@ padded-side-requires c κs = search needs
 
 cast-t6 : tie.Need-cast-t6
 cast-t6 c =
-    let s = c .before .before .before in
+    let t = c .before .before in
+    let s = t .before in
     record { fits = rw (c .padded-side .ensures) (omega (arith, rounded-few (s .args .s .«dwt_depth_ho» + s .args .s .«dwt_depth») (s .args .z .width) (omega (arith, s .pre)) (omega (arith, s .pre)))) }
 
 cast-padded-side-2 : tie.Need-cast-padded-side-2
@@ -33,7 +38,7 @@ padded-side-requires-2 c κs = search needs
 
 cast-t9 : tie.Need-cast-t9
 cast-t9 c =
-    let s = c .before .before .before .before .before in
+    let s = begin (c .before .before) in
     record { fits = rw (c .padded-side2 .ensures) (omega (arith, rounded-few (s .args .s .«dwt_depth») (s .args .z .height) (omega (arith, s .pre)) (omega (arith, s .pre)))) }
 
 returns : tie.Need-returns

@@ -11,6 +11,10 @@ use Rattle.picture.proofs.high.size.needs_of.Reads as needs-of-reads
 use Rattle.picture.proofs.high.size.slice_size.Reads as slice-size-reads
 use Rattle.picture.proofs.high.election.trimmed_run.Reads as trimmed-run-reads
 
+-- earlier states
+abbrev after-trimmed-run : tie.Then1 → tie.After-trimmed-run
+after-trimmed-run c = let t = c .before .before in t .before
+
 trimmed-run-requires : tie.Need-trimmed-run-requires
 trimmed-run-requires c κs = search needs
 
@@ -25,11 +29,11 @@ slice-size-requires c κs = search needs
 
 returns : tie.Need-returns
 returns c =
-    let st = c .before .before .before .before .before in
+    let st = after-trimmed-run c .before .before in
     let a = st .args in
     let z = c .before .slice-size in
-    alone-not (a .work .now) (a .p) (a .k) (a .q) (c .before .before .before .trimmed-run .result) (c .before .before .needs-of .result) (a .t .prefix) (a .t .scaler) (a .share) (z .result)
-    (st .pre .1 .scaler .0) (c .before .before .before .trimmed-run .ensures) (c .before .before .needs-of .ensures .0) (z .ensures .0) (c .if1 .taken)
+    alone-not (a .work .now) (a .p) (a .k) (a .q) (after-trimmed-run c .trimmed-run .result) (c .before .before .needs-of .result) (a .t .prefix) (a .t .scaler) (a .share) (z .result)
+    (st .pre .1 .scaler .0) (after-trimmed-run c .trimmed-run .ensures) (c .before .before .needs-of .ensures .0) (z .ensures .0) (c .if1 .taken)
 
 fits-with-requires : tie.Need-fits-with-requires
 fits-with-requires c κs = search needs

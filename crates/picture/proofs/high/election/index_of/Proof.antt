@@ -10,6 +10,10 @@ use Rattle.picture.proofs.high.election.elect_qindex.Reads as elect-qin
 use Rattle.picture.proofs.high.size.share_of.Reads as share-of-reads
 use Rattle.picture.proofs.slices.layout.slice_count.Reads as slice-count-reads
 
+-- earlier states
+abbrev after-enum-told2 : tie.After-elect-qindex → tie.After-enum-told2
+after-enum-told2 c = let t = c .before .before in t .before
+
 enum-told : tie.Need-enum-told
 enum-told c = search needs
 
@@ -33,15 +37,16 @@ returns c = let a = c .before .before .args in (index-lossless (a .work .now) (a
 
 returns-2 : tie.Need-returns-2
 returns-2 c =
-    let st = c .before .before .before in
+    let t = c .before .before in
+    let st = t .before in
     let a = st .args in
     index-fixed (a .work .now) (a .p) (a .t) (a .k) (st .pre .0 .terms) _ (c .before .rate .given .1)
 
 returns-3 : tie.Need-returns-3
 returns-3 c =
-    let st = c .before .before .before .before .before in
+    let st = after-enum-told2 c .before .before in
     let a = st .args in
-    let e = index-elected (a .work .now) (a .p) (a .t) (a .k) _ _ _ _ (c .before .before .before .enum-told2 .given .1) (c .before .before .slice-count .ensures .0) (c .before .share-of .ensures) (c .elect-qindex .ensures) in
+    let e = index-elected (a .work .now) (a .p) (a .t) (a .k) _ _ _ _ (after-enum-told2 c .enum-told2 .given .1) (c .before .before .slice-count .ensures .0) (c .before .share-of .ensures) (c .elect-qindex .ensures) in
     (e, omega (arith, e, index-most (a .work .now) (a .p) (a .t) (a .k) (st .pre .0 .terms)))
 
 pub index-of-spec : {M : Type 1} → statement M

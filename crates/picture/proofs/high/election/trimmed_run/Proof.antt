@@ -2,20 +2,20 @@
 use mathlib.Core.Path.{_∙_}
 use mathlib.Core.Bool.{false}
 use native.Mathlib.Omega.{arith}
-use borrow.Author.Needs.{needs}
 use Rattle.picture.specs.Laws.Tally.{tally-keeps, tally-trimmed, TallyOf}
 use Rattle.picture.specs.Code.Picture.{runOf}
 use Rattle.picture.specs.Laws.Layout.{run-lies, run-window, first-addable, tally-whole}
 use Rattle.picture.proofs.high.election.trimmed_run.Statement.{statement}
 use Rattle.picture.proofs.high.election.trimmed_run.Tie as tie
-use Rattle.picture.proofs.high.election.trimmed_run.Reads as reads
-use Rattle.picture.proofs.high.election.trimmed_run.Lts as lts
-use Rattle.picture.proofs.slices.run.first_tally.Reads as first-tally-reads
+
+-- earlier states
+abbrev begin : tie.After-first-tally → tie.Start
+begin c = let t = c .before .before in t .before
 
 -- the tally of the whole run
-whole : (c : tie.After-rest-tally) → let a = c .before .before .before .before .args in TallyOf (runOf (a .work .now) (a .p) (a .c) (a .k) (a .q)) (c .rest-tally .result)
+whole : (c : tie.After-rest-tally) → let a = begin (c .before) .args in TallyOf (runOf (a .work .now) (a .p) (a .c) (a .k) (a .q)) (c .rest-tally .result)
 whole c =
-    let a = c .before .before .before .before .args in
+    let a = begin (c .before) .args in
     tally-whole (a .work .now) (a .p .layout) (a .c) (a .c) false (a .k) (a .q) (c .rest-tally .result) (c .before .first-tally .result) (c .before .first-tally .ensures) (c .rest-tally .ensures)
 
 window-at-requires : tie.Need-window-at-requires
@@ -26,7 +26,8 @@ first-tally-requires c κs = let h = c .before .before .pre in (run-lies (h .0),
 
 rest-tally-requires : tie.Need-rest-tally-requires
 rest-tally-requires c κs =
-    let st = c .before .before .before in
+    let t = c .before .before in
+    let st = t .before in
     let a = st .args in
     (run-lies (st .pre .0), (first-addable (a .work .now) (a .p .layout) (a .c) (a .c) false (a .k) (a .q) (st .pre .0) (st .pre .1) (c .first-tally .result) (c .first-tally .ensures), c .before .window-at .ensures))
 

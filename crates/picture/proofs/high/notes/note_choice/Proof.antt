@@ -12,6 +12,22 @@ use Rattle.picture.proofs.high.notes.note_choice.Lts as lts
 use Rattle.picture.proofs.high.notes.note.Reads as note-reads
 use Rattle.picture.proofs.high.notes.note_run.Reads as note-run-reads
 
+-- earlier states
+abbrev begin : tie.After-note → tie.Start
+begin c =
+    let t = c .before .before in
+    let u = t .before .before in
+    u .before .before
+
+abbrev after-note : tie.After-note-run → tie.After-note
+after-note c = let t = c .before .before in t .before
+
+abbrev after-note-run : tie.After-note-run2 → tie.After-note-run
+after-note-run c = let t = c .before .before in t .before
+
+abbrev after-note-run2 : tie.After-note-run3 → tie.After-note-run2
+after-note-run2 c = let t = c .before .before in t .before
+
 cast-note : tie.Need-cast-note
 cast-note c = search needs
 
@@ -41,11 +57,11 @@ same-length c = search needs
 
 returns : tie.Need-returns
 returns c =
-    let a = c .before .before .before .before .before .before .before .before .before .before .before .before .before .before .before .before .args in
+    let a = begin (after-note (after-note-run (after-note-run2 (c .before)))) .args in
     c .before .note-run3 .ensures
-    ∙ ap (λ (w : List ℤ). noteRun w (a .i + 5) (a .c .c2)) (c .before .before .before .before .note-run2 .ensures
-    ∙ ap (λ (w : List ℤ). noteRun w (a .i + 3) (a .c .c1)) (c .before .before .before .before .before .before .before .note-run .ensures
-    ∙ ap (λ (w : List ℤ). noteRun w (a .i + 1) (a .c .y)) (c .before .before .before .before .before .before .before .before .before .before .note .ensures)))
+    ∙ ap (λ (w : List ℤ). noteRun w (a .i + 5) (a .c .c2)) (after-note-run2 (c .before) .note-run2 .ensures
+    ∙ ap (λ (w : List ℤ). noteRun w (a .i + 3) (a .c .c1)) (after-note-run (after-note-run2 (c .before)) .note-run .ensures
+    ∙ ap (λ (w : List ℤ). noteRun w (a .i + 1) (a .c .y)) (after-note (after-note-run (after-note-run2 (c .before))) .note .ensures)))
 
 pub note-choice-spec : {M : Type 1} → statement M
 note-choice-spec =

@@ -11,6 +11,10 @@ use Rattle.picture.proofs.high.notes.note_run.Reads as reads
 use Rattle.picture.proofs.high.notes.note_run.Lts as lts
 use Rattle.picture.proofs.high.notes.note.Reads as note-reads
 
+-- earlier states
+abbrev after-note : tie.After-note2 → tie.After-note
+after-note c = let t = c .before .before in t .before
+
 note-requires : tie.Need-note-requires
 note-requires c κs = search needs
 
@@ -25,8 +29,8 @@ same-length c = search needs
 
 returns : tie.Need-returns
 returns c =
-    let a = c .before .before .before .before .before .before .args in
-    c .before .note2 .ensures ∙ ap (λ (w : List ℤ). set w (a .i + 1) (pos (a .r .bits))) (c .before .before .before .before .note .ensures)
+    let a = after-note (c .before) .before .before .args in
+    c .before .note2 .ensures ∙ ap (λ (w : List ℤ). set w (a .i + 1) (pos (a .r .bits))) (after-note (c .before) .note .ensures)
 
 pub note-run-spec : {M : Type 1} → statement M
 note-run-spec = tie.close (tie.spec note-requires add-note note-requires-2 same-length returns)

@@ -23,6 +23,22 @@ use Rattle.picture.proofs.high.notes.noted_choice.Lts as lts
 use Rattle.picture.proofs.high.choice.choice_of.Reads as choice-of-reads
 use Rattle.picture.proofs.high.notes.noted_run.Reads as noted-run-reads
 
+-- earlier states
+abbrev after-struct-known : tie.After-choice-of → tie.After-struct-known
+after-struct-known c = let t = c .before .before in t .before
+
+abbrev then1 : tie.After-noted-run-arg2 → tie.Then1
+then1 c = let t = c .before .before in t .before .before
+
+abbrev then1′ : tie.After-noted-run2 → tie.Then1
+then1′ c =
+    let t = c .before .before in
+    let u = t .before .before in
+    u .before
+
+abbrev after-noted-run : tie.After-noted-run-arg3 → tie.After-noted-run
+after-noted-run c = let t = c .before .before in t .before
+
 -- where the work slice reaches so far the choice stands there, and it has few bits
 stands : (c : tie.Start) → let a = c .args in a .p .end + 7 * a .k + 6 < length (a .work .now) → ChoiceAt (a .work .now) (a .p .end + 7 * a .k) (choiceIn (a .work .now) (a .p) (a .t) (a .k))
 stands c h = c .pre .1 .1 .0 .choice (c .args .k) (c .pre .1 .0) h
@@ -63,38 +79,43 @@ slice-copy-out-t12 : tie.Need-slice-copy-out-t12
 slice-copy-out-t12 c = search needs
 
 cast-t13 : tie.Need-cast-t13
-cast-t13 c = let n = index-is (c .before .before .before) (c .before .if1 .taken) in rw (n .0) (tt, omega (arith, n .1))
+cast-t13 c =
+    let t = c .before .before in
+    let n = index-is (t .before) (c .before .if1 .taken) in rw (n .0) (tt, omega (arith, n .1))
 
 add-noted-run : tie.Need-add-noted-run
 add-noted-run c = search needs
 
 noted-run-requires : tie.Need-noted-run-requires
-noted-run-requires c κs = let h = c .before .before .if1 .taken in noted-y (stands (c .before .before .before .before) h) (few (c .before .before .before .before)) h
+noted-run-requires c κs =
+    let t = c .before .before in
+    let h = t .if1 .taken in noted-y (stands (t .before .before) h) (few (t .before .before)) h
 
 add-noted-run-2 : tie.Need-add-noted-run-2
 add-noted-run-2 c = search needs
 
 noted-run-requires-2 : tie.Need-noted-run-requires-2
-noted-run-requires-2 c κs = let h = c .before .before .before .before .if1 .taken in noted-c1 (stands (c .before .before .before .before .before .before) h) (few (c .before .before .before .before .before .before)) h
+noted-run-requires-2 c κs = let h = then1 c .if1 .taken in noted-c1 (stands (then1 c .before .before) h) (few (then1 c .before .before)) h
 
 add-noted-run-3 : tie.Need-add-noted-run-3
 add-noted-run-3 c = search needs
 
 noted-run-requires-3 : tie.Need-noted-run-requires-3
-noted-run-requires-3 c κs = let h = c .before .before .before .before .before .before .if1 .taken in noted-c2 (stands (c .before .before .before .before .before .before .before .before) h) (few (c .before .before .before .before .before .before .before .before)) h
+noted-run-requires-3 c κs = let h = then1′ (c .before) .if1 .taken in noted-c2 (stands (then1′ (c .before) .before .before) h) (few (then1′ (c .before) .before .before)) h
 
 same-length : tie.Need-same-length
 same-length c = search needs
 
 returns : tie.Need-returns
 returns c =
-    let st = c .before .before .before .before .before .before .before .before .before in
-    let h = c .before .before .before .before .before .before .before .if1 .taken in
-    (rw (index-is st h .0) (noted-is (stands st h) _ _ _ _ refl (c .before .before .before .before .noted-run .ensures) (c .before .before .noted-run2 .ensures) (c .noted-run3 .ensures)), refl)
+    let st = then1′ (c .before .before) .before .before in
+    let h = then1′ (c .before .before) .if1 .taken in
+    (rw (index-is st h .0) (noted-is (stands st h) _ _ _ _ refl (after-noted-run (c .before) .noted-run .ensures) (c .before .before .noted-run2 .ensures) (c .noted-run3 .ensures)), refl)
 
 choice-of-requires : tie.Need-choice-of-requires
 choice-of-requires c κs =
-    let st = c .before .before .before in
+    let t = c .before .before in
+    let st = t .before in
     let a = st .args in
     (st .pre .0, (st .pre .1 .0, omega (arith, st .pre .1 .1 .1, words-room (a .work .now) (a .p) (a .t) (a .k) (st .pre .0 .arranged) (st .pre .1 .0))))
 
@@ -103,7 +124,7 @@ same-length-2 c = search needs
 
 returns-2 : tie.Need-returns-2
 returns-2 c =
-    let st = c .before .before .before .before .before in
+    let st = after-struct-known (c .before) .before in
     let a = st .args in
     let r = c .before .choice-of .ensures in (
       r .0,

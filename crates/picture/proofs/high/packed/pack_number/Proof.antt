@@ -15,6 +15,10 @@ use Rattle.picture.specs.Laws.Packed.{packs-one}
 use Rattle.picture.proofs.high.packed.pack_number.Statement.{statement}
 use Rattle.picture.proofs.high.packed.pack_number.Tie as tie
 
+-- earlier states
+abbrev after-pack-zeros : tie.After-sint-code-len → tie.After-pack-zeros
+after-pack-zeros c = let t = c .before .before in t .before
+
 pack-zeros-requires : tie.Need-pack-zeros-requires
 pack-zeros-requires c κs =
     let st = c .before in
@@ -53,9 +57,9 @@ same-length c = search needs
 
 returns : tie.Need-returns
 returns c =
-    let st = c .before .before .before .before .before in
+    let st = after-pack-zeros c .before .before in
     let a = st .args in
-    let d = c .before .before .before .pack-zeros in
+    let d = after-pack-zeros c .pack-zeros in
     packs-one (a .work .now) _ (a .t) _ (a .z) (st .pre .0)
     (ap₂ (λ (v : List ℤ) (z : ℤ). set v (d .result) z) (d .ensures .is) (toZ-ofZ (st .fits .z))
     ∙ laid-one (a .work .now) (a .t .at) (d .result) (zerosWord (a .t .zeros)) (a .z) (d .ensures .next))

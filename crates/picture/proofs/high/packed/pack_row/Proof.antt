@@ -17,9 +17,16 @@ Inv-loop work₀ s y r₀ x₀ work r x =
 abbrev μ-loop : tie.MeasureT-loop
 μ-loop work₀ s y r₀ x₀ work r x = s .right - x
 
-within : (c : tie.Then1 Inv-loop μ-loop) → let a = c .before .before .before .args in Inside (a .s) (a .y) (c .before .before .loop .x)
+-- earlier states
+abbrev begin : tie.Then1 Inv-loop μ-loop → tie.Start Inv-loop μ-loop
+begin c = let t = c .before .before in t .before
+
+abbrev then1 : tie.After-work Inv-loop μ-loop → tie.Then1 Inv-loop μ-loop
+then1 c = let t = c .before .before in t .before
+
+within : (c : tie.Then1 Inv-loop μ-loop) → let a = begin c .args in Inside (a .s) (a .y) (c .before .before .loop .x)
 within c =
-    let h = c .before .before .before .pre in
+    let h = begin c .pre in
     record { below = h .1 .0; above = h .1 .1; right-of = c .before .before .loop .inv .0; left-of = c .if1 .taken }
 
 loop-holds : tie.Need-loop-holds Inv-loop μ-loop
@@ -30,9 +37,10 @@ loop-holds c =
 
 pack-place-requires : tie.Need-pack-place-requires Inv-loop μ-loop
 pack-place-requires c κs =
-    let st = c .before .before .before .before in
+    let t = c .before .before in
+    let st = t .before .before in
     let a = st .args in
-    let l = c .before .before .before .loop in
+    let l = t .before .loop in
     let i = within (c .before) in
     (row-ready (st .pre .0 .holds .0) (a .y) (l .x) i (st .pre .0 .holds .1) (l .inv .1 .1), i)
 
@@ -44,10 +52,10 @@ loop-less c = omega arith
 
 loop-again : tie.Need-loop-again Inv-loop μ-loop
 loop-again c =
-    let st = c .before .before .before .before .before .before in
+    let st = begin (then1 c) in
     let a = st .args in
-    let l = c .before .before .before .before .before .loop in
-    let i = within (c .before .before .before) in
+    let l = then1 c .before .before .loop in
+    let i = within (then1 c) in
     (omega (arith, l .inv .0), (omega (arith, i .left-of), row-turn (st .pre .0 .holds .0) (a .y) (l .x) i (st .pre .0 .holds .1) (l .inv .1 .1) (c .before .pack-place .ensures)))
 
 same-length : tie.Need-same-length Inv-loop μ-loop
@@ -55,8 +63,9 @@ same-length c = packs-length (c .before .before .loop .inv .1 .1)
 
 returns : tie.Need-returns Inv-loop μ-loop
 returns c =
-    let a = c .before .before .before .args in
-    let l = c .before .before .loop in
+    let t = c .before .before in
+    let a = t .before .args in
+    let l = t .loop in
     let e : l .x - a .s .left ≡ a .s .right - a .s .left = omega (arith, l .inv .1 .0, c .if1 .left) in
     let F = places (a .work .now) (a .s) (a .y) (a .s .left) in
     packs-same (ap (chunks F) e ∙ sym (row-chunks (a .work .now) (a .s) (a .y) (a .s .left) (a .s .right - a .s .left))) (l .inv .1 .1)

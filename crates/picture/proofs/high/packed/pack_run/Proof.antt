@@ -20,6 +20,19 @@ Inv-loop work₀ at l c k q bands v₀ t₀ start₀ n₀ work v t start n =
 abbrev μ-loop : tie.MeasureT-loop
 μ-loop work₀ at l c k q bands v₀ t₀ start₀ n₀ work v t start n = bandCount l - n
 
+-- earlier states
+abbrev begin : tie.At-loop Inv-loop μ-loop → tie.Start Inv-loop μ-loop
+begin c = let t = c .before .before in t .before .before
+
+abbrev in-loop : tie.After-pack-strip-arg Inv-loop μ-loop → tie.In-loop Inv-loop μ-loop
+in-loop c = let t = c .before .before in t .before
+
+abbrev after-next-window : tie.After-pack-strip Inv-loop μ-loop → tie.After-next-window Inv-loop μ-loop
+after-next-window c = let t = c .before .before in t .before
+
+abbrev after-strip-in : tie.After-struct-known3 Inv-loop μ-loop → tie.After-strip-in Inv-loop μ-loop
+after-strip-in c = let t = c .before .before in t .before .before
+
 add-bands : tie.Need-add-bands Inv-loop μ-loop
 add-bands c = let st = c .before in omega (arith, st .pre .holds .0 .layout .depths)
 
@@ -34,70 +47,71 @@ window-at-requires c κs = let st = c .before .before in run-window (st .pre .ho
 
 loop-holds : tie.Need-loop-holds Inv-loop μ-loop
 loop-holds c =
-    let st = c .before .before .before in
+    let t = c .before .before in
+    let st = t .before in
     let a = st .args in
     (omega arith, (sym (start-first (a .l) (a .c)), (window-first (a .l) (a .c) (a .k) _ (c .window-at .ensures), packs-run-none (a .work .now) (a .l) (a .c) (a .k) (a .q) _)))
 
 next-window-requires : tie.Need-next-window-requires Inv-loop μ-loop
 next-window-requires c κs =
-    let st = c .before .before .before .before .before in
+    let st = begin (c .before) in
     let v = c .before .loop in
     (run-window (st .pre .holds .0) (v .n) (c .loop-test .taken), v .inv .1 .1 .0)
 
 strip-in-requires : tie.Need-strip-in-requires Inv-loop μ-loop
 strip-in-requires c κs =
-    let st = c .before .before .before .before .before .before in
+    let st = begin (c .before .before) in
     let v = c .before .before .loop in
     (strip-in (st .pre .holds .0) (v .n) (v .start) (c .before .loop-test .taken) (v .inv .1 .0), c .next-window .ensures)
 
 pack-strip-requires : tie.Need-pack-strip-requires Inv-loop μ-loop
 pack-strip-requires c κs =
-    let st = c .before .before .before .before .before .before .before .before in
+    let st = begin (in-loop c .before) in
     let a = st .args in
     let h = st .pre .holds in
-    let v = c .before .before .before .before .loop in
+    let v = in-loop c .before .loop in
     let s = c .before .strip-in in
     let f = strip-from (a .l) (a .c) (a .c) false (a .k) (a .q) (s .result) (v .n) (v .start) (s .ensures) (v .inv .1 .0) in
-    band-ready (a .work .now) (a .l) (a .c) (a .k) (a .q) (h .0) (h .1 .0) (s .result) (v .n) (c .before .before .before .loop-test .taken) f
+    band-ready (a .work .now) (a .l) (a .c) (a .k) (a .q) (h .0) (h .1 .0) (s .result) (v .n) (in-loop c .loop-test .taken) f
     (run-packable (a .at) _ (h .0 .small) (h .1 .1)) (v .inv .1 .1 .1)
 
 mul-start : tie.Need-mul-start Inv-loop μ-loop
 mul-start c =
-    let st = c .before .before .before .before .before .before .before .before .before .before .before in
+    let st = begin (after-next-window (c .before .before) .before .before) in
     let a = st .args in
-    let v = c .before .before .before .before .before .before .before .loop in
-    let s = c .before .before .before .before .strip-in in
-    omega (arith, start-small (a .work .now) (a .l) (a .c) (a .c) false (a .k) (a .q) (st .pre .holds .0) (s .result) (v .n) (c .before .before .before .before .before .before .loop-test .taken) (v .start) (s .ensures) (v .inv .1 .0))
+    let v = after-next-window (c .before .before) .before .before .loop in
+    let s = after-strip-in c .strip-in in
+    omega (arith, start-small (a .work .now) (a .l) (a .c) (a .c) false (a .k) (a .q) (st .pre .holds .0) (s .result) (v .n) (after-strip-in c .before .before .loop-test .taken) (v .start) (s .ensures) (v .inv .1 .0))
 
 add-start : tie.Need-add-start Inv-loop μ-loop
 add-start c =
-    let st = c .before .before .before .before .before .before .before .before .before .before .before in
+    let st = begin (after-next-window (c .before .before) .before .before) in
     let a = st .args in
-    let v = c .before .before .before .before .before .before .before .loop in
-    let s = c .before .before .before .before .strip-in in
-    omega (arith, start-small (a .work .now) (a .l) (a .c) (a .c) false (a .k) (a .q) (st .pre .holds .0) (s .result) (v .n) (c .before .before .before .before .before .before .loop-test .taken) (v .start) (s .ensures) (v .inv .1 .0))
+    let v = after-next-window (c .before .before) .before .before .loop in
+    let s = after-strip-in c .strip-in in
+    omega (arith, start-small (a .work .now) (a .l) (a .c) (a .c) false (a .k) (a .q) (st .pre .holds .0) (s .result) (v .n) (after-strip-in c .before .before .loop-test .taken) (v .start) (s .ensures) (v .inv .1 .0))
 
 add-n : tie.Need-add-n Inv-loop μ-loop
-add-n c = omega (arith, c .before .before .before .before .before .before .before .before .before .before .before .pre .holds .0 .layout .depths, c .before .before .before .before .before .before .loop-test .taken)
+add-n c = omega (arith, begin (after-next-window (c .before .before) .before .before) .pre .holds .0 .layout .depths, after-strip-in c .before .before .loop-test .taken)
 
 loop-less : tie.Need-loop-less Inv-loop μ-loop
-loop-less c = omega (arith, c .before .before .before .before .before .before .loop-test .taken)
+loop-less c = omega (arith, after-strip-in c .before .before .loop-test .taken)
 
 loop-again : tie.Need-loop-again Inv-loop μ-loop
 loop-again c =
-    let st = c .before .before .before .before .before .before .before .before .before .before .before in
+    let st = begin (after-next-window (c .before .before) .before .before) in
     let a = st .args in
     let h = st .pre .holds in
-    let v = c .before .before .before .before .before .before .before .loop in
-    let s = c .before .before .before .before .strip-in in
-    let d = c .before .before .before .before .before .before .loop-test .taken in
+    let v = after-next-window (c .before .before) .before .before .loop in
+    let s = after-strip-in c .strip-in in
+    let d = after-strip-in c .before .before .loop-test .taken in
     let f = strip-from (a .l) (a .c) (a .c) false (a .k) (a .q) (s .result) (v .n) (v .start) (s .ensures) (v .inv .1 .0) in
     let p = run-packable (a .at) _ (h .0 .small) (h .1 .1) in (
       omega (arith, d),
       (
         start-turn (a .l) (a .c) (a .c) false (a .k) (a .q) (s .result) (v .n) (v .start) (s .ensures) (v .inv .1 .0),
         (
-          window-turn (a .l) (a .c) (v .n) (a .k) _ (c .before .before .before .before .before .next-window .ensures),
+          window-turn (a .l) (a .c) (v .n) (a .k) _ (after-strip-in c .before .next-window .ensures),
           band-turn (a .work .now) (a .l) (a .c) (a .k) (a .q) (h .0) (h .1 .0) (s .result) (v .n) d f p (v .inv .1 .1 .1) (c .before .before .pack-strip .ensures),
         ),
       ),
@@ -108,7 +122,7 @@ same-length c = packs-length (c .before .loop .inv .1 .1 .1)
 
 returns : tie.Need-returns Inv-loop μ-loop
 returns c =
-    let a = c .before .before .before .before .before .args in
+    let a = begin (c .before) .args in
     let v = c .before .loop in
     let e : v .n ≡ bandCount (a .l) = omega (arith, v .inv .0, c .loop-test .left) in
     packs-same (ap (runNumbers (a .work .now) (a .l) (a .c) (a .c) false (a .k) (a .q)) e) (v .inv .1 .1 .1)

@@ -16,6 +16,13 @@ Inv-loop work₀ s r₀ y₀ work r y =
 abbrev μ-loop : tie.MeasureT-loop
 μ-loop work₀ s r₀ y₀ work r y = s .bottom - y
 
+-- earlier states
+abbrev after-struct-known : tie.After-pack-row Inv-loop μ-loop → tie.After-struct-known Inv-loop μ-loop
+after-struct-known c = let t = c .before .before in t .before
+
+abbrev then1 : tie.After-work Inv-loop μ-loop → tie.Then1 Inv-loop μ-loop
+then1 c = let t = c .before .before in t .before
+
 loop-holds : tie.Need-loop-holds Inv-loop μ-loop
 loop-holds c =
     let a = c .args in
@@ -24,8 +31,9 @@ loop-holds c =
 
 pack-row-requires : tie.Need-pack-row-requires Inv-loop μ-loop
 pack-row-requires c κs =
-    let st = c .before .before .before .before in
-    let l = c .before .before .before .loop in
+    let t = c .before .before in
+    let st = t .before .before in
+    let l = t .before .loop in
     let d = c .before .if1 .taken in
     (strip-ready (st .pre .holds .0) (l .y) (l .inv .0) d (st .pre .holds .1) (l .inv .1 .1), (l .inv .0, d))
 
@@ -37,9 +45,9 @@ loop-less c = omega arith
 
 loop-again : tie.Need-loop-again Inv-loop μ-loop
 loop-again c =
-    let st = c .before .before .before .before .before .before in
-    let l = c .before .before .before .before .before .loop in
-    let d = c .before .before .before .if1 .taken in
+    let st = after-struct-known (c .before) .before .before in
+    let l = after-struct-known (c .before) .before .loop in
+    let d = then1 c .if1 .taken in
     (omega (arith, l .inv .0), (omega (arith, d), strip-turn (st .pre .holds .0) (l .y) (l .inv .0) d (st .pre .holds .1) (l .inv .1 .1) (c .before .pack-row .ensures)))
 
 same-length : tie.Need-same-length Inv-loop μ-loop
@@ -47,8 +55,9 @@ same-length c = packs-length (c .before .before .loop .inv .1 .1)
 
 returns : tie.Need-returns Inv-loop μ-loop
 returns c =
-    let a = c .before .before .before .args in
-    let l = c .before .before .loop in
+    let t = c .before .before in
+    let a = t .before .args in
+    let l = t .loop in
     let e : l .y - a .s .top ≡ a .s .bottom - a .s .top = omega (arith, l .inv .1 .0, c .if1 .left) in
     let F = rows (a .work .now) (a .s) (a .s .top) in
     packs-same (ap (chunks F) e ∙ sym (rows-chunks (a .work .now) (a .s) (a .s .top) (a .s .bottom - a .s .top))) (l .inv .1 .1)

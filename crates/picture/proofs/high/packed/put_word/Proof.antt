@@ -42,7 +42,8 @@ cast-put-ones c = rw (zeros-are (c .before), toZ-ofZ {w = w64} (fits (c .before)
 
 put-ones-requires : tie.Need-put-ones-requires
 put-ones-requires c κs =
-    let st = c .before .before .before in
+    let t = c .before .before in
+    let st = t .before in
     rw (zeros-are (c .before), toZ-ofZ {w = w64} (fits (c .before))) (zeros-room (st .args .z) (more (c .before)) (st .pre))
 
 same-length : tie.Need-same-length
@@ -50,12 +51,14 @@ same-length c = search needs
 
 returns : tie.Need-returns
 returns c =
-    let t = c .before .before .before .before in
-    rw (zeros-word (t .before .before .args .z) (more t)) (rw (zeros-are t, toZ-ofZ {w = w64} (fits t)) at (c .before .before .put-ones .ensures))
+    let u = c .before .before in
+    let t = u .before .before in
+    rw (zeros-word (t .before .before .args .z) (more t)) (rw (zeros-are t, toZ-ofZ {w = w64} (fits t)) at (u .put-ones .ensures))
 
 put-sint-requires : tie.Need-put-sint-requires
 put-sint-requires c κs =
-    let st = c .before .before .before in
+    let t = c .before .before in
+    let st = t .before in
     rw (toZ-ofZ {w = w64} (st .fits .z)) (rw (number-word (st .args .z) (less (c .before))) at (st .pre))
 
 same-length-2 : tie.Need-same-length-2
@@ -63,9 +66,10 @@ same-length-2 c = search needs
 
 returns-2 : tie.Need-returns-2
 returns-2 c =
-    let t = c .before .before .before .before in
+    let u = c .before .before in
+    let t = u .before .before in
     let st = t .before .before in
-    rw (number-word (st .args .z) (less t)) (rw (toZ-ofZ {w = w64} (st .fits .z)) at (c .before .before .put-sint .ensures))
+    rw (number-word (st .args .z) (less t)) (rw (toZ-ofZ {w = w64} (st .fits .z)) at (u .put-sint .ensures))
 
 pub put-word-spec : {M : Type 1} → statement M
 put-word-spec =

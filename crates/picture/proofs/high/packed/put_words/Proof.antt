@@ -23,6 +23,13 @@ Inv-loop out₀ work at n r₀ i₀ out r i = (i ≤ n) × Wrote out₀ r₀ (co
 abbrev μ-loop : tie.MeasureT-loop
 μ-loop out₀ work at n r₀ i₀ out r i = n - i
 
+-- earlier states
+abbrev after-slice-known : tie.After-z Inv-loop μ-loop → tie.After-slice-known Inv-loop μ-loop
+after-slice-known c = let t = c .before .before in t .before
+
+abbrev at-loop : tie.After-put-word-arg Inv-loop μ-loop → tie.At-loop Inv-loop μ-loop
+at-loop c = let t = c .before .before in t .before
+
 loop-holds : tie.Need-loop-holds Inv-loop μ-loop
 loop-holds c = let st = c .before in (omega arith, words-none (st .args .work .now) (st .args .at) (st .pre .1))
 
@@ -36,14 +43,14 @@ shared-slice-copy-out-z : tie.Need-shared-slice-copy-out-z Inv-loop μ-loop
 shared-slice-copy-out-z c = omega arith
 
 -- the word as it is handed on
-word : (c : tie.After-z Inv-loop μ-loop) → let a = c .before .before .before .before .args in let z = at (a .work .now) (a .at + c .before .before .loop .i) in toZ w64 (ofZ w64 z) ≡ z
+word : (c : tie.After-z Inv-loop μ-loop) → let a = after-slice-known c .before .args in let z = at (a .work .now) (a .at + c .before .before .loop .i) in toZ w64 (ofZ w64 z) ≡ z
 word c = toZ-ofZ {w = w64} (sfits-of (c .z .given))
 
 put-word-requires : tie.Need-put-word-requires Inv-loop μ-loop
 put-word-requires c κs =
-    let st = c .before .before .before .before .before in
+    let st = after-slice-known (c .before) .before in
     let a = st .args in
-    let l = c .before .before .before .loop in
+    let l = at-loop c .loop in
     rw (word (c .before)) (word-room (a .work .now) (a .at) (a .n) (l .i) (c .before .before .loop-test .taken) (st .pre .0) (st .pre .1) (l .inv .1))
 
 add-i : tie.Need-add-i Inv-loop μ-loop
@@ -54,19 +61,22 @@ loop-less c = omega arith
 
 loop-again : tie.Need-loop-again Inv-loop μ-loop
 loop-again c =
-    let z = c .before .before .before .before in
-    let st = z .before .before .before .before in
+    let u = c .before .before in
+    let z = u .before .before in
+    let i = z .before .before in
+    let st = i .before .before in
     let a = st .args in
     let l = z .before .before .loop in
     let t = z .before .loop-test .taken in
-    (omega arith, word-turn (a .work .now) (a .at) (l .i) (omega (arith, st .pre .0, t)) (st .pre .1 .sound) (l .inv .1) (rw (word z) at (c .before .before .put-word .ensures)))
+    (omega arith, word-turn (a .work .now) (a .at) (l .i) (omega (arith, st .pre .0, t)) (st .pre .1 .sound) (l .inv .1) (rw (word z) at (u .put-word .ensures)))
 
 same-length : tie.Need-same-length Inv-loop μ-loop
 same-length c = c .before .loop .inv .1 .size
 
 returns : tie.Need-returns Inv-loop μ-loop
 returns c =
-    let a = c .before .before .before .args in
+    let t = c .before .before in
+    let a = t .before .args in
     let l = c .before .loop in
     words-all (a .work .now) (a .at) (l .i) (a .n) (omega (arith, l .inv .0, c .loop-test .left)) (l .inv .1)
 

@@ -18,8 +18,9 @@ need-requires-3 c κs = search needs
 
 returns : tie.Need-returns
 returns c =
-    let a = c .before .before .before .args in
-    needs-by (a .y) (a .c1) (a .c2) _ _ _ (c .before .before .need .ensures) (c .before .need2 .ensures) (c .need3 .ensures)
+    let t = c .before .before in
+    let a = t .before .args in
+    needs-by (a .y) (a .c1) (a .c2) _ _ _ (t .need .ensures) (c .before .need2 .ensures) (c .need3 .ensures)
 
 pub needs-of-spec : {M : Type 1} → statement M
 needs-of-spec = tie.close (tie.spec need-requires need-requires-2 need-requires-3 returns)

@@ -4,6 +4,10 @@ use borrow.Author.Needs.{needs}
 use Rattle.picture.proofs.high.size.slice_size.Statement.{statement}
 use Rattle.picture.proofs.high.size.slice_size.Tie as tie
 
+-- earlier states
+abbrev after-scalers : tie.After-struct-known2 → tie.After-scalers
+after-scalers c = let t = c .before .before in t .before
+
 cast-c : tie.Need-cast-c
 cast-c c = search needs
 
@@ -42,8 +46,8 @@ add-result-4 c = search needs
 
 returns : tie.Need-returns
 returns c =
-    let st = c .before .before .before .before .before in
-    size-is (st .args .z) (st .args .t .prefix) (st .args .t .scaler) _ _ _ (st .pre .1 .prefix) (c .before .before .before .scalers .ensures) (c .before .before .scalers2 .ensures) (c .before .scalers3 .ensures)
+    let st = after-scalers c .before .before in
+    size-is (st .args .z) (st .args .t .prefix) (st .args .t .scaler) _ _ _ (st .pre .1 .prefix) (after-scalers c .scalers .ensures) (c .before .before .scalers2 .ensures) (c .before .scalers3 .ensures)
 
 pub slice-size-spec : {M : Type 1} → statement M
 slice-size-spec =

@@ -14,13 +14,18 @@ Inv-loop out₀ n s₀ i₀ out s i = (i ≤ n) × Wrote out₀ s₀ (zeroBits (
 abbrev μ-loop : tie.MeasureT-loop
 μ-loop out₀ n s₀ i₀ out s i = n - i
 
+-- earlier states
+abbrev at-loop : tie.After-put-nbits Inv-loop μ-loop → tie.At-loop Inv-loop μ-loop
+at-loop c = let t = c .before .before in t .before
+
 loop-holds : tie.Need-loop-holds Inv-loop μ-loop
 loop-holds c = (omega arith, wrote-none (c .before .pre .0))
 
 put-nbits-requires : tie.Need-put-nbits-requires Inv-loop μ-loop
 put-nbits-requires c κs =
-    let st = c .before .before .before .before in
-    let v = c .before .before .loop in
+    let t = c .before .before in
+    let st = t .before .before in
+    let v = t .loop in
     (prefix-next (st .args .n) (v .i) (c .before .loop-test .taken) (st .pre .0) (v .inv .1), omega arith)
 
 add-i : tie.Need-add-i Inv-loop μ-loop
@@ -31,16 +36,17 @@ loop-less c = omega arith
 
 loop-again : tie.Need-loop-again Inv-loop μ-loop
 loop-again c =
-    let v = c .before .before .before .before .before .loop in
-    (omega arith, prefix-turn (v .i) (c .before .before .before .before .before .before .before .pre .0 .sound) (v .inv .1) (c .before .before .put-nbits .ensures))
+    let v = at-loop (c .before .before) .loop in
+    (omega arith, prefix-turn (v .i) (at-loop (c .before .before) .before .before .pre .0 .sound) (v .inv .1) (c .before .before .put-nbits .ensures))
 
 same-length : tie.Need-same-length Inv-loop μ-loop
 same-length c = c .before .loop .inv .1 .size
 
 returns : tie.Need-returns Inv-loop μ-loop
 returns c =
+    let t = c .before .before in
     let v = c .before .loop in
-    let n = c .before .before .before .args .n in
+    let n = t .before .args .n in
     prefix-all (v .i) n (omega (arith, v .inv .0, c .loop-test .left)) (v .inv .1)
 
 pub put-prefix-spec : {M : Type 1} → statement M

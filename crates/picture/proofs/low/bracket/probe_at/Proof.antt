@@ -10,6 +10,13 @@ use Rattle.picture.proofs.low.trial.first_tallies.Reads as first-tallie
 use Rattle.picture.proofs.low.trial.rebuild_planes.Reads as rebuild-planes-reads
 use Rattle.picture.proofs.low.trial.rest_of.Reads as rest-of-reads
 
+-- earlier states
+abbrev begin : tie.After-first-tallies → tie.Start
+begin c =
+    let t = c .before .before in
+    let u = t .before .before in
+    u .before
+
 rebuild-planes-requires : tie.Need-rebuild-planes-requires
 rebuild-planes-requires c κs = search needs
 
@@ -20,7 +27,7 @@ rest-of-requires : tie.Need-rest-of-requires
 rest-of-requires c κs = search needs
 
 bits-with-requires : tie.Need-bits-with-requires
-bits-with-requires c κs = joins-both (c .before .before .first-tallies .ensures) (c .rest-of .ensures .0) (c .before .before .before .before .before .before .before .pre .0 .arranged)
+bits-with-requires c κs = joins-both (c .before .before .first-tallies .ensures) (c .rest-of .ensures .0) (begin (c .before .before) .pre .0 .arranged)
 
 same-length : tie.Need-same-length
 same-length c = search needs

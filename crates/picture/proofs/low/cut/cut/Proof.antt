@@ -27,9 +27,10 @@ shorter-requires-2 c κs = search needs
 
 returns : tie.Need-returns
 returns c =
-    let st = c .before .before .before .before in
+    let t = c .before .before in
+    let st = t .before .before in
     let a = st .args in
-    let l = c .before .before .before .shorter in
+    let l = t .before .shorter in
     let d = c .before .colour-cost in
     kept-cut (a .room) (lumaIn (a .work .now) (a .p) (a .k) (a .q)) (colourIn (a .work .now) (a .p) (a .k) (a .q)) (a .y) (l .result) (d .result) (c .shorter2 .result) (st .pre .1 .luma) (st .pre .1 .over) (l .ensures) (d .ensures) (c .shorter2 .ensures)
 

@@ -12,12 +12,15 @@ no-cost-requires : tie.Need-no-cost-requires
 no-cost-requires c κs = search needs
 
 cost-run-requires : tie.Need-cost-run-requires
-cost-run-requires c κs = let st = c .before .before .before in rw (c .before .before .no-cost .ensures) (luma-ready (st .args .room) (st .pre))
+cost-run-requires c κs =
+    let t = c .before .before in
+    let st = t .before in rw (t .no-cost .ensures) (luma-ready (st .args .room) (st .pre))
 
 returns : tie.Need-returns
 returns c =
-    let a = c .before .before .before .before .args in
-    c .cost-run .ensures ∙ ap (λ (t : Cost). addAll t (lumaIn (a .work .now) (a .p) (a .k) (a .q))) (c .before .before .before .no-cost .ensures)
+    let u = c .before .before in
+    let a = u .before .before .args in
+    c .cost-run .ensures ∙ ap (λ (t : Cost). addAll t (lumaIn (a .work .now) (a .p) (a .k) (a .q))) (u .before .no-cost .ensures)
 
 pub luma-cost-spec : {M : Type 1} → statement M
 luma-cost-spec = tie.close (tie.spec no-cost-requires cost-run-requires returns)

@@ -16,6 +16,16 @@ Inv-loop out₀ work s y t₀ x₀ out t x = (s .left ≤ x) × ((x ≤ s .right
 abbrev μ-loop : tie.MeasureT-loop
 μ-loop out₀ work s y t₀ x₀ out t x = s .right - x
 
+-- earlier states
+abbrev at-loop : tie.After-put-place-arg Inv-loop μ-loop → tie.At-loop Inv-loop μ-loop
+at-loop c = let t = c .before .before in t .before
+
+abbrev at-loop′ : tie.After-put-place Inv-loop μ-loop → tie.At-loop Inv-loop μ-loop
+at-loop′ c = let t = c .before .before in t .before .before
+
+abbrev then1 : tie.After-slice-known2 Inv-loop μ-loop → tie.Then1 Inv-loop μ-loop
+then1 c = let t = c .before .before in t .before .before
+
 loop-holds : tie.Need-loop-holds Inv-loop μ-loop
 loop-holds c =
     let st = c .before in
@@ -24,10 +34,10 @@ loop-holds c =
 
 put-place-requires : tie.Need-put-place-requires Inv-loop μ-loop
 put-place-requires c κs =
-    let st = c .before .before .before .before .before in
+    let st = at-loop c .before .before in
     let a = st .args in
     let h = st .pre in
-    let l = c .before .before .before .loop in
+    let l = at-loop c .loop in
     let F = places (a .work .now) (a .s) (a .y) (a .s .left) in
     let e : a .s .left + (l .x - a .s .left) ≡ l .x = omega (arith, l .inv .0) in
     let all = room-same (a .p) (rowNumbers (a .work .now) (a .s) (a .y) (a .s .left) (a .s .right - a .s .left)) (chunks F (a .s .right - a .s .left)) (row-chunks (a .work .now) (a .s) (a .y) (a .s .left) (a .s .right - a .s .left)) (h .0) in
@@ -44,20 +54,21 @@ loop-less c = omega arith
 
 loop-again : tie.Need-loop-again Inv-loop μ-loop
 loop-again c =
-    let st = c .before .before .before .before .before .before .before .before in
+    let st = at-loop′ (c .before .before) .before .before in
     let a = st .args in
-    let l = c .before .before .before .before .before .before .loop in
+    let l = at-loop′ (c .before .before) .loop in
     let F = places (a .work .now) (a .s) (a .y) (a .s .left) in
     let e : l .x ≡ a .s .left + (l .x - a .s .left) = omega (arith, l .inv .0) in
-    (omega (arith, l .inv .0), (omega (arith, c .before .before .before .before .if1 .taken), part-turn F (a .s .left) (l .x) (l .inv .0) (st .pre .0 .sound) (l .inv .1 .1) (puts-same (ap (placeNumbers (a .work .now) (a .s) (a .y)) e) (c .before .before .put-place .ensures))))
+    (omega (arith, l .inv .0), (omega (arith, then1 c .if1 .taken), part-turn F (a .s .left) (l .x) (l .inv .0) (st .pre .0 .sound) (l .inv .1 .1) (puts-same (ap (placeNumbers (a .work .now) (a .s) (a .y)) e) (c .before .before .put-place .ensures))))
 
 same-length : tie.Need-same-length Inv-loop μ-loop
 same-length c = c .before .before .loop .inv .1 .1 .wrote .size
 
 returns : tie.Need-returns Inv-loop μ-loop
 returns c =
-    let a = c .before .before .before .before .args in
-    let l = c .before .before .loop in
+    let t = c .before .before in
+    let a = t .before .before .args in
+    let l = t .loop in
     let F = places (a .work .now) (a .s) (a .y) (a .s .left) in
     let e : l .x - a .s .left ≡ a .s .right - a .s .left = omega (arith, l .inv .1 .0, c .if1 .left) in
     puts-same (ap (chunks F) e ∙ sym (row-chunks (a .work .now) (a .s) (a .y) (a .s .left) (a .s .right - a .s .left))) (l .inv .1 .1)

@@ -15,6 +15,16 @@ use Rattle.picture.proofs.low.put.put_plain_place.Lts as lts
 use Rattle.picture.proofs.low.put.put_coefficient.Reads as put-coefficient-reads
 use Rattle.picture.proofs.low.put.put_plain_second.Reads as put-plain-second-reads
 
+-- earlier states
+abbrev begin : tie.After-put-coefficient → tie.Start
+begin c = let t = c .before .before in t .before
+
+abbrev after-put-coefficient : tie.After-put-plain-second-arg → tie.After-put-coefficient
+after-put-coefficient c = let t = c .before .before in t .before
+
+abbrev after-put-coefficient′ : tie.After-put-plain-second → tie.After-put-coefficient
+after-put-coefficient′ c = let t = c .before .before in t .before .before
+
 -- the room, for one number after the other
 room : (c : tie.Start) → let a = c .args in RoomFor (a .out .now) (a .p) ((forwardBy (a .s .factor) (planeFrom (a .work .now) (a .s .coefs) (a .s .width) (a .y) (a .x)) ∷ []) ++ secondNumber (a .work .now) (a .s) (a .y) (a .x))
 room c = let a = c .args in room-same (a .p) (placeNumbers (a .work .now) (a .s) (a .y) (a .x)) _ (place-plain (a .work .now) (a .s) (a .y) (a .x) (c .pre .1 .0 .holds .plain)) (c .pre .0)
@@ -28,17 +38,17 @@ put-coefficient-requires c κs =
 
 put-plain-second-requires : tie.Need-put-plain-second-requires
 put-plain-second-requires c κs =
-    let st = c .before .before .before .before .before .before in
-    (room-next _ _ (room st) (c .before .before .before .put-coefficient .ensures), st .pre .1)
+    let st = begin (after-put-coefficient c) in
+    (room-next _ _ (room st) (after-put-coefficient c .put-coefficient .ensures), st .pre .1)
 
 same-length : tie.Need-same-length
 same-length c = search needs
 
 returns : tie.Need-returns
 returns c =
-    let st = c .before .before .before .before .before .before .before .before .before in
+    let st = begin (after-put-coefficient′ (c .before .before)) in
     let a = st .args in
-    puts-same (sym (place-plain (a .work .now) (a .s) (a .y) (a .x) (st .pre .1 .0 .holds .plain))) (puts-then (st .pre .0 .sound) (c .before .before .before .before .before .before .put-coefficient .ensures) (c .before .before .put-plain-second .ensures))
+    puts-same (sym (place-plain (a .work .now) (a .s) (a .y) (a .x) (st .pre .1 .0 .holds .plain))) (puts-then (st .pre .0 .sound) (after-put-coefficient′ (c .before .before) .put-coefficient .ensures) (c .before .before .put-plain-second .ensures))
 
 pub put-plain-place-spec : {M : Type 1} → statement M
 put-plain-place-spec =

@@ -11,9 +11,14 @@ use Rattle.picture.proofs.low.put.put_plain_second.Reads as reads
 use Rattle.picture.proofs.low.put.put_plain_second.Lts as lts
 use Rattle.picture.proofs.low.put.put_coefficient.Reads as put-coefficient-reads
 
+-- earlier states
+abbrev then1 : tie.After-slice-known2 → tie.Then1
+then1 c = let t = c .before .before in t .before .before
+
 put-coefficient-requires : tie.Need-put-coefficient-requires
 put-coefficient-requires c κs =
-    let st = c .before .before .before in
+    let t = c .before .before in
+    let st = t .before in
     let a = st .args in
     let h = st .pre in
     let n = numbered-second (h .1 .0 .holds .small) (h .1 .0 .holds .within) (h .1 .1) in
@@ -24,9 +29,9 @@ same-length c = search needs
 
 returns : tie.Need-returns
 returns c =
-    let st = c .before .before .before .before .before .before in
+    let st = then1 c .before .before in
     let a = st .args in
-    puts-same (sym (second-plain (a .work .now) (a .s) (a .y) (a .x) (st .pre .1 .0 .holds .plain) (c .before .before .before .before .if1 .taken))) (c .before .before .put-coefficient .ensures)
+    puts-same (sym (second-plain (a .work .now) (a .s) (a .y) (a .x) (st .pre .1 .0 .holds .plain) (then1 c .if1 .taken))) (c .before .before .put-coefficient .ensures)
 
 returns-2 : tie.Need-returns-2
 returns-2 c =

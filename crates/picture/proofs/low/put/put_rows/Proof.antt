@@ -16,6 +16,16 @@ Inv-loop out₀ work s t₀ y₀ out t y = (s .top ≤ y) × ((y ≤ s .bottom) 
 abbrev μ-loop : tie.MeasureT-loop
 μ-loop out₀ work s t₀ y₀ out t y = s .bottom - y
 
+-- earlier states
+abbrev at-loop : tie.After-put-row-arg Inv-loop μ-loop → tie.At-loop Inv-loop μ-loop
+at-loop c = let t = c .before .before in t .before
+
+abbrev at-loop′ : tie.After-put-row Inv-loop μ-loop → tie.At-loop Inv-loop μ-loop
+at-loop′ c = let t = c .before .before in t .before .before
+
+abbrev then1 : tie.After-slice-known2 Inv-loop μ-loop → tie.Then1 Inv-loop μ-loop
+then1 c = let t = c .before .before in t .before .before
+
 loop-holds : tie.Need-loop-holds Inv-loop μ-loop
 loop-holds c =
     let st = c .before in
@@ -24,10 +34,10 @@ loop-holds c =
 
 put-row-requires : tie.Need-put-row-requires Inv-loop μ-loop
 put-row-requires c κs =
-    let st = c .before .before .before .before .before in
+    let st = at-loop c .before .before in
     let a = st .args in
     let h = st .pre in
-    let l = c .before .before .before .loop in
+    let l = at-loop c .loop in
     let F = rows (a .work .now) (a .s) (a .s .top) in
     let e : a .s .top + (l .y - a .s .top) ≡ l .y = omega (arith, l .inv .0) in
     let all = room-same (a .p) (stripNumbers (a .work .now) (a .s)) (chunks F (a .s .bottom - a .s .top)) (rows-chunks (a .work .now) (a .s) (a .s .top) (a .s .bottom - a .s .top)) (h .0) in
@@ -43,20 +53,21 @@ loop-less c = omega arith
 
 loop-again : tie.Need-loop-again Inv-loop μ-loop
 loop-again c =
-    let st = c .before .before .before .before .before .before .before .before in
+    let st = at-loop′ (c .before .before) .before .before in
     let a = st .args in
-    let l = c .before .before .before .before .before .before .loop in
+    let l = at-loop′ (c .before .before) .loop in
     let F = rows (a .work .now) (a .s) (a .s .top) in
     let e : l .y ≡ a .s .top + (l .y - a .s .top) = omega (arith, l .inv .0) in
-    (omega (arith, l .inv .0), (omega (arith, c .before .before .before .before .if1 .taken), part-turn F (a .s .top) (l .y) (l .inv .0) (st .pre .0 .sound) (l .inv .1 .1) (puts-same (ap (rowAt (a .work .now) (a .s)) e) (c .before .before .put-row .ensures))))
+    (omega (arith, l .inv .0), (omega (arith, then1 c .if1 .taken), part-turn F (a .s .top) (l .y) (l .inv .0) (st .pre .0 .sound) (l .inv .1 .1) (puts-same (ap (rowAt (a .work .now) (a .s)) e) (c .before .before .put-row .ensures))))
 
 same-length : tie.Need-same-length Inv-loop μ-loop
 same-length c = c .before .before .loop .inv .1 .1 .wrote .size
 
 returns : tie.Need-returns Inv-loop μ-loop
 returns c =
-    let a = c .before .before .before .before .args in
-    let l = c .before .before .loop in
+    let t = c .before .before in
+    let a = t .before .before .args in
+    let l = t .loop in
     let F = rows (a .work .now) (a .s) (a .s .top) in
     let e : l .y - a .s .top ≡ a .s .bottom - a .s .top = omega (arith, l .inv .1 .0, c .if1 .left) in
     puts-same (ap (chunks F) e ∙ sym (rows-chunks (a .work .now) (a .s) (a .s .top) (a .s .bottom - a .s .top))) (l .inv .1 .1)

@@ -11,27 +11,35 @@ use Rattle.picture.specs.Laws.Put.{puts-none, puts-same, room-same}
 use Rattle.picture.proofs.low.put.put_second.Statement.{statement}
 use Rattle.picture.proofs.low.put.put_second.Tie as tie
 
+-- earlier states
+abbrev then1 : tie.After-put-number → tie.Then1
+then1 c = let t = c .before .before in t .before
+
+abbrev after-number-at : tie.After-slice-known2 → tie.After-number-at
+after-number-at c = let t = c .before .before in t .before .before
+
 number-at-requires : tie.Need-number-at-requires
 number-at-requires c κs = let h = c .before .before .pre in numbered-second (h .1 .0 .holds .0) (h .1 .0 .holds .1) (h .1 .1)
 
 put-number-requires : tie.Need-put-number-requires
 put-number-requires c κs =
-    let st = c .before .before .before .before in
+    let t = c .before .before in
+    let st = t .before .before in
     let a = st .args in
     let n = c .before .number-at in
     let z = toZ w64 (ofZ w64 (n .result)) in
     room-same (a .p) (secondNumber (a .work .now) (a .s) (a .y) (a .x)) (z ∷ [])
-    (second-one (a .work .now) (a .s) (a .y) (a .x) z (c .before .before .if1 .taken) (toZ-ofZ (sfits-of (n .ok)) ∙ n .ensures)) (st .pre .0)
+    (second-one (a .work .now) (a .s) (a .y) (a .x) z (t .if1 .taken) (toZ-ofZ (sfits-of (n .ok)) ∙ n .ensures)) (st .pre .0)
 
 same-length : tie.Need-same-length
 same-length c = search needs
 
 returns : tie.Need-returns
 returns c =
-    let a = c .before .before .before .before .before .before .before .args in
-    let n = c .before .before .before .before .number-at in
+    let a = then1 (c .before .before) .before .before .args in
+    let n = after-number-at c .number-at in
     let z = toZ w64 (ofZ w64 (n .result)) in
-    puts-same (sym (second-one (a .work .now) (a .s) (a .y) (a .x) z (c .before .before .before .before .before .if1 .taken) (toZ-ofZ (sfits-of (n .ok)) ∙ n .ensures))) (c .before .before .put-number .ensures)
+    puts-same (sym (second-one (a .work .now) (a .s) (a .y) (a .x) z (after-number-at c .before .if1 .taken) (toZ-ofZ (sfits-of (n .ok)) ∙ n .ensures))) (c .before .before .put-number .ensures)
 
 returns-2 : tie.Need-returns-2
 returns-2 c =

@@ -6,7 +6,10 @@ use Rattle.picture.proofs.low.put.put_strip.Statement.{statement}
 use Rattle.picture.proofs.low.put.put_strip.Tie as tie
 
 returns : tie.Need-returns
-returns c = let st = c .before .before .before in let a = st .args in puts-past (stripNumbers (a .work .now) (a .s)) (st .pre .0) (c .if1 .taken)
+returns c =
+    let t = c .before .before in
+    let st = t .before in
+    let a = st .args in puts-past (stripNumbers (a .work .now) (a .s)) (st .pre .0) (c .if1 .taken)
 
 put-rows-requires : tie.Need-put-rows-requires
 put-rows-requires c κs = search needs

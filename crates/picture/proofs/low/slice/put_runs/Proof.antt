@@ -14,6 +14,19 @@ use Rattle.picture.proofs.low.slice.put_runs.Reads as reads
 use Rattle.picture.proofs.low.slice.put_runs.Lts as lts
 use Rattle.picture.proofs.low.put.put_run.Reads as put-run-reads
 
+-- earlier states
+abbrev begin : tie.After-put-run-arg → tie.Start
+begin c =
+    let t = c .before .before in
+    let u = t .before .before in
+    u .before .before
+
+abbrev after-put-run : tie.After-put-run-arg2 → tie.After-put-run
+after-put-run c = let t = c .before .before in t .before .before
+
+abbrev after-put-run2 : tie.After-result → tie.After-put-run2
+after-put-run2 c = let t = c .before .before in t .before
+
 abbrev lumaBits : tie.Start → Bits
 lumaBits c = codes (take (c .args .r .luma) (lumaIn (c .args .work .now) (c .args .p) (c .args .k) (c .args .q)))
 
@@ -22,19 +35,19 @@ colourBits c = codes (take (c .args .r .colour) (colourIn (c .args .work .now) (
 
 put-run-requires : tie.Need-put-run-requires
 put-run-requires c κs =
-    let st = c .before .before .before .before .before .before in
+    let st = begin c in
     (run-lies (run-y (st .pre .0)), room-first (lumaBits st) (colourBits st) (st .pre .1))
 
 put-run-requires-2 : tie.Need-put-run-requires-2
 put-run-requires-2 c κs =
-    let st = c .before .before .before .before .before .before .before .before .before .before .before in
-    (run-lies (run-pair (st .pre .0)), room-rest (lumaBits st) (colourBits st) (st .pre .1) (c .before .before .before .before .put-run .ensures .wrote))
+    let st = begin (after-put-run c .before) in
+    (run-lies (run-pair (st .pre .0)), room-rest (lumaBits st) (colourBits st) (st .pre .1) (after-put-run c .put-run .ensures .wrote))
 
 same-length : tie.Need-same-length
 same-length c = search needs
 
 returns : tie.Need-returns
-returns c = wrote-then (c .before .before .before .before .before .before .before .before .before .before .before .before .before .before .before .pre .1 .sound) (c .before .before .before .before .before .before .before .before .put-run .ensures .wrote) (c .before .before .before .put-run2 .ensures .wrote)
+returns c = wrote-then (begin (after-put-run (after-put-run2 c .before) .before) .pre .1 .sound) (after-put-run (after-put-run2 c .before) .put-run .ensures .wrote) (after-put-run2 c .put-run2 .ensures .wrote)
 
 pub put-runs-spec : {M : Type 1} → statement M
 put-runs-spec = tie.close (tie.spec put-run-requires put-run-requires-2 same-length returns)

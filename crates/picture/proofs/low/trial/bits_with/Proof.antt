@@ -11,6 +11,16 @@ use Rattle.picture.proofs.low.trial.bits_with.Reads as reads
 use Rattle.picture.proofs.low.trial.bits_with.Lts as lts
 use Rattle.picture.proofs.low.trial.joined.Reads as joined-reads
 
+-- earlier states
+abbrev begin : tie.After-joined → tie.Start
+begin c =
+    let t = c .before .before in
+    let u = t .before .before in
+    u .before
+
+abbrev after-joined : tie.After-struct-known2 → tie.After-joined
+after-joined c = let t = c .before .before in t .before
+
 joined-requires : tie.Need-joined-requires
 joined-requires c κs = search needs
 
@@ -19,14 +29,14 @@ joined-requires-2 c κs = search needs
 
 add-result : tie.Need-add-result
 add-result c =
-    let st = c .before .before .before .before .before .before .before .before in
+    let st = begin (after-joined c) in
     let a = st .args in
-    let y = c .before .before .before .joined in
+    let y = after-joined c .joined in
     let d = c .before .before .joined2 in
     omega (arith, joined-few (a .f .luma) (a .r .luma) (y .result) (st .pre .0) (y .ensures), joined-few (a .f .colour) (a .r .colour) (d .result) (st .pre .1) (d .ensures))
 
 returns : tie.Need-returns
-returns c = ap₂ (λ (y d : Trimmed). y .bits + d .bits) (c .before .before .before .joined .ensures) (c .before .before .joined2 .ensures)
+returns c = let t = c .before .before in ap₂ (λ (y d : Trimmed). y .bits + d .bits) (t .before .joined .ensures) (t .joined2 .ensures)
 
 pub bits-with-spec : {M : Type 1} → statement M
 bits-with-spec = tie.close (tie.spec joined-requires joined-requires-2 add-result returns)

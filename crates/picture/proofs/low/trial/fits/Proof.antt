@@ -15,16 +15,29 @@ use Rattle.picture.proofs.low.trial.rebuild_planes.Reads as rebuild-pla
 use Rattle.picture.proofs.low.trial.rest_of.Reads as rest-of-reads
 use Rattle.picture.proofs.low.trial.surely_fits.Reads as surely-fits-reads
 
+-- earlier states
+abbrev after-rebuild-planes : tie.After-first-tallies → tie.After-rebuild-planes
+after-rebuild-planes c = let t = c .before .before in t .before
+
+abbrev after-surely-fits : tie.After-never-fits → tie.After-surely-fits
+after-surely-fits c = let t = c .before .before in t .before
+
+abbrev after-surely-fits2 : tie.After-rest-of → tie.After-surely-fits2
+after-surely-fits2 c =
+    let t = c .before .before in
+    let u = t .before .before in
+    u .before .before
+
 -- the runs known, where the planes are rebuilt
-both : (c : tie.After-first-tallies) → let a = c .before .before .before .before .before .args in
-    let v = c .before .before .before .rebuild-planes .last .0 in Known v (a .p) (a .k) (a .low) × Known v (a .p) (a .k) (a .high)
+both : (c : tie.After-first-tallies) → let a = after-rebuild-planes c .before .before .args in
+    let v = after-rebuild-planes c .rebuild-planes .last .0 in Known v (a .p) (a .k) (a .low) × Known v (a .p) (a .k) (a .high)
 both c =
-    let st = c .before .before .before .before .before in
-    let r = c .before .before .before .rebuild-planes in
+    let st = after-rebuild-planes c .before .before in
+    let r = after-rebuild-planes c .rebuild-planes in
     (known-rebuilt (r .last .0) (st .args .q) (st .pre .0) (r .ensures .0) (st .pre .1 .0 .0), known-rebuilt (r .last .0) (st .args .q) (st .pre .0) (r .ensures .0) (st .pre .1 .0 .1))
 
-arranged : (c : tie.After-first-tallies) → Arranged (c .before .before .before .before .before .args .p)
-arranged c = c .before .before .before .before .before .pre .0 .arranged
+arranged : (c : tie.After-first-tallies) → Arranged (after-rebuild-planes c .before .before .args .p)
+arranged c = after-rebuild-planes c .before .before .pre .0 .arranged
 
 rebuild-planes-requires : tie.Need-rebuild-planes-requires
 rebuild-planes-requires c κs = search needs
@@ -43,28 +56,37 @@ same-length c = search needs
 
 returns : tie.Need-returns
 returns c =
-    let d = c .before .before .before in
-    let a = d .before .before .before .before .before .args in
-    let r = d .before .before .before .rebuild-planes .ensures in
+    let t = c .before .before in
+    let d = t .before in
+    let i = d .before .before in
+    let r = i .before .rebuild-planes .ensures in
+    let st = i .before .before in
+    let a = st .before .args in
     let k = both d in
-    let x = c .before .before .surely-fits in
+    let x = t .surely-fits in
     let y = c .before .surely-fits2 in
     (surely-either (d .first-tallies .ensures) (k .0) (k .1) (a .work .now) (r .0) (a .room) (x .result) (y .result) (x .ensures) (y .ensures) (c .if1 .taken), (r .0, (r .1, k)))
 
 never-fits-requires : tie.Need-never-fits-requires
-never-fits-requires c κs = let d = c .before .before .before in joins-both (d .first-tallies .ensures) (both d .0) (arranged d)
+never-fits-requires c κs =
+    let t = c .before .before in
+    let d = t .before in joins-both (d .first-tallies .ensures) (both d .0) (arranged d)
 
 never-fits-requires-2 : tie.Need-never-fits-requires-2
-never-fits-requires-2 c κs = let d = c .before .before .before .before in joins-both (d .first-tallies .ensures) (both d .1) (arranged d)
+never-fits-requires-2 c κs =
+    let t = c .before .before in
+    let d = t .before .before in joins-both (d .first-tallies .ensures) (both d .1) (arranged d)
 
 same-length-2 : tie.Need-same-length-2
 same-length-2 c = search needs
 
 returns-2 : tie.Need-returns-2
 returns-2 c =
-    let d = c .before .before .before .before .before .before in
-    let a = d .before .before .before .before .before .args in
-    let r = d .before .before .before .rebuild-planes .ensures in
+    let d = after-surely-fits (c .before .before) .before in
+    let i = d .before .before in
+    let r = i .before .rebuild-planes .ensures in
+    let st = i .before .before in
+    let a = st .before .args in
     let k = both d in
     let x = c .before .before .never-fits in
     let y = c .before .never-fits2 in
@@ -74,16 +96,18 @@ rest-of-requires : tie.Need-rest-of-requires
 rest-of-requires c κs = search needs
 
 bits-with-requires : tie.Need-bits-with-requires
-bits-with-requires c κs = let d = c .before .before .before .before .before .before .before .before in joins-both (d .first-tallies .ensures) (c .rest-of .ensures .0) (arranged d)
+bits-with-requires c κs = let d = after-surely-fits2 c .before .before in joins-both (d .first-tallies .ensures) (c .rest-of .ensures .0) (arranged d)
 
 same-length-3 : tie.Need-same-length-3
 same-length-3 c = search needs
 
 returns-3 : tie.Need-returns-3
 returns-3 c =
-    let d = c .before .before .before .before .before .before .before .before .before .before in
-    let a = d .before .before .before .before .before .args in
-    let r = d .before .before .before .rebuild-planes .ensures in
+    let d = after-surely-fits2 (c .before .before) .before .before in
+    let i = d .before .before in
+    let r = i .before .rebuild-planes .ensures in
+    let st = i .before .before in
+    let a = st .before .args in
     let k = both d in
     let t = c .before .before .rest-of .ensures in
     let n = c .before .bits-with in
@@ -94,9 +118,11 @@ same-length-4 c = search needs
 
 returns-4 : tie.Need-returns-4
 returns-4 c =
-    let d = c .before .before .before .before .before .before .before .before .before .before in
-    let a = d .before .before .before .before .before .args in
-    let r = d .before .before .before .rebuild-planes .ensures in
+    let d = after-surely-fits2 (c .before .before) .before .before in
+    let i = d .before .before in
+    let r = i .before .rebuild-planes .ensures in
+    let st = i .before .before in
+    let a = st .before .args in
     let k = both d in
     let t = c .before .before .rest-of .ensures in
     let n = c .before .bits-with in

@@ -8,6 +8,10 @@ use Rattle.picture.proofs.low.trial.joined.Reads as reads
 use Rattle.picture.proofs.low.trial.joined.Lts as lts
 use Rattle.picture.proofs.slices.tally.trimmed_of.Reads as trimmed-of-reads
 
+-- earlier states
+abbrev else1 : tie.After-struct-known5 → tie.Else1
+else1 c = let t = c .before .before in t .before .before
+
 trimmed-of-requires : tie.Need-trimmed-of-requires
 trimmed-of-requires c κs = search needs
 
@@ -18,10 +22,12 @@ add-t6 : tie.Need-add-t6
 add-t6 c = search needs
 
 returns : tie.Need-returns
-returns c = let a = c .before .before .before .args in c .trimmed-of .ensures ∙ joined-none (a .t) (a .r) (c .before .if1 .taken)
+returns c =
+    let t = c .before .before in
+    let a = t .before .args in c .trimmed-of .ensures ∙ joined-none (a .t) (a .r) (c .before .if1 .taken)
 
 returns-2 : tie.Need-returns-2
-returns-2 c = let a = c .before .before .before .before .before .before .args in joined-some (a .t) (a .r) (c .before .before .before .before .if1 .left)
+returns-2 c = let a = else1 c .before .before .args in joined-some (a .t) (a .r) (else1 c .if1 .left)
 
 pub joined-spec : {M : Type 1} → statement M
 joined-spec = tie.close (tie.spec trimmed-of-requires add-t5 add-t6 returns returns-2)

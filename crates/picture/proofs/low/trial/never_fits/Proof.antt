@@ -19,7 +19,8 @@ bits-with-requires c κs = search needs
 
 returns-2 : tie.Need-returns-2
 returns-2 c =
-    let a = c .before .before .before .args in
+    let t = c .before .before in
+    let a = t .before .args in
     let n = c .bits-with .result in
     within-is (a .q) (a .r .index) (ltb (a .room) n) (ltb (a .room) (bitsWith (a .f) (a .r))) (c .before .if1 .left)
     (ap (λ (n : ℕ). ltb (a .room) n) (c .bits-with .ensures))

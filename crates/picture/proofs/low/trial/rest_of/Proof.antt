@@ -6,11 +6,18 @@ use borrow.Author.Needs.{needs}
 use Rattle.picture.proofs.low.trial.rest_of.Statement.{statement}
 use Rattle.picture.proofs.low.trial.rest_of.Tie as tie
 
+-- earlier states
+abbrev begin : tie.After-colour → tie.Start
+begin c =
+    let t = c .before .before in
+    let u = t .before .before in
+    u .before
+
 rest-run-requires : tie.Need-rest-run-requires
-rest-run-requires c κs = let h = c .before .before .before .before .before .pre in (run-y (h .0), (h .0 .arranged .y .area, ap (λ (v : Windows). v .luma) (h .1)))
+rest-run-requires c κs = let h = begin c .pre in (run-y (h .0), (h .0 .arranged .y .area, ap (λ (v : Windows). v .luma) (h .1)))
 
 rest-run-requires-2 : tie.Need-rest-run-requires-2
-rest-run-requires-2 c κs = let h = c .before .before .before .before .before .before .pre in (run-pair (h .0), (h .0 .arranged .c1 .area, ap (λ (v : Windows). v .colour) (h .1)))
+rest-run-requires-2 c κs = let h = begin (c .before) .pre in (run-pair (h .0), (h .0 .arranged .c1 .area, ap (λ (v : Windows). v .colour) (h .1)))
 
 returns : tie.Need-returns
 returns c = search needs

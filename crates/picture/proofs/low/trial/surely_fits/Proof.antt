@@ -19,7 +19,8 @@ bits-with-requires c κs = search needs
 
 returns-2 : tie.Need-returns-2
 returns-2 c =
-    let a = c .before .before .before .args in
+    let t = c .before .before in
+    let a = t .before .args in
     within-is (a .r .index) (a .q) (leb (c .bits-with .result) (a .room)) (leb (bitsWith (a .f) (a .r)) (a .room)) (c .before .if1 .left)
     (ap (λ (n : ℕ). leb n (a .room)) (c .bits-with .ensures))
 

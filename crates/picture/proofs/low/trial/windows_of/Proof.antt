@@ -8,12 +8,14 @@ use Rattle.picture.proofs.low.trial.windows_of.Tie as tie
 
 window-at-requires : tie.Need-window-at-requires
 window-at-requires c κs =
-    let h = c .before .before .before .pre in
+    let t = c .before .before in
+    let h = t .before .pre in
     record { layout = h .0 .layout; first = h .0 .y .fits; band = omega arith; slice = h .1 }
 
 window-at-requires-2 : tie.Need-window-at-requires-2
 window-at-requires-2 c κs =
-    let h = c .before .before .before .before .pre in
+    let t = c .before .before in
+    let h = t .before .before .pre in
     record { layout = h .0 .layout; first = h .0 .c1 .fits; band = omega arith; slice = h .1 }
 
 returns : tie.Need-returns

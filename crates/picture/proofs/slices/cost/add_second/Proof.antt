@@ -17,9 +17,10 @@ add-len-requires c κs = search needs
 
 returns : tie.Need-returns
 returns c =
-    let a = c .before .before .before .args in
+    let t = c .before .before in
+    let a = t .before .args in
     let z = numberIn (a .work .now) (a .s) (a .s .coefs2) (a .s .rebuilt2) (a .y) (a .x) in
-    second-yes add1 (a .work .now) (a .s) (a .y) (a .x) (a .c) z (c .before .before .if1 .taken) refl
+    second-yes add1 (a .work .now) (a .s) (a .y) (a .x) (a .c) z (t .if1 .taken) refl
     (added-len (a .c) z _ _ (c .before .number-len .ensures) (c .add-len .ensures))
 
 returns-2 : tie.Need-returns-2

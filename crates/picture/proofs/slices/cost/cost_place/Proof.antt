@@ -31,7 +31,8 @@ add-second-requires c κs =
 
 returns : tie.Need-returns
 returns c =
-    let a = c .before .before .before .args in
+    let t = c .before .before in
+    let a = t .before .args in
     place-added add1 (a .work .now) (a .s) (a .y) (a .x) (a .c) _ _ (number (c .before)) refl (added (c .before)) (c .add-second .ensures)
 
 pub cost-place-spec : {M : Type 1} → statement M

@@ -23,9 +23,10 @@ loop-holds c =
 
 cost-row-requires : tie.Need-cost-row-requires Inv-loop μ-loop
 cost-row-requires c κs =
-    let st = c .before .before .before in
+    let t = c .before .before in
+    let st = t .before in
     let a = st .args in
-    let l = c .before .before .loop in
+    let l = t .loop in
     let h = st .pre in
     let F = rows (a .work .now) (a .s) (a .s .top) in
     let k : ℕ = l .y - a .s .top in
@@ -43,16 +44,18 @@ loop-less c = omega arith
 
 loop-again : tie.Need-loop-again Inv-loop μ-loop
 loop-again c =
-    let a = c .before .before .before .before .args in
-    let l = c .before .before .before .loop in
+    let t = c .before .before in
+    let a = t .before .before .args in
+    let l = t .before .loop in
     let F = rows (a .work .now) (a .s) (a .s .top) in
     let e : a .s .top + (l .y - a .s .top) ≡ l .y = omega (arith, l .inv .0) in
     (omega (arith, l .inv .0), (omega (arith, c .before .if1 .taken), added-turn add1 F (a .c) (l .t) _ (a .s .top) (l .y) (l .inv .0) (l .inv .1 .1) (rw e (c .cost-row .ensures))))
 
 returns : tie.Need-returns Inv-loop μ-loop
 returns c =
-    let a = c .before .before .before .args in
-    let l = c .before .before .loop in
+    let t = c .before .before in
+    let a = t .before .args in
+    let l = t .loop in
     let e : l .y ≡ a .s .bottom = omega (arith, l .inv .1 .0, c .if1 .left) in
     let F = rows (a .work .now) (a .s) (a .s .top) in
     added-all add1 F (a .c) (l .t) _ (a .s .top) (l .y) (a .s .bottom) e (l .inv .1 .1) (rows-chunks (a .work .now) (a .s) (a .s .top) (a .s .bottom - a .s .top))

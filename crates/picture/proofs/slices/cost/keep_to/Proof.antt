@@ -17,7 +17,9 @@ returns : tie.Need-returns
 returns c = let a = c .before .before .args in kept-yes (a .c) (a .none) (a .bits) (c .before .if1 .taken)
 
 returns-2 : tie.Need-returns-2
-returns-2 c = let a = c .before .before .before .args in kept-no (a .c) (a .none) (a .bits) (c .before .before .if1 .left)
+returns-2 c =
+    let t = c .before .before in
+    let a = t .before .args in kept-no (a .c) (a .none) (a .bits) (t .if1 .left)
 
 pub keep-to-spec : {M : Type 1} → statement M
 keep-to-spec = tie.close (tie.spec add-t6 add-t7 add-t8 returns returns-2)

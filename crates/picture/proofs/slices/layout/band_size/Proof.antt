@@ -21,13 +21,14 @@ subband-width-requires c κs =
 
 subband-height-requires : tie.Need-subband-height-requires
 subband-height-requires c κs =
-    let s = c .before .before .before in
+    let t = c .before .before in
+    let s = t .before in
     let a = s .args in
-    omega (arith, s .pre .0 .depths, c .before .before .level-of .ensures, level-most (a .l .«depth_ho») (a .l .depth) (a .n) (s .pre .1))
+    omega (arith, s .pre .0 .depths, t .level-of .ensures, level-most (a .l .«depth_ho») (a .l .depth) (a .n) (s .pre .1))
 
 returns : tie.Need-returns
 unfolding bandSize
-returns c = rw (c .subband-height .ensures, c .before .subband-width .ensures, c .before .before .before .level-of .ensures) refl
+returns c = let t = c .before .before in rw (c .subband-height .ensures, c .before .subband-width .ensures, t .before .level-of .ensures) refl
 
 pub band-size-spec : {M : Type 1} → statement M
 band-size-spec =

@@ -16,6 +16,30 @@ use Rattle.picture.proofs.slices.layout.first_of.Reads as first-of-read
 use Rattle.quantiser.proofs.factors.factor_at.Reads as factor-at-reads
 use Rattle.quantiser.proofs.factors.offset_by.Reads as offset-by-reads
 
+-- earlier states
+abbrev after-band-size : tie.After-struct-known4 → tie.After-band-size
+after-band-size c =
+    let t = c .before .before in
+    let u = t .before .before in
+    let v = u .before .before in
+    v .before
+
+abbrev after-band-size′ : tie.After-bound → tie.After-band-size
+after-band-size′ c =
+    let t = c .before .before in
+    let u = t .before .before in
+    let v = u .before .before in
+    v .before .before
+
+abbrev after-factor-at : tie.After-struct-known4 → tie.After-factor-at
+after-factor-at c = let t = c .before .before in t .before .before
+
+abbrev after-bound2 : tie.After-offset-by → tie.After-bound2
+after-bound2 c = let t = c .before .before in t .before
+
+abbrev after-bound3 : tie.After-first-of → tie.After-bound3
+after-bound3 c = let t = c .before .before in t .before
+
 band-size-requires : tie.Need-band-size-requires
 band-size-requires c κs = search needs
 
@@ -51,36 +75,36 @@ cast-t22 c = search needs
 
 bound-requires : tie.Need-bound-requires
 bound-requires c κs =
-    let s = c .before .before .before .before .before .before .before .before in
+    let s = after-band-size c .before in
     let a = s .args in
-    let z = c .before .before .before .before .before .before .before .band-size in
+    let z = after-band-size c .band-size in
     omega (arith, s .pre .layout .down, s .pre .first .height, ap (λ (z : Size). z .height) (z .ensures), band-low (a .t1) (a .c) (a .n), row-of (s .pre .layout) (s .pre .slice))
 
 add-bound : tie.Need-add-bound
-add-bound c = let s = c .before .before .before .before .before .before .before .before .before in omega (arith, s .pre .layout .down, row-of (s .pre .layout) (s .pre .slice))
+add-bound c = let s = after-band-size′ c .before in omega (arith, s .pre .layout .down, row-of (s .pre .layout) (s .pre .slice))
 
 bound-requires-2 : tie.Need-bound-requires-2
 bound-requires-2 c κs =
-    let s = c .before .before .before .before .before .before .before .before .before in
+    let s = after-band-size′ c .before in
     let a = s .args in
-    let z = c .before .before .before .before .before .before .before .before .band-size in
+    let z = after-band-size′ c .band-size in
     omega (arith, s .pre .layout .down, s .pre .first .height, ap (λ (z : Size). z .height) (z .ensures), band-low (a .t1) (a .c) (a .n), row-of (s .pre .layout) (s .pre .slice))
 
 bound-requires-3 : tie.Need-bound-requires-3
 bound-requires-3 c κs =
-    let s = c .before .before .before .before .before .before .before .before .before .before in
+    let s = after-band-size′ (c .before) .before in
     let a = s .args in
-    let z = c .before .before .before .before .before .before .before .before .before .band-size in
+    let z = after-band-size′ (c .before) .band-size in
     omega (arith, s .pre .layout .across, s .pre .first .width, ap (λ (z : Size). z .width) (z .ensures), band-narrow (a .t1) (a .c) (a .n), column-of (s .pre .layout) (s .pre .slice))
 
 add-bound-2 : tie.Need-add-bound-2
-add-bound-2 c = let s = c .before .before .before .before .before .before .before .before .before .before .before in omega (arith, s .pre .layout .across, column-of (s .pre .layout) (s .pre .slice))
+add-bound-2 c = let s = after-band-size′ (c .before .before) .before in omega (arith, s .pre .layout .across, column-of (s .pre .layout) (s .pre .slice))
 
 bound-requires-4 : tie.Need-bound-requires-4
 bound-requires-4 c κs =
-    let s = c .before .before .before .before .before .before .before .before .before .before .before in
+    let s = after-band-size′ (c .before .before) .before in
     let a = s .args in
-    let z = c .before .before .before .before .before .before .before .before .before .before .band-size in
+    let z = after-band-size′ (c .before .before) .band-size in
     omega (arith, s .pre .layout .across, s .pre .first .width, ap (λ (z : Size). z .width) (z .ensures), band-narrow (a .t1) (a .c) (a .n), column-of (s .pre .layout) (s .pre .slice))
 
 offset-by-requires : tie.Need-offset-by-requires
@@ -91,13 +115,13 @@ first-of-requires c κs = search needs
 
 returns : tie.Need-returns
 returns c =
-    let a = c .before .before .before .before .before .before .before .before .before .before .before .before .before .before .args in
-    let z = c .before .before .before .before .before .before .before .before .before .before .before .before .before .band-size in
-    let i = c .before .before .before .before .before .before .before .before .before .before .before .band-index in
-    let f = c .before .before .before .before .before .before .before .before .before .before .factor-at in
-    let t = c .before .before .before .before .before .bound in
-    let d = c .before .before .before .before .bound2 in
-    let x = c .before .before .before .bound3 in
+    let a = after-band-size′ (after-bound2 (c .before) .before) .before .args in
+    let z = after-band-size′ (after-bound2 (c .before) .before) .band-size in
+    let i = after-factor-at (after-bound2 (c .before) .before .before) .before .band-index in
+    let f = after-factor-at (after-bound2 (c .before) .before .before) .factor-at in
+    let t = after-bound2 (c .before) .before .bound in
+    let d = after-bound2 (c .before) .bound2 in
+    let x = after-bound3 c .bound3 in
     let y = c .before .before .bound4 in
     let o = c .before .offset-by in
     let p = c .first-of in

@@ -10,6 +10,13 @@ use Rattle.picture.proofs.slices.layout.first_of.Reads as first-of-read
 use Rattle.quantiser.proofs.factors.factor_at.Reads as factor-at-reads
 use Rattle.quantiser.proofs.factors.offset_by.Reads as offset-by-reads
 
+-- earlier states
+abbrev begin : tie.After-factor-at → tie.Start
+begin c = let t = c .before .before in t .before
+
+abbrev after-factor-at : tie.After-offset-by → tie.After-factor-at
+after-factor-at c = let t = c .before .before in t .before
+
 mul-band-index : tie.Need-mul-band-index
 mul-band-index c = search needs
 
@@ -36,10 +43,10 @@ first-of-requires c κs = search needs
 
 returns : tie.Need-returns
 returns c =
-    let st = c .before .before .before .before .before .before .before in
+    let st = begin (after-factor-at (c .before)) in
     let a = st .args in
-    let i = c .before .before .before .before .before .band-index in
-    let f = c .before .before .before .before .factor-at in
+    let i = after-factor-at (c .before) .before .band-index in
+    let f = after-factor-at (c .before) .factor-at in
     let o = c .before .offset-by in
     let p = c .first-of in
     strip-by (a .t1) (a .c) (a .second) (a .pair) (a .n) (a .start) (a .k) (a .q) (a .v) (i .result) (f .result) (o .result) (p .result) (st .pre .1) (i .ensures .0) (f .ensures .0) (o .ensures .0) (p .ensures)

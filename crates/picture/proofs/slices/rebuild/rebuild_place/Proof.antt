@@ -14,6 +14,10 @@ use native.Mathlib.Omega.{arith}
 use Rattle.picture.proofs.slices.rebuild.rebuild_place.Statement.{statement}
 use Rattle.picture.proofs.slices.rebuild.rebuild_place.Tie as tie
 
+-- earlier states
+abbrev after-value-at : tie.After-store → tie.After-value-at
+after-value-at c = let t = c .before .before in t .before
+
 value-at-requires : tie.Need-value-at-requires
 value-at-requires c κs = search needs
 
@@ -36,14 +40,19 @@ part-store-end : tie.Need-part-store-end
 part-store-end c = search needs
 
 mul-store-2 : tie.Need-mul-store-2
-mul-store-2 c = let h = c .before .before .before .before .pre in omega (arith, place-lt (h .0 .holds .0) (h .0 .holds .1) (h .1), h .0 .holds .1 .rebuilt, h .0 .holds .0 .order, h .0 .holds .0 .few)
+mul-store-2 c =
+    let t = c .before .before in
+    let h = t .before .before .pre in omega (arith, place-lt (h .0 .holds .0) (h .0 .holds .1) (h .1), h .0 .holds .1 .rebuilt, h .0 .holds .0 .order, h .0 .holds .0 .few)
 
 add-store : tie.Need-add-store
-add-store c = let h = c .before .before .before .before .pre in omega (arith, place-lt (h .0 .holds .0) (h .0 .holds .1) (h .1), h .0 .holds .1 .rebuilt, h .0 .holds .0 .order, h .0 .holds .0 .few)
+add-store c =
+    let t = c .before .before in
+    let h = t .before .before .pre in omega (arith, place-lt (h .0 .holds .0) (h .0 .holds .1) (h .1), h .0 .holds .1 .rebuilt, h .0 .holds .0 .order, h .0 .holds .0 .few)
 
 store-requires : tie.Need-store-requires
 store-requires c κs =
-    let st = c .before .before .before .before in
+    let t = c .before .before in
+    let st = t .before .before in
     let a = st .args in
     let h = st .pre in
     rw (length-lent (a .s .rebuilt) (a .s .height * a .s .width) (a .work .now) (omega (arith, h .0 .holds .1 .rebuilt, h .0 .holds .0 .order, h .0 .holds .0 .long))) (place-lt (h .0 .holds .0) (h .0 .holds .1) (h .1))
@@ -53,10 +62,10 @@ same-length c = search needs
 
 returns : tie.Need-returns
 returns c =
-    let st = c .before .before .before .before .before .before in
+    let st = after-value-at (c .before) .before .before in
     let a = st .args in
     let h = st .pre in
-    let v = c .before .before .before .before .value-at in
+    let v = after-value-at (c .before) .value-at in
     let l : List ℤ = a .work .now in
     let p : ℕ = a .s .rebuilt in
     let m : ℕ = p + a .s .height * a .s .width - p in

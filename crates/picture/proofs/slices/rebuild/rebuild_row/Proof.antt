@@ -2,7 +2,7 @@
 use mathlib.Core.Path.{_≡_, ap, _∙_}
 use Prim.Native.Nat.{_-_, _≤_}
 use lib.ListN.{length}
-use Rattle.picture.specs.Code.Strip.{rebuiltRow, Lies, Inside}
+use Rattle.picture.specs.Code.Strip.{rebuiltRow, Inside}
 use Rattle.picture.specs.Laws.Strip.{rebuilt-none, rebuilt-length, rebuilt-turn, row-keeps}
 use native.Mathlib.Omega.{arith}
 use Rattle.picture.proofs.slices.rebuild.rebuild_row.Statement.{statement}

@@ -14,11 +14,15 @@ use native.Mathlib.Omega.{arith}
 use Rattle.picture.proofs.slices.rebuild.value_at.Statement.{statement}
 use Rattle.picture.proofs.slices.rebuild.value_at.Tie as tie
 
+-- earlier states
+abbrev begin : tie.After-inverse-by → tie.Start
+begin c = let t = c .before .before in t .before
+
 -- the sum
-value : (c : tie.After-inverse-by) → let a = c .before .before .before .args in
+value : (c : tie.After-inverse-by) → let a = begin c .args in
     toZ w64 (ofZ w64 (c .before .before .prediction .result)) +ℤ toZ w64 (ofZ w64 (c .inverse-by .result)) ≡ valueIn (a .work .now) (a .s) (a .y) (a .x)
 value c =
-    let s = c .before .before .before .args .s in
+    let s = begin c .args .s in
     let p = c .before .before .prediction in
     let q = c .before .number-at in
     let r = c .inverse-by in
@@ -41,13 +45,15 @@ inverse-by-requires c κs =
 
 add-result : tie.Need-add-result
 add-result c =
-    let st = c .before .before .before in
+    let t = c .before .before in
+    let st = t .before in
     let h = st .pre in
     rw (value c) (fit (valueIn (st .args .work .now) (st .args .s) (st .args .y) (st .args .x)) (omega (arith, value-reach (h .0 .holds .0) (h .0 .holds .1) (h .1))))
 
 returns : tie.Need-returns
 returns c =
-    let h = c .before .before .before .pre in
+    let t = c .before .before in
+    let h = t .before .pre in
     let e = toZ-ofZ {w = w64} (add-result c) ∙ value c in
     (e, rw e (value-reach (h .0 .holds .0) (h .0 .holds .1) (h .1)))
 

@@ -34,9 +34,10 @@ tally-of-requires c κs = search needs
 
 returns : tie.Need-returns
 returns c =
-    let a = c .before .before .before .before .args in
-    let s = c .before .before .strip-in in
-    let z = c .before .before .before .no-cost in
+    let u = c .before .before in
+    let a = u .before .before .args in
+    let s = u .strip-in in
+    let z = u .before .no-cost in
     c .tally-of .ensures
     ∙ ap tallyOf (c .before .cost-strip .ensures ∙ ap (λ (t : Cost). addAll t (stripNumbers (a .work .now) (s .result))) (z .ensures))
     ∙ tally-cost (noCost 0) (stripNumbers (a .work .now) (s .result)) ∙ ap (λ (s : Strip). tallyAll noTally (stripNumbers (a .work .now) s)) (s .ensures)

@@ -21,6 +21,10 @@ record Up (base w y x size : ℕ) : Type 0 where
   long : base + (y * w + x) + 1 ≤ size
   few : base + (y * w + x) + 1 < 2 ^ 30
 
+-- earlier states
+abbrev else3 : tie.After-c → tie.Else3
+else3 c = let t = c .before .before in t .before
+
 up : (c : tie.Else1) → let a = c .before .args in Up (a .base) (a .w) (a .y) (a .x) (length (a .work .now))
 up c =
     let st = c .before in
@@ -68,11 +72,12 @@ shared-slice-copy-out-result c = search needs
 
 returns-2 : tie.Need-returns-2
 returns-2 c =
-    let st = c .before .before .before in
+    let t = c .before .before in
+    let st = t .before in
     let a = st .args in
     is-predict (a .work .now) (a .base) (a .w) (a .y) (a .x) (st .pre .0) _
     (read (st .pre .0) (a .base + (a .x - 1)) (omega arith)
-    ∙ predict-top (a .work .now) (a .base) (a .w) (a .y) (a .x) (c .before .before .if1 .taken) (c .before .if2 .left))
+    ∙ predict-top (a .work .now) (a .base) (a .w) (a .y) (a .x) (t .if1 .taken) (c .before .if2 .left))
 
 sub-up : tie.Need-sub-up
 sub-up c = search needs
@@ -91,12 +96,13 @@ shared-slice-copy-out-result-2 c = let u = up (c .before) in omega (arith, u .ro
 
 returns-3 : tie.Need-returns-3
 returns-3 c =
-    let st = c .before .before .before in
+    let t = c .before .before in
+    let st = t .before in
     let a = st .args in
-    let u = up (c .before .before) in
+    let u = up (t) in
     is-predict (a .work .now) (a .base) (a .w) (a .y) (a .x) (st .pre .0) _
     (read (st .pre .0) (a .base + (a .y - 1) * a .w) (omega (arith, u .row, u .inside))
-    ∙ predict-side (a .work .now) (a .base) (a .w) (a .y) (a .x) (c .before .before .if1 .left) (c .before .if3 .taken))
+    ∙ predict-side (a .work .now) (a .base) (a .w) (a .y) (a .x) (t .if1 .left) (c .before .if3 .taken))
 
 add-i-2 : tie.Need-add-i-2
 add-i-2 c = let u = up (c .before) in omega (arith, u .row, u .inside, u .long, u .few)
@@ -120,27 +126,31 @@ shared-slice-copy-out-b : tie.Need-shared-slice-copy-out-b
 shared-slice-copy-out-b c = let u = up (c .before .before) in omega (arith, u .row, u .inside, u .long, u .few)
 
 mul-c : tie.Need-mul-c
-mul-c c = let u = up (c .before .before .before) in omega (arith, u .row, u .inside, u .long, u .few)
+mul-c c =
+    let t = c .before .before in
+    let u = up (t .before) in omega (arith, u .row, u .inside, u .long, u .few)
 
 shared-slice-copy-out-c : tie.Need-shared-slice-copy-out-c
-shared-slice-copy-out-c c = let u = up (c .before .before .before) in omega (arith, u .row, u .inside, u .long, u .few)
+shared-slice-copy-out-c c =
+    let t = c .before .before in
+    let u = up (t .before) in omega (arith, u .row, u .inside, u .long, u .few)
 
 mean3-requires : tie.Need-mean3-requires
 mean3-requires c κs =
-    let st = c .before .before .before .before .before in
-    let n = near (c .before .before .before) in
+    let st = else3 c .before .before in
+    let n = near (else3 c) in
     let r = st .pre .0 in
     rw (n .ra, n .rb, n .rc)
     (omega (arith, r .bound _ (n .la)), (omega (arith, r .bound _ (n .lb)), omega (arith, r .bound _ (n .lc))))
 
 returns-4 : tie.Need-returns-4
 returns-4 c =
-    let st = c .before .before .before .before .before .before in
+    let st = else3 (c .before) .before .before in
     let a = st .args in
-    let n = near (c .before .before .before .before) in
+    let n = near (else3 (c .before)) in
     is-predict (a .work .now) (a .base) (a .w) (a .y) (a .x) (st .pre .0) _
     (toZ-ofZ (sfits-of (c .mean3 .ok)) ∙ rw (n .ra, n .rb, n .rc) at (c .mean3 .ensures)
-    ∙ predict-mean (a .work .now) (a .base) (a .w) (a .y) (a .x) (c .before .before .before .before .before .if1 .left) (c .before .before .before .before .if3 .left))
+    ∙ predict-mean (a .work .now) (a .base) (a .w) (a .y) (a .x) (else3 (c .before) .before .if1 .left) (else3 (c .before) .if3 .left))
 
 pub dc-predict-spec : {M : Type 1} → statement M
 dc-predict-spec =

@@ -32,8 +32,9 @@ add-len-requires c κs = search needs
 
 returns : tie.Need-returns
 returns c =
-    let a = c .before .before .before .args in
-    let d = c .before .before .coefficient in
+    let t = c .before .before in
+    let a = t .before .args in
+    let d = t .coefficient in
     let z = forwardBy (a .s .factor) (planeFrom (a .work .now) (a .coefs) (a .s .width) (a .y) (a .x)) in
     tallied-len (a .t) z _ _
     (c .before .forward-len-by .ensures ∙ ap (λ (x : ℤ). length (codeS (forwardBy (a .s .factor) x))) (toZ-ofZ {w = w64} (sfits-of (d .ok)) ∙ d .ensures .0))

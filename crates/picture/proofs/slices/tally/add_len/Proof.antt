@@ -14,10 +14,10 @@ add-count : tie.Need-add-count
 add-count c = search needs
 
 returns : tie.Need-returns
-returns c = tallied-yes (c .before .before .before .args .t) (c .before .before .before .args .n) (c .if1 .taken)
+returns c = let t = c .before .before in tallied-yes (t .before .args .t) (t .before .args .n) (c .if1 .taken)
 
 returns-2 : tie.Need-returns-2
-returns-2 c = tallied-no (c .before .before .before .args .t) (c .before .before .before .args .n) (ne-eqb (c .before .before .before .args .n) 1 (c .if1 .left))
+returns-2 c = let t = c .before .before in tallied-no (t .before .args .t) (t .before .args .n) (ne-eqb (t .before .args .n) 1 (c .if1 .left))
 
 pub add-len-spec : {M : Type 1} → statement M
 add-len-spec = tie.close (tie.spec add-bits add-count returns returns-2)

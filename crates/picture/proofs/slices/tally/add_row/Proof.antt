@@ -24,9 +24,10 @@ loop-holds c =
 
 add-place-requires : tie.Need-add-place-requires Inv-loop μ-loop
 add-place-requires c κs =
-    let st = c .before .before .before in
+    let t = c .before .before in
+    let st = t .before in
     let a = st .args in
-    let l = c .before .before .loop in
+    let l = t .loop in
     let h = st .pre in
     let F = places (a .work .now) (a .s) (a .y) (a .s .left) in
     let k : ℕ = l .x - a .s .left in
@@ -43,16 +44,18 @@ loop-less c = omega arith
 
 loop-again : tie.Need-loop-again Inv-loop μ-loop
 loop-again c =
-    let a = c .before .before .before .before .args in
-    let l = c .before .before .before .loop in
+    let t = c .before .before in
+    let a = t .before .before .args in
+    let l = t .before .loop in
     let F = places (a .work .now) (a .s) (a .y) (a .s .left) in
     let e : a .s .left + (l .x - a .s .left) ≡ l .x = omega (arith, l .inv .0) in
     (omega (arith, l .inv .0), (omega (arith, c .before .if1 .taken), added-turn tally1 F (a .t) (l .r) _ (a .s .left) (l .x) (l .inv .0) (l .inv .1 .1) (rw e (c .add-place .ensures))))
 
 returns : tie.Need-returns Inv-loop μ-loop
 returns c =
-    let a = c .before .before .before .args in
-    let l = c .before .before .loop in
+    let t = c .before .before in
+    let a = t .before .args in
+    let l = t .loop in
     let e : l .x ≡ a .s .right = omega (arith, l .inv .1 .0, c .if1 .left) in
     let F = places (a .work .now) (a .s) (a .y) (a .s .left) in
     added-all tally1 F (a .t) (l .r) _ (a .s .left) (l .x) (a .s .right) e (l .inv .1 .1) (row-chunks (a .work .now) (a .s) (a .y) (a .s .left) (a .s .right - a .s .left))

@@ -10,6 +10,13 @@ use Rattle.picture.proofs.high.size.needs_of.Reads as needs-of-reads
 use Rattle.picture.proofs.high.size.slice_size.Reads as slice-size-reads
 use Rattle.picture.proofs.high.choice.words_of.Reads as words-of-reads
 
+-- earlier states
+abbrev begin : tie.After-needs-of → tie.Start
+begin c = let t = c .before .before in t .before .before
+
+abbrev after-slice-size : tie.After-words-of → tie.After-slice-size
+after-slice-size c = let t = c .before .before in t .before
+
 needs-of-requires : tie.Need-needs-of-requires
 needs-of-requires c κs = search needs
 
@@ -30,9 +37,9 @@ add-t13 c = search needs
 
 returns : tie.Need-returns
 returns c =
-    let a = c .before .before .before .before .before .before .before .before .before .args in
-    let n = c .before .before .before .before .before .needs-of in
-    let z = c .before .before .before .before .slice-size in
+    let a = begin (after-slice-size (c .before) .before) .args in
+    let n = after-slice-size (c .before) .before .needs-of in
+    let z = after-slice-size (c .before) .slice-size in
     let l = c .before .before .largest in
     planned-is (a .t) (a .c) (a .self) (n .result) (z .result) (l .result) (c .before .words-of .result) (n .ensures .0) (z .ensures .0) (z .ensures .1) (l .ensures) (c .before .words-of .ensures .0)
 

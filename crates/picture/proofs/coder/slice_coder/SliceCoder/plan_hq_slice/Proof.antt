@@ -20,6 +20,13 @@ use Rattle.picture.proofs.high.choice.choice_of.Reads as choice-of-read
 use Rattle.picture.proofs.high.notes.note_choice.Reads as note-choice-reads
 use Rattle.picture.proofs.coder.slice_coder.SliceCoder.plan_choice.Reads as plan-choice-reads
 
+-- earlier states
+abbrev after-choice-of : tie.After-struct-known → tie.After-choice-of
+after-choice-of c = let t = c .before .before in t .before
+
+abbrev after-choice-of′ : tie.After-note-choice → tie.After-choice-of
+after-choice-of′ c = let t = c .before .before in t .before .before
+
 -- the choice has few bits
 few : (c : tie.After-choice-of) → FewBits (c .choice-of .result)
 few c =
@@ -37,24 +44,24 @@ add-note-choice : tie.Need-add-note-choice
 add-note-choice c = search needs
 
 note-choice-requires : tie.Need-note-choice-requires
-note-choice-requires c κs = let st = c .before .before .before .before .before in (omega (arith, st .pre .0 .small .few, st .pre .0 .arranged .slices, st .pre .1 .0), few (c .before .before .before))
+note-choice-requires c κs = let st = after-choice-of c .before .before in (omega (arith, st .pre .0 .small .few, st .pre .0 .arranged .slices, st .pre .1 .0), few (after-choice-of c))
 
 plan-choice-requires : tie.Need-plan-choice-requires
 plan-choice-requires c κs =
-    let st = c .before .before .before .before .before .before .before in
-    (st .pre .0 .terms, (few (c .before .before .before .before .before), (st .pre .1 .1 .0, omega (arith, st .pre .1 .1 .1, st .pre .0 .small .few, st .pre .0 .small .order))))
+    let st = after-choice-of′ (c .before) .before .before in
+    (st .pre .0 .terms, (few (after-choice-of′ (c .before)), (st .pre .1 .1 .0, omega (arith, st .pre .1 .1 .1, st .pre .0 .small .few, st .pre .0 .small .order))))
 
 same-length : tie.Need-same-length
 same-length c = search needs
 
 returns : tie.Need-returns
 returns c =
-    let st = c .before .before .before .before .before .before .before .before in
+    let st = after-choice-of′ (c .before .before) .before .before in
     let a = st .args in
-    let q = c .before .before .before .before .before .before .choice-of in
+    let q = after-choice-of′ (c .before .before) .choice-of in
     let n = c .before .before .note-choice in
     let r = c .plan-choice in (
-      slice-planned (a .work .now) (a .p) (a .t) (a .k) (q .result) (a .self) (r .result) (st .pre .0 .terms .scaler .0) (few (c .before .before .before .before .before .before)) (q .ensures .0) (r .ensures .0) (r .ensures .1),
+      slice-planned (a .work .now) (a .p) (a .t) (a .k) (q .result) (a .self) (r .result) (st .pre .0 .terms .scaler .0) (few (after-choice-of′ (c .before .before))) (q .ensures .0) (r .ensures .0) (r .ensures .1),
       (
         n .ensures ∙ ap₂ (λ (v : List ℤ) (c : Choice). noteIn v (a .p .end + 7 * a .k) c) (q .ensures .1 .0) (q .ensures .0),
         subst (Small (a .p .front) (a .p .end)) (sym (n .ensures)) (note-small (a .p .end + 7 * a .k) (q .result) (omega arith) (q .ensures .1 .1)),

@@ -24,7 +24,8 @@ noted-choice-requires c κs = search needs
 
 plan-choice-requires : tie.Need-plan-choice-requires
 plan-choice-requires c κs =
-    let st = c .before .before .before in
+    let t = c .before .before in
+    let st = t .before in
     let a = st .args in (
       st .pre .0 .terms,
       (
@@ -41,11 +42,12 @@ same-length c = search needs
 
 returns : tie.Need-returns
 returns c =
-    let st = c .before .before .before .before in
+    let t = c .before .before in
+    let st = t .before .before in
     let a = st .args in
-    let q = c .before .before .noted-choice in
+    let q = t .noted-choice in
     let r = c .plan-choice in
-    (slice-planned (a .work .now) (a .p) (a .t) (a .k) (q .result) (a .self) (r .result) (st .pre .0 .terms .scaler .0) (few (c .before .before)) (q .ensures .0) (r .ensures .0) (r .ensures .1), q .ensures .1)
+    (slice-planned (a .work .now) (a .p) (a .t) (a .k) (q .result) (a .self) (r .result) (st .pre .0 .terms .scaler .0) (few (t)) (q .ensures .0) (r .ensures .0) (r .ensures .1), q .ensures .1)
 
 pub plan-noted-slice-spec : {M : Type 1} → statement M
 plan-noted-slice-spec =
