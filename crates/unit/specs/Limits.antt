@@ -1,13 +1,10 @@
 -- The limits of a call: document 01, "Answers that turn a call away"; document 02, (iii). That of the two depths, by
--- the wavelets, is `depthLimit`.
+-- the wavelets, is `depthLimit`, and that of wavelet indices `lastWavelet`.
 use Prim.Native.Nat.{ℕ}
 use Rattle.unit.specs.declared.PictureKind.{PictureKind}
 use Rattle.unit.specs.declared.PictureKind.the-variants.{LowDelay, HighQuality}
 pub use Rattle.wavelet.specs.Depth.{depthLimit, deepest}
-
--- the last wavelet index: rule 1
-abbrev pub lastWavelet : ℕ
-lastWavelet = 6
+pub use Rattle.wavelet.specs.Filters.{lastWavelet}
 
 -- slices across and down, the scaler, the frame's sides and the excursions are from 1 to this: rules 3, 4 and 8
 abbrev pub sideLimit : ℕ

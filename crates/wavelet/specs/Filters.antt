@@ -99,7 +99,11 @@ daub97 = record {
 abbrev pub filters : List Filter
 filters = dd97 ∷ legall ∷ dd137 ∷ haar0 ∷ haar1 ∷ fidelity ∷ daub97 ∷ []
 
--- the filter of a wavelet index from 0 to 6
+-- the last wavelet index: document 01, refusal 1
+abbrev pub lastWavelet : ℕ
+lastWavelet = 6
+
+-- the filter of a wavelet index up to it
 abbrev pub filterOf : ℕ → Filter
 filterOf i = getD filters i haar0
 

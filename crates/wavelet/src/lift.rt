@@ -9,6 +9,7 @@ ghost use Rattle.wavelet.specs.Lifting.{within, place, change, lifted};
 ghost use Rattle.wavelet.specs.Filters.{filterOf, analysisBy};
 ghost use Rattle.wavelet.specs.Code.Table.{stageOf, Legal, Staged};
 ghost use Rattle.wavelet.specs.Code.Run.{tapsTo, ran, Placed, Moves, TapsIn, TapIn, RunIn, twoTaps, twoPlaces};
+ghost use Rattle.wavelet.specs.RowCall.{rowLimit};
 use crate::arith;
 
 // A stage: to is 0 where it goes to the even places and 1 where it goes to the odd ones; the standard's D is ahead less
@@ -199,7 +200,7 @@ fn within(to: usize, len: usize, c: usize) -> usize
 
 // The place that tap k reads for update n of a row of len.
 fn place(s: LiftStage, len: usize, n: usize, k: usize) -> usize
-    requires { ⌜ Legal s × ((len ≤ 65536) × ((n < len / 2) × (k < 8))) ⌝ }
+    requires { ⌜ Legal s × ((len ≤ rowLimit) × ((n < len / 2) × (k < 8))) ⌝ }
     ensures { λ r. ⌜ (r ≡ place (stageOf s) len n k) × (r < len) ⌝ }
 {
     let c = arith::monus(n + k + s.ahead, s.back);
@@ -208,7 +209,7 @@ fn place(s: LiftStage, len: usize, n: usize, k: usize) -> usize
 
 // The places that the taps read for update n, each times w.
 pub(crate) fn places(s: LiftStage, len: usize, n: usize, w: usize) -> [usize; 8]
-    requires { ⌜ Legal s × ((len ≤ 65536) × ((n < len / 2) × (w ≤ 65536))) ⌝ }
+    requires { ⌜ Legal s × ((len ≤ rowLimit) × ((n < len / 2) × (w ≤ rowLimit))) ⌝ }
     ensures { λ r. ⌜ Placed (stageOf s) len n w r ⌝ }
 {
     let mut o = [0usize; 8];
@@ -224,7 +225,7 @@ pub(crate) fn places(s: LiftStage, len: usize, n: usize, w: usize) -> [usize; 8]
 // How many updates from n on read places that move on by 2 with each: in the middle of a row, where no place is
 // clamped, all up to its end.
 fn run_length(s: LiftStage, len: usize, n: usize) -> usize
-    requires { ⌜ Legal s × ((len ≤ 65536) × (n < len / 2)) ⌝ }
+    requires { ⌜ Legal s × ((len ≤ rowLimit) × (n < len / 2)) ⌝ }
     ensures { λ r. ⌜ Moves (stageOf s) len n r ⌝ }
 {
     if n + s.ahead <= s.back {
@@ -405,7 +406,7 @@ pub(crate) fn run(
 
 // One lifting stage of a row; plus says whether the deltas are added.
 fn lift(a: &mut [i64], s: LiftStage, plus: bool)
-    requires { ⌜ Legal s × (length (now a) ≤ 65536) ⌝ }
+    requires { ⌜ Legal s × (length (now a) ≤ rowLimit) ⌝ }
     ensures { λ _. ⌜ now (a .exit) ≡ lifted wrap (stageOf s) plus (length (now (a .entry)) / 2) (now (a .entry)) ⌝ }
 {
     let len = a.len();
@@ -430,7 +431,7 @@ pub(crate) fn stage_count(index: usize) -> usize
 
 // The analysis of a row: every stage undone, the last one first.
 pub(crate) fn analyse(row: &mut [i64], index: usize)
-    requires { ⌜ (index ≤ 6) × (length (now row) ≤ 65536) ⌝ }
+    requires { ⌜ (index ≤ 6) × (length (now row) ≤ rowLimit) ⌝ }
     ensures { λ _. ⌜ now (row .exit) ≡ analysisBy wrap index (now (row .entry)) ⌝ }
 {
     let mut k = stage_count(index);

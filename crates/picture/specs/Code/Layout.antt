@@ -17,6 +17,8 @@ use Rattle.picture.specs.declared.slices.layout.Component.{Component}
 use Rattle.picture.specs.declared.slices.layout.Layout.{Layout}
 use Rattle.picture.specs.declared.slices.layout.Window.{Window}
 use Rattle.picture.specs.Code.Strip.{Small, Bounds, stripNumbers}
+use Rattle.wavelet.specs.RowCall.{rowLimit}
+use Rattle.quantiser.specs.Code.Default.{matrixPlaces}
 
 -- the level of the n-th subband: 0, the horizontal-only levels, then three to a level
 unfoldable pub levelOf : ℕ → ℕ → ℕ
@@ -92,12 +94,12 @@ pub record LayoutIn (l : Layout) : Type 0 where
   pub across : (1 ≤ l .across) × (l .across ≤ sideLimit)
   pub down : (1 ≤ l .down) × (l .down ≤ sideLimit)
   -- as many as the largest matrix has, 1 + 3 * deepest
-  pub values : length (l .values) ≡ 25
+  pub values : length (l .values) ≡ matrixPlaces
 
 -- a component whose sides and places are small
 pub record ComponentIn (c : Component) : Type 0 where
-  pub width : c .width ≤ 65536
-  pub height : c .height ≤ 65536
+  pub width : c .width ≤ rowLimit
+  pub height : c .height ≤ rowLimit
   pub coefs : c .coefs < 2 ^ 30
   pub rebuilt : c .rebuilt < 2 ^ 30
 

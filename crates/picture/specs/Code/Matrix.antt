@@ -5,7 +5,7 @@ use mathlib.Core.List.{List}
 use mathlib.Core.Option.{Option, none, some}
 use Prim.Native.Nat.{ℕ, _≤_}
 use lib.ListN.{length, take}
-use Rattle.quantiser.specs.Code.Default.{places}
+use Rattle.quantiser.specs.Code.Default.{matrixPlaces, places}
 use Rattle.unit.specs.declared.Settings.{Settings}
 use Rattle.unit.specs.Matrix.{defaultOf, matrixValues, carriedMatrix}
 use Rattle.unit.specs.Code.Valid.{MatrixFits}
@@ -19,14 +19,14 @@ lentIn c = take (c .count) (c .values)
 unfoldable pub carriedIn : Carried → Option (List ℕ)
 carriedIn c = elim (c .carried) [ true ↦ some (lentIn c) | false ↦ none ]
 
--- there are 25 places, and no more values are carried
+-- no more values are carried than there are places
 abbrev pub InPlaces : Carried → Type 0
-InPlaces c = (c .count ≤ 25) × (25 ≤ length (c .values))
+InPlaces c = (c .count ≤ matrixPlaces) × (matrixPlaces ≤ length (c .values))
 
 -- c is the matrix of a call with settings s
 pub record Carries (s : Settings) (c : Carried) : Type 0 where
   pub carried : c .carried ≡ s .«custom_matrix»
-  pub few : c .count ≤ 25
+  pub few : c .count ≤ matrixPlaces
   pub values : c .values ≡ places (matrixValues s (lentIn c))
 
 -- c is the matrix of a call with settings s and lent matrix m

@@ -16,7 +16,7 @@ use Rattle.laws.specs.Code.Chunks.{chunks}
 use Rattle.laws.specs.Code.Laid.{Lays}
 use Rattle.laws.specs.Laws.Laid.{laid-is}
 use Rattle.codewords.specs.Bytes.{toBytes}
-use Rattle.quantiser.specs.Code.Default.{places}
+use Rattle.quantiser.specs.Code.Default.{matrixPlaces, places}
 use Rattle.wavelet.specs.Lifting.{exact}
 use Rattle.wavelet.specs.Pad.{padded}
 use Rattle.unit.specs.declared.Settings.{Settings}
@@ -77,17 +77,17 @@ module _ {s : Settings} {m : List ℕ} (c : Called s m) where
       values-by s m (subbandCount (s .«dwt_depth_ho») (s .«dwt_depth»)) (s .«custom_matrix») (defaultOf s) refl (c .matrix)
       (default-matrix (s .«dwt_depth») (s .«dwt_depth_ho») (s .«wavelet_index») (s .«wavelet_index_ho»))
 
-  places-many : length (places (matrixValues s m)) ≡ 25
+  places-many : length (places (matrixValues s m)) ≡ matrixPlaces
   places-many =
       let vs = matrixValues s m in
-      let n : ℕ = 25 - length vs in
+      let n : ℕ = matrixPlaces - length vs in
       omega (arith, length-append vs (replicate n 0), length-replicate {A = ℕ} n 0, values-many, levels-few s (c .shape))
 
   pub values-are : (n : ℕ) → n < bandCount (layoutOf s m) → getD (layoutOf s m .values) n 0 ≡ getD (matrixValues s m) n 0
   unfolding layoutOf
   values-are n h =
       let vs = matrixValues s m in
-      List·getD-append vs (replicate (25 - length vs) 0) 0 n (omega (arith, values-many))
+      List·getD-append vs (replicate (matrixPlaces - length vs) 0) 0 n (omega (arith, values-many))
 
   -- ---- the picture
   pub front-few : frontOf s + frontOf s < 2 ^ 30

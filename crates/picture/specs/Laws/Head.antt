@@ -30,6 +30,7 @@ use Rattle.unit.specs.Unit.{versionBy, majorVersion, parametersBy, targetOf, nu
 use Rattle.picture.specs.declared.front.matrix.Carried.{Carried}
 use Rattle.picture.specs.Code.Matrix.{lentIn, carriedIn, InPlaces, Carries}
 use Rattle.picture.specs.Code.Head.{extensionOf, shapeBits, infoOf, numeratorAfter}
+use Rattle.quantiser.specs.Code.Default.{matrixPlaces}
 
 -- ---- the major version, by its three flags
 version-three : (a b c : Bool) (k : PictureKind) → (a ≡ true) ⊎ ((b ≡ true) ⊎ (c ≡ true)) → 3 ≡ versionBy (a || (b || c)) k
@@ -120,7 +121,7 @@ carried-is h = rw (h .carried)
 pub carries-places : {s : Settings} {c : Carried} → Carries s c → InPlaces c
 carries-places {s} {c} h =
     let vs = matrixValues s (lentIn c) in
-    let n : ℕ = 25 - length vs in
+    let n : ℕ = matrixPlaces - length vs in
     (h .few, omega (arith, ap length (h .values), length-append vs (replicate n 0), length-replicate {A = ℕ} n 0))
 
 pub matrix-pos : (c : Option (List ℕ)) → 1 ≤ length (matrixBits c)

@@ -1,4 +1,4 @@
--- Laws of intlog2 as a loop finds it, of padded sides and areas, and of a call's matrix in 25 places.
+-- Laws of intlog2 as a loop finds it, of padded sides and areas, and of a call's matrix in its places.
 use mathlib.Core.Path.{_≡_, refl, sym, ap, _∙_, subst}
 use mathlib.Core.Bool.{Bool, true, false, not}
 use mathlib.Core.List.{List, []}
@@ -13,7 +13,7 @@ use lib.Pow.{pow-mono}
 use lib.Seq.{paste, paste-suc, take-all, take-at}
 use Rattle.quantiser.specs.AnnexD.{defaultMatrix}
 use Rattle.quantiser.specs.Code.Default as default
-use Rattle.quantiser.specs.Code.Default.{places, handed}
+use Rattle.quantiser.specs.Code.Default.{matrixPlaces, places, handed}
 use Rattle.wavelet.specs.Depth.{deepest}
 use Rattle.unit.specs.declared.Settings.{Settings}
 use Rattle.unit.specs.Sizes.{Size, lumaSize, colourSize, intlog2}
@@ -27,6 +27,7 @@ use Rattle.unit.specs.Laws.Padded.{wide-few, high-few}
 use Rattle.unit.specs.Laws.Valid.{levels-few, luma-fits, colour-fits}
 use Rattle.picture.specs.Code.Sides.{Measured, Within}
 use Rattle.picture.specs.Code.Matrix.{CarriedOf}
+use Rattle.wavelet.specs.RowCall.{rowLimit}
 
 -- ---- intlog2
 pub log-more : (n m : ℕ) → 2 ^ m < n → m < intlog2 n
@@ -60,19 +61,19 @@ padded-area-few s z m w =
     let k = s .«dwt_depth_ho» in
     let d = s .«dwt_depth» in
     let l : k + d ≤ deepest = omega (arith, levels-few s (m .shape)) in
-    let h : paddedArea s z ≤ 65536 * 65536 =
-    mul-le-mul {n₁ = paddedSize k d z .width} {m₁ = paddedSize k d z .height} {n₂ = 65536} {m₂ = 65536}
+    let h : paddedArea s z ≤ rowLimit * rowLimit =
+    mul-le-mul {n₁ = paddedSize k d z .width} {m₁ = paddedSize k d z .height} {n₂ = rowLimit} {m₂ = rowLimit}
     (wide-few k d z l (omega (arith, m .frame .width .few, w .width))) (high-few k d z l (omega (arith, m .frame .height .few, w .height))) in
     omega arith
 
 -- ---- the places, the first i of them filled
 abbrev pub filledTo : List ℕ → ℕ → List ℕ
-filledTo vs i = paste (replicate 25 0) 0 vs i
+filledTo vs i = paste (replicate matrixPlaces 0) 0 vs i
 
-pub filled-next : (vs xs : List ℕ) (i : ℕ) → length vs ≤ 25 → i < length vs → xs ≡ filledTo vs i → set xs i (getD vs i 0) ≡ filledTo vs (i + 1)
+pub filled-next : (vs xs : List ℕ) (i : ℕ) → length vs ≤ matrixPlaces → i < length vs → xs ≡ filledTo vs i → set xs i (getD vs i 0) ≡ filledTo vs (i + 1)
 filled-next vs xs i l h p =
-    let m : 0 + i < 25 = omega arith in
-    rw (p, add-one i, ← paste-suc (replicate 25 0) 0 vs i 0 m h, zero-add i)
+    let m : 0 + i < matrixPlaces = omega arith in
+    rw (p, add-one i, ← paste-suc (replicate matrixPlaces 0) 0 vs i 0 m h, zero-add i)
 
 drop-zeros : (n i : ℕ) → drop {A = ℕ} i (replicate n 0) ≡ replicate (n - i) 0
 drop-zeros n zero = let e : n - 0 ≡ n = omega arith in rw e
@@ -82,14 +83,14 @@ drop-zeros (suc n) (suc i) = let e : suc n - suc i ≡ n - i = omega arith in rw
 pub filled-places : (vs xs : List ℕ) (i : ℕ) → i ≡ length vs → xs ≡ filledTo vs i → xs ≡ places vs
 filled-places vs xs i e p =
     let z : 0 + i ≡ length vs = omega arith in
-    p ∙ rw (z, e, drop-zeros 25 (length vs), take-all (length vs) vs (omega arith))
+    p ∙ rw (z, e, drop-zeros matrixPlaces (length vs), take-all (length vs) vs (omega arith))
 
 -- ---- the lent matrix
 module _ (s : Settings) (m : List ℕ) where
-  pub custom-few : s .«custom_matrix» ≡ true → s .«dwt_depth» + s .«dwt_depth_ho» ≤ deepest → MatrixFits s m (s .«custom_matrix») (defaultOf s) → length m ≤ 25
+  pub custom-few : s .«custom_matrix» ≡ true → s .«dwt_depth» + s .«dwt_depth_ho» ≤ deepest → MatrixFits s m (s .«custom_matrix») (defaultOf s) → length m ≤ matrixPlaces
   custom-few e d f = by (s .«custom_matrix») e f
     where
-      by : (b : Bool) → b ≡ true → MatrixFits s m b (defaultOf s) → length m ≤ 25
+      by : (b : Bool) → b ≡ true → MatrixFits s m b (defaultOf s) → length m ≤ matrixPlaces
       by true p g = omega (arith, g .0)
       by false p g = no-truth (sym p)
 
@@ -108,10 +109,10 @@ fits-default s m n false none e f = f
 fits-default s m n false (some vs) e f = tt
 
 module _ (s : Settings) (m xs : List ℕ) where
-  pub custom-carried : s .«custom_matrix» ≡ true → length m ≤ 25 → MatrixFits s m (s .«custom_matrix») (defaultOf s) → xs ≡ places m
+  pub custom-carried : s .«custom_matrix» ≡ true → length m ≤ matrixPlaces → MatrixFits s m (s .«custom_matrix») (defaultOf s) → xs ≡ places m
       → CarriedOf s m (record { values = xs; count = length m; carried = true })
   custom-carried e l f p =
-      let t : take (length m) xs ≡ m = rw p (take-at m (replicate (25 - length m) 0) (length m) refl) in
+      let t : take (length m) xs ≡ m = rw p (take-at m (replicate (matrixPlaces - length m) 0) (length m) refl) in
       record {
         carries = record { carried = sym e; few = l; values = p ∙ sym (ap places (ap (matrixValues s) t ∙ custom-values s m e)) };
         matrix = ap (carriedMatrix s) t;

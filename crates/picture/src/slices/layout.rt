@@ -13,6 +13,8 @@ ghost use Rattle.unit.specs.Slices.{bound};
 ghost use Rattle.picture.specs.Code.Sides.{sizeIn};
 ghost use Rattle.picture.specs.Code.Layout.{levelOf, bandSize, windowOf, stripOf, LayoutIn, WindowIn, StripIn};
 ghost use Rattle.picture.specs.Code.Picture.{slicesIn, Arranged};
+ghost use Rattle.wavelet.specs.RowCall.{rowLimit};
+ghost use Rattle.quantiser.specs.Code.Default.{matrixPlaces};
 
 // A component: where its coefficients begin, where its rebuilt level-0 plane begins, and its padded sides.
 pub(crate) struct Component {
@@ -55,7 +57,7 @@ pub(crate) struct Picture {
 
 // The level of the n-th subband.
 fn level_of(depth_ho: u32, n: u32) -> u32
-    requires { ⌜ («depth_ho» ≤ deepest) × (n < 25) ⌝ }
+    requires { ⌜ («depth_ho» ≤ deepest) × (n < matrixPlaces) ⌝ }
     ensures { λ r. ⌜ r ≡ levelOf «depth_ho» n ⌝ }
 {
     if n <= depth_ho {
@@ -103,7 +105,7 @@ fn band_size(l: Layout, c: Component, n: u32) -> Sides
 
 // Where part i of a side w cut into n parts begins.
 fn bound(n: u32, w: u32, i: u32) -> usize
-    requires { ⌜ (1 ≤ n) × ((w ≤ 65536) × (i ≤ 65536)) ⌝ }
+    requires { ⌜ (1 ≤ n) × ((w ≤ rowLimit) × (i ≤ rowLimit)) ⌝ }
     ensures { λ r. ⌜ r ≡ bound n w i ⌝ }
 {
     w as usize * i as usize / n as usize

@@ -7,9 +7,13 @@ use lib.ListN.{length, replicate}
 use Rattle.quantiser.specs.declared.annex_d.DefaultMatrix.{DefaultMatrix}
 use Rattle.quantiser.specs.AnnexD.{defaultMatrix}
 
--- 25 places: the values, and zeros after them
+-- the places for a matrix: as many as the largest one has, whose two depths sum to 8, 1 + 3 * 8
+abbrev pub matrixPlaces : ℕ
+matrixPlaces = 25
+
+-- a matrix in its places: the values, and zeros after them
 abbrev pub places : List ℕ → List ℕ
-places vs = vs ++ replicate (25 - length vs) 0
+places vs = vs ++ replicate (matrixPlaces - length vs) 0
 
 abbrev pub handed : Option (List ℕ) → DefaultMatrix
 handed none = record { found = false; values = places [] }

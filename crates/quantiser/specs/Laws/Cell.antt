@@ -14,7 +14,7 @@ use borrow.Author.Tests.{lt-ltb, le-ltb, eq-eqb, ne-eqb}
 use Rattle.laws.specs.Rows.{span, total}
 use Rattle.laws.specs.Laws.Rows.{table}
 use Rattle.quantiser.specs.AnnexD.{Table, tables, tableD8, andThen, tableOf, defaultMatrix}
-use Rattle.quantiser.specs.Code.Default.{places, handed, defaultOf}
+use Rattle.quantiser.specs.Code.Default.{matrixPlaces, places, handed, defaultOf}
 use Rattle.quantiser.specs.Code.Cells.{allTables, shape, startOf, cellOf, tableAt, matrixAt}
 
 -- ---- lists
@@ -190,17 +190,17 @@ module _ (t : ℕ) (ht : t < 8) where
       row : getD (map tails allTables) t (tails []) ≡ replicate 19 (replicate 11 0)
       row = ap (λ (l : List (List (List ℕ))). getD l t (tails [])) all-tails ∙ getD-replicate 8 t _ _ ht
 
--- ---- a matrix of 14 places in 25, filled from the front
+-- ---- a matrix of 14 values in its places, filled from the front
 abbrev pub filled : List ℕ → ℕ → List ℕ
-filled vs i = paste (replicate 25 0) 0 (places vs) i
+filled vs i = paste (replicate matrixPlaces 0) 0 (places vs) i
 
 module _ (t c : ℕ) (ht : t < 8) (hc : c < 19) where
   pub filled-turn : (xs : List ℕ) (i v : ℕ) → i < 14 → xs ≡ filled (matrixAt t c) i → v ≡ getD (matrixAt t c) i 0 → set xs i v ≡ filled (matrixAt t c) (i + 1)
   filled-turn xs i v h p q =
       let vs = matrixAt t c in
       let l : i < length (places vs) = omega (arith, length-drop 14 (places vs), ap length (tail-at t ht c hc)) in
-      let m : 0 + i < 25 = omega arith in
-      rw (p, q, ← getD-behind vs (25 - length vs) i, add-one, ← paste-suc (replicate 25 0) 0 (places vs) i 0 m l, zero-add i)
+      let m : 0 + i < matrixPlaces = omega arith in
+      rw (p, q, ← getD-behind vs (matrixPlaces - length vs) i, add-one, ← paste-suc (replicate matrixPlaces 0) 0 (places vs) i 0 m l, zero-add i)
 
   pub filled-all : (xs : List ℕ) (i : ℕ) → i ≡ 14 → xs ≡ filled (matrixAt t c) i → xs ≡ places (matrixAt t c)
   filled-all xs i e p =

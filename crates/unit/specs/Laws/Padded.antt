@@ -12,6 +12,7 @@ use Rattle.unit.specs.Limits.{sideLimit}
 use Rattle.unit.specs.Sizes.{Size, area}
 use Rattle.unit.specs.Subbands.{paddedSize}
 use Rattle.unit.specs.Laws.Slice.{div-rises}
+use Rattle.wavelet.specs.RowCall.{rowLimit}
 
 -- r is n rounded up to a multiple of m
 pub record Rounded (m n r : ℕ) : Type 0 where
@@ -28,14 +29,14 @@ rounded m n p =
 pub rounded-mono : (m : ℕ) {a b : ℕ} → a ≤ b → roundedUp m a ≤ roundedUp m b
 rounded-mono m {a} {b} h = let l : a + (m - 1) ≤ b + (m - 1) = omega arith in mul-le-mul-right m (div-rises m l)
 
--- a side of at most 65536 is padded to at most 65536, which every power up to 2 ^ 16 divides
-pub rounded-few : (j n : ℕ) → j ≤ 16 → n ≤ 65536 → roundedUp (2 ^ j) n ≤ 65536
+-- a side of at most rowLimit is padded to at most rowLimit, which every power up to 2 ^ 16 divides
+pub rounded-few : (j n : ℕ) → j ≤ 16 → n ≤ rowLimit → roundedUp (2 ^ j) n ≤ rowLimit
 rounded-few j n h l =
     let m : ℕ = 2 ^ j in
     let q : ℕ = 2 ^ (16 - j) in
     let x : ℕ = n + (m - 1) in
     let g : 16 - j + j ≡ 16 = omega arith in
-    let e : q * m ≡ 65536 = sym (pow-add 2 (16 - j) j) ∙ ap (λ (i : ℕ). 2 ^ i) g in
+    let e : q * m ≡ rowLimit = sym (pow-add 2 (16 - j) j) ∙ ap (λ (i : ℕ). 2 ^ i) g in
     let b : x / m < suc q = div-lt-iff-lt-mul {k = m} {x = x} {y = suc q} (pow-pos j) .1 (omega (arith, e, suc-mul q m, pow-pos j)) in
     omega (arith, e, mul-le-mul-right {m = x / m} {n = q} m (omega arith))
 
@@ -48,12 +49,12 @@ pub padded-high : (k d : ℕ) (z : Size) → Rounded (2 ^ d) (z .height) (padded
 unfolding paddedSize
 padded-high k d z = rounded (2 ^ d) (z .height) (pow-pos d)
 
--- sides of at most 65535 are padded to at most 65536
-pub wide-few : (k d : ℕ) (z : Size) → k + d ≤ deepest → z .width ≤ sideLimit → paddedSize k d z .width ≤ 65536
+-- sides of at most sideLimit are padded to at most rowLimit
+pub wide-few : (k d : ℕ) (z : Size) → k + d ≤ deepest → z .width ≤ sideLimit → paddedSize k d z .width ≤ rowLimit
 unfolding paddedSize
 wide-few k d z h l = rounded-few (k + d) (z .width) (omega arith) (omega arith)
 
-pub high-few : (k d : ℕ) (z : Size) → k + d ≤ deepest → z .height ≤ sideLimit → paddedSize k d z .height ≤ 65536
+pub high-few : (k d : ℕ) (z : Size) → k + d ≤ deepest → z .height ≤ sideLimit → paddedSize k d z .height ≤ rowLimit
 unfolding paddedSize
 high-few k d z h l = rounded-few d (z .height) (omega arith) (omega arith)
 

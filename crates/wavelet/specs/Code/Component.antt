@@ -7,13 +7,14 @@ use Rattle.wavelet.specs.Code.Level.{Place}
 use Rattle.wavelet.specs.Code.Walk.{Deep}
 use Rattle.wavelet.specs.declared.component.Component as Sides
 use Rattle.wavelet.specs.declared.component.Transform as Levels
+use Rattle.wavelet.specs.RowCall.{rowLimit}
 
 -- what the rows of a component ask: samples, and room for its padded plane
 pub record SamplesIn (s : List ℕ) (w h pw ph : ℕ) (l : List ℤ) : Type 0 where
   pub some : (1 ≤ w) × (1 ≤ h)
   pub whole : h * w ≤ length s
   pub room : ph * pw ≤ length l
-  pub short : pw ≤ 65536
+  pub short : pw ≤ rowLimit
 
 -- what a component asks
 pub record ComponentIn (c : Sides.Component) (t : Levels.Transform) (s : List ℕ) (n off : ℕ) (l : List ℤ) : Type 0 where

@@ -8,6 +8,7 @@ use Rattle.laws.specs.Wrap.{wrap}
 use Rattle.laws.specs.Rows.{at, row}
 use Rattle.laws.specs.Plane.{Plane, asList}
 use Rattle.wavelet.specs.Planes.{raise}
+use Rattle.wavelet.specs.RowCall.{rowLimit}
 
 -- ---- what the functions ask and leave
 -- len numbers of l from place `from` on, each `step` places behind the last, with b accuracy bits added
@@ -42,7 +43,7 @@ bandOf l v a w n = asList a (w / 2) (partV v (n / 2) (n % 2) (λ y x. at l (y * 
 pub record BandsIn (l : List ℤ) (to v a w : ℕ) : Type 0 where
   pub kind : (1 ≤ v) × (v ≤ 2)
   pub wide : w % 2 ≡ 0
-  pub a-le : a ≤ 65536
-  pub w-le : w ≤ 65536
+  pub a-le : a ≤ rowLimit
+  pub w-le : w ≤ rowLimit
   pub behind : v * a * w ≤ to
   pub fits : to + v * a * w ≤ length l

@@ -25,6 +25,7 @@ use Rattle.wavelet.specs.Planes.{raise, Padded}
 use Rattle.wavelet.specs.Laws.PlaneLists.{rows-list}
 use Rattle.wavelet.specs.Pad.{centred, padded, paddedSide}
 use Rattle.wavelet.specs.Code.Pad.{paddedRow}
+use Rattle.wavelet.specs.RowCall.{rowLimit}
 
 -- the first k places of a row are there
 pub record Filled (b : ℕ) (s : List ℕ) (o w from : ℕ) (l now : List ℤ) (k : ℕ) : Type 0 where
@@ -98,5 +99,5 @@ centred-is o s ho hs = toZ-ofZ (centred-fits o s ho hs) ∙ ap₂ _-ℤ_ (cast-i
 pub padded-sides : (k d w h : ℕ) → Padded k d (paddedSide d h) (paddedSide (k + d) w)
 padded-sides k d w h = record { high = mul-mod-left ((h + (2 ^ d - 1)) / 2 ^ d) (2 ^ d); wide = mul-mod-left ((w + (2 ^ (k + d) - 1)) / 2 ^ (k + d)) (2 ^ (k + d)) }
 
-pub scale-le : (n : ℕ) → n ≤ 16 → (1 ≤ 2 ^ n) × (2 ^ n ≤ 65536)
+pub scale-le : (n : ℕ) → n ≤ 16 → (1 ≤ 2 ^ n) × (2 ^ n ≤ rowLimit)
 scale-le n h = (pow-pos n, pow-le-pow-right {n = 2} (omega arith) h)

@@ -1,4 +1,5 @@
 -- `lift::places` meets its contract. The loop's invariant: the first k places are there.
+use Rattle.wavelet.specs.RowCall.{rowLimit}
 use mathlib.Core.Path.{_≡_, refl, ap, _∙_}
 use mathlib.Core.List.{List}
 use Prim.Native.Nat.{ℕ, _+_, _*_, _-_, _<_, _≤_}
@@ -40,8 +41,9 @@ place-requires c κs =
 
 mul-o : tie.Need-mul-o Inv-loop μ-loop
 mul-o c =
-    let st = c .before .before .before in
-    let a : c .place .result ≤ 65536 = omega (arith, c .place .ensures .1, st .pre .1 .0) in
+    let t = c .before .before in
+    let st = t .before in
+    let a : c .place .result ≤ rowLimit = omega (arith, c .place .ensures .1, st .pre .1 .0) in
     omega (arith, mul-le-mul a (st .pre .1 .1 .1))
 
 mul-o-2 : tie.Need-mul-o-2 Inv-loop μ-loop
@@ -58,8 +60,9 @@ loop-less c = omega arith
 
 loop-again : tie.Need-loop-again Inv-loop μ-loop
 loop-again c =
-    let a = c .before .before .before .args in
-    let l = c .before .before .loop in
+    let t = c .before .before in
+    let a = t .before .args in
+    let l = t .loop in
     one-more (stageOf (a .s)) (a .len) (a .n) (a .w) (l .o) (l .k) (c .place .result * a .w) (l .inv) (omega arith) (ap (λ (q : ℕ). q * a .w) (c .place .ensures .0))
 
 returns : tie.Need-returns Inv-loop μ-loop

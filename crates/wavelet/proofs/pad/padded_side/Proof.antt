@@ -1,4 +1,5 @@
 -- `pad::padded_side` meets its contract.
+use Rattle.wavelet.specs.RowCall.{rowLimit}
 use mathlib.Core.Path.{_≡_}
 use Prim.Native.Nat.{ℕ, _+_, _*_, _-_, _%_, _^_, _≤_}
 use native.Mathlib.Nat.{div-mul-le-self}
@@ -11,8 +12,8 @@ use Rattle.wavelet.proofs.pad.padded_side.Tie as tie
 record Scale (n s : ℕ) : Type 0 where
   is : 1 * 2 ^ n % 2 ^ 64 ≡ 2 ^ n
   low : 1 ≤ 2 ^ n
-  high : 2 ^ n ≤ 65536
-  side-le : s ≤ 65536
+  high : 2 ^ n ≤ rowLimit
+  side-le : s ≤ rowLimit
 
 scale : (c : tie.Start) → Scale (c .args .depth) (c .args .side)
 scale c =

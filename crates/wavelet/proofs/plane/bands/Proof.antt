@@ -1,4 +1,5 @@
 -- `plane::bands` meets its contract. The loop's invariant: the first n bands are there.
+use Rattle.wavelet.specs.RowCall.{rowLimit}
 use Prim.Native.Nat.{_+_, _*_, _-_, _/_, _%_, _≤_}
 use native.Mathlib.Nat.{mul-le-mul}
 use Rattle.laws.specs.Laws.Window.{Parts, parts-first}
@@ -14,6 +15,10 @@ Inv-loop work₀ to v a w b q count jump n₀ at₀ work n at = Parts (bandOf wo
 abbrev μ-loop : tie.MeasureT-loop
 μ-loop work₀ to v a w b q count jump n₀ at₀ work n at = 2 * v - n
 
+-- earlier states
+abbrev in-loop : tie.After-work Inv-loop μ-loop → tie.In-loop Inv-loop μ-loop
+in-loop c = let t = c .before .before in t .before
+
 next : (c : tie.In-loop Inv-loop μ-loop) → BandIn (c .before .loop .work) (c .before .loop .at) (c .before .before .args .a) (c .before .before .args .w / 2) (c .before .loop .n / 2 * c .before .before .args .w + c .before .loop .n % 2) (c .before .before .args .v * c .before .before .args .w)
 next c =
     let st = c .before .before in
@@ -23,7 +28,7 @@ next c =
 
 mul-q : tie.Need-mul-q Inv-loop μ-loop
 mul-q c =
-    let b : c .args .w / 2 ≤ 65536 = omega (arith, c .pre .w-le) in
+    let b : c .args .w / 2 ≤ rowLimit = omega (arith, c .pre .w-le) in
     omega (arith, mul-le-mul (c .pre .a-le) b)
 
 mul-count : tie.Need-mul-count Inv-loop μ-loop
@@ -45,7 +50,7 @@ band-requires : tie.Need-band-requires Inv-loop μ-loop
 band-requires c κs = next (c .before)
 
 add-at : tie.Need-add-at Inv-loop μ-loop
-add-at c = omega (arith, next (c .before .before .before) .fits)
+add-at c = let t = c .before .before in omega (arith, next (t .before) .fits)
 
 add-n : tie.Need-add-n Inv-loop μ-loop
 add-n c = omega arith
@@ -55,10 +60,10 @@ loop-less c = omega arith
 
 loop-again : tie.Need-loop-again Inv-loop μ-loop
 loop-again c =
-    let st = c .before .before .before .before .before in
+    let st = in-loop c .before .before in
     let a = st .args in
-    let l = c .before .before .before .before .loop in
-    bands-turn (a .work .now) (a .to) (a .v) (a .a) (a .w) (st .pre) (l .work) (l .n) (l .at) (l .inv) (c .before .before .before .loop-test .taken) (c .before .band .last .0) (c .before .band .ensures)
+    let l = in-loop c .before .loop in
+    bands-turn (a .work .now) (a .to) (a .v) (a .a) (a .w) (st .pre) (l .work) (l .n) (l .at) (l .inv) (in-loop c .loop-test .taken) (c .before .band .last .0) (c .before .band .ensures)
 
 same-length : tie.Need-same-length Inv-loop μ-loop
 same-length c = c .before .loop .inv .long
