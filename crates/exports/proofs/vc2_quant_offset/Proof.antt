@@ -18,13 +18,15 @@ enum-known-a-2 c = search needs
 
 returns : tie.Need-returns
 returns c =
-    let st = c .before .before .before .before in
-    gives-value (st .args .index) _ (st .args .value .now) _ (c .before .before .before .quant-offset .result) (c .before .before .before .quant-offset .ensures) (c .before .a .given .1) (c .known-told .given .0 .1)
+    let t = c .before .before in
+    let st = t .before .before in
+    gives-value (st .args .index) _ (st .args .value .now) _ (t .before .quant-offset .result) (t .before .quant-offset .ensures) (c .before .a .given .1) (c .known-told .given .0 .1)
 
 returns-2 : tie.Need-returns-2
 returns-2 c =
-    let st = c .before .before .before .before in
-    gives-refused (st .args .index) _ _ (st .args .value .now) (c .before .before .before .quant-offset .result) (c .before .before .before .quant-offset .ensures) (c .before .a2 .given .1)
+    let t = c .before .before in
+    let st = t .before .before in
+    gives-refused (st .args .index) _ _ (st .args .value .now) (t .before .quant-offset .result) (t .before .quant-offset .ensures) (c .before .a2 .given .1)
 
 pub vc2-quant-offset-spec : {M : Type 1} → statement M
 vc2-quant-offset-spec =

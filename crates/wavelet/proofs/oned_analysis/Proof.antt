@@ -5,6 +5,10 @@ use Rattle.wavelet.specs.Laws.RowCall.{refuse-filter, refuse-long, analy
 use Rattle.wavelet.proofs.oned_analysis.Statement.{statement}
 use Rattle.wavelet.proofs.oned_analysis.Tie as tie
 
+-- earlier states
+abbrev begin : tie.After-analyse → tie.Start
+begin c = let t = c .before .before in t .before .before
+
 returns : tie.Need-returns
 returns c = refuse-filter (c .before .args .index) (c .before .args .row .now) (omega arith)
 
@@ -19,7 +23,7 @@ same-length c = search needs
 
 returns-3 : tie.Need-returns-3
 returns-3 c =
-    let st = c .before .before .before .before .before in
+    let st = begin (c .before) in
     analysed (st .args .index) (st .args .row .now) (c .before .analyse .last .0) (omega arith) (omega arith) (c .before .analyse .ensures)
 
 pub oned-analysis-spec : {M : Type 1} → statement M

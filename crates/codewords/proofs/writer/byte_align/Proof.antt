@@ -13,6 +13,16 @@ use Rattle.codewords.proofs.writer.byte_align.Lts as lts
 use Rattle.codewords.proofs.writer.flush.Reads as flush-reads
 use Rattle.codewords.proofs.writer.put_short.Reads as put-short-reads
 
+-- earlier states
+abbrev begin : tie.After-put-short → tie.Start
+begin c = let t = c .before .before in t .before .before
+
+abbrev after-put-short : tie.After-flush-arg → tie.After-put-short
+after-put-short c = let t = c .before .before in t .before
+
+abbrev after-put-short′ : tie.After-flush → tie.After-put-short
+after-put-short′ c = let t = c .before .before in t .before .before
+
 sub-put-short : tie.Need-sub-put-short
 sub-put-short c = search needs
 
@@ -21,17 +31,17 @@ put-short-requires c κs = search needs
 
 flush-requires : tie.Need-flush-requires
 flush-requires c κs =
-    let st = c .before .before .before .before .before .before .before in
-    room-after 0 (st .pre) (c .before .before .before .put-short .ensures) (omega (arith, length-lit (padding (st .args .w .«pending_bits»)) 0))
+    let st = begin (after-put-short c) in
+    room-after 0 (st .pre) (after-put-short c .put-short .ensures) (omega (arith, length-lit (padding (st .args .w .«pending_bits»)) 0))
 
 same-length : tie.Need-same-length
 same-length c = search needs
 
 returns : tie.Need-returns
 returns c =
-    let st = c .before .before .before .before .before .before .before .before .before .before in
+    let st = begin (after-put-short′ (c .before .before)) in
     let k = padding (st .args .w .«pending_bits») in
-    let p = c .before .before .before .before .before .before .put-short .ensures in
+    let p = after-put-short′ (c .before .before) .put-short .ensures in
     let f = c .before .before .flush .ensures in
     record {
       wrote = rw (append-nil (zeroBits k)) at (wrote-then (st .pre .sound) (rw (lit-zeros k) at p) (f .wrote));

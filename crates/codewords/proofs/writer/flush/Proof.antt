@@ -75,8 +75,9 @@ loop-less c = omega arith
 
 loop-again : tie.Need-loop-again Inv-loop μ-loop
 loop-again c =
-    let w = c .before .before .before .args .w in
-    let l = c .before .before .loop in
+    let u = c .before .before in
+    let w = u .before .args .w in
+    let l = u .loop in
     let t : 8 ≤ l .k = c .before .loop-test .taken in
     (omega (arith, l .inv .0), (omega (arith, l .inv .0, l .inv .1 .0), again (w .«pending_bits») (l .k) (w .pending) t (l .inv .0) (l .inv .1 .0) (l .inv .1 .1)))
 
@@ -96,15 +97,16 @@ same-length c = c .before .before .loop .inv .1 .1 .size
 
 returns : tie.Need-returns Inv-loop μ-loop
 returns c =
-    let w = c .before .before .before .args .w in
-    let l = c .before .before .loop in
+    let t = c .before .before in
+    let w = t .before .args .w in
+    let l = t .loop in
     let n = w .«pending_bits» in
     let h : l .k < 8 = omega (arith, c .before .loop-test .left) in
     rw (one-shl (l .k) (omega arith))
     (record {
       wrote =
           wrote-bits n (n - l .k) (l .k) (w .pending) (append-nil (pendingOf w)) (omega (arith, l .inv .0)) (omega arith)
-          (omega (arith, place-is (c .before .before), l .inv .1 .0)) (l .inv .1 .1 .is);
+          (omega (arith, place-is (t), l .inv .1 .0)) (l .inv .1 .1 .is);
       part = h;
     })
 

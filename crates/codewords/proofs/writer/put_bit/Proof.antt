@@ -7,6 +7,10 @@ use Rattle.codewords.proofs.writer.put_bit.Reads as reads
 use Rattle.codewords.proofs.writer.put_bit.Lts as lts
 use Rattle.codewords.proofs.writer.put_short.Reads as put-short-reads
 
+-- earlier states
+abbrev begin : tie.After-put-short → tie.Start
+begin c = let t = c .before .before in t .before
+
 cast-put-short : tie.Need-cast-put-short
 cast-put-short c = search needs
 
@@ -17,7 +21,7 @@ same-length : tie.Need-same-length
 same-length c = search needs
 
 returns : tie.Need-returns
-returns c = rw (lit-bit (c .before .before .before .before .before .args .bit)) at (c .before .before .put-short .ensures)
+returns c = rw (lit-bit (begin (c .before .before) .args .bit)) at (c .before .before .put-short .ensures)
 
 pub put-bit-spec : {M : Type 1} → statement M
 put-bit-spec = tie.close (tie.spec cast-put-short put-short-requires same-length returns)

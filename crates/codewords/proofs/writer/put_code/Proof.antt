@@ -12,6 +12,10 @@ use Rattle.codewords.proofs.writer.put_code.Reads as reads
 use Rattle.codewords.proofs.writer.put_code.Lts as lts
 use Rattle.codewords.proofs.writer.put_interleaved.Reads as put-interleaved-reads
 
+-- earlier states
+abbrev begin : tie.After-put-interleaved → tie.Start
+begin c = let t = c .before .before in t .before
+
 -- the count of leading zeros gives the place of the leading one
 place-is : (c : tie.Start) → leadingZeros 64 (c .args .x) + (log2 (c .args .x) + 1) ≡ 64
 place-is c = omega (arith, leading-log2 64 (c .args .x) (c .pre .1) (omega arith))
@@ -33,7 +37,7 @@ same-length c = search needs
 
 returns : tie.Need-returns
 returns c =
-    let s = c .before .before .before .before .before in
+    let s = begin (c .before .before) in
     rw (codeU-is (s .args .x) (63 - leadingZeros 64 (s .args .x)) (s .pre .1) (omega (arith, place-is s))) (c .before .before .put-interleaved .ensures)
 
 pub put-code-spec : {M : Type 1} → statement M

@@ -44,6 +44,22 @@ parts n i x l =
     let e : n ≡ n - i + i = omega arith in
     ap (λ (k : ℕ). interleaved (lit k x) ++ (true ∷ [])) e ∙ rw (lit-split (n - i) i x, interleaved-append, append-assoc)
 
+-- earlier states
+abbrev begin : tie.After-loop Inv-loop μ-loop → tie.Start Inv-loop μ-loop
+begin c = let t = c .before .before in t .before
+
+abbrev at-loop : tie.After-spread Inv-loop μ-loop → tie.At-loop Inv-loop μ-loop
+at-loop c = let t = c .before .before in t .before
+
+abbrev after-loop : tie.After-put-short2 Inv-loop μ-loop → tie.After-loop Inv-loop μ-loop
+after-loop c = let t = c .before .before in t .before
+
+abbrev after-spread2 : tie.After-slice-known3 Inv-loop μ-loop → tie.After-spread2 Inv-loop μ-loop
+after-spread2 c = let t = c .before .before in t .before
+
+abbrev after-spread : tie.After-slice-known2 Inv-loop μ-loop → tie.After-spread Inv-loop μ-loop
+after-spread c = let t = c .before .before in t .before
+
 -- at the loop's head there is room for the pairs that are left and the last 1
 room-at : (c : tie.At-loop Inv-loop μ-loop) → Room (c .loop .out) (c .loop .s) (2 * c .loop .i + 1)
 room-at c =
@@ -63,28 +79,29 @@ sub-i : tie.Need-sub-i Inv-loop μ-loop
 sub-i c = omega arith
 
 cast-spread : tie.Need-cast-spread Inv-loop μ-loop
-cast-spread c = omega (arith, c .before .before .before .before .pre .1, c .before .before .loop .inv .0)
+cast-spread c = let t = c .before .before in omega (arith, t .before .before .pre .1, t .loop .inv .0)
 
 shr-spread : tie.Need-shr-spread Inv-loop μ-loop
-shr-spread c = omega (arith, c .before .before .before .before .pre .1, c .before .before .loop .inv .0)
+shr-spread c = let t = c .before .before in omega (arith, t .before .before .pre .1, t .loop .inv .0)
 
 spread-requires : tie.Need-spread-requires Inv-loop μ-loop
 spread-requires c κs = search needs
 
 put-short-requires : tie.Need-put-short-requires Inv-loop μ-loop
 put-short-requires c κs =
-    let r = room-at (c .before .before .before) in
-    (record { sound = r .sound; room = omega (arith, r .room, c .before .before .loop-test .taken) }, omega arith)
+    let t = c .before .before in
+    let r = room-at (t .before) in
+    (record { sound = r .sound; room = omega (arith, r .room, t .loop-test .taken) }, omega arith)
 
 loop-less : tie.Need-loop-less Inv-loop μ-loop
 loop-less c = omega arith
 
 loop-again : tie.Need-loop-again Inv-loop μ-loop
 loop-again c =
-    let st = c .before .before .before .before .before .before .before .before in
-    let l = c .before .before .before .before .before .before .loop in
-    let t = c .before .before .before .before .before .loop-test .taken in
-    (omega (arith, l .inv .0), again (st .args .n) (l .i) (st .args .x) (c .before .before .before .spread .result) (omega arith) (l .inv .0) (st .pre .0 .sound) (c .before .before .before .spread .ensures .0) (l .inv .1) (c .before .before .put-short .ensures))
+    let st = at-loop (after-spread c) .before .before in
+    let l = at-loop (after-spread c) .loop in
+    let t = after-spread c .before .before .loop-test .taken in
+    (omega (arith, l .inv .0), again (st .args .n) (l .i) (st .args .x) (after-spread c .spread .result) (omega arith) (l .inv .0) (st .pre .0 .sound) (after-spread c .spread .ensures .0) (l .inv .1) (c .before .before .put-short .ensures))
 
 spread-requires-2 : tie.Need-spread-requires-2 Inv-loop μ-loop
 spread-requires-2 c κs = search needs
@@ -102,18 +119,18 @@ add-put-short-2 : tie.Need-add-put-short-2 Inv-loop μ-loop
 add-put-short-2 c = omega arith
 
 put-short-requires-2 : tie.Need-put-short-requires-2 Inv-loop μ-loop
-put-short-requires-2 c κs = (room-at (c .before .before .before), omega (arith, c .before .before .loop-test .left))
+put-short-requires-2 c κs = let t = c .before .before in (room-at (t .before), omega (arith, t .loop-test .left))
 
 same-length : tie.Need-same-length Inv-loop μ-loop
 same-length c =
-    c .before .before .put-short2 .ensures .size ∙ c .before .before .before .before .before .before .loop .inv .1 .size
+    c .before .before .put-short2 .ensures .size ∙ after-loop (c .before .before) .before .loop .inv .1 .size
 
 returns : tie.Need-returns Inv-loop μ-loop
 returns c =
-    let st = c .before .before .before .before .before .before .before .before in
-    let l = c .before .before .before .before .before .before .loop in
-    let r = c .before .before .before .spread2 in
-    rw (parts (st .args .n) (l .i) (st .args .x) (l .inv .0), word-lit (l .i) (st .args .x) (c .before .before .before .before .before .loop-test .left))
+    let st = begin (after-loop (c .before .before)) in
+    let l = after-loop (c .before .before) .before .loop in
+    let r = after-spread2 c .spread2 in
+    rw (parts (st .args .n) (l .i) (st .args .x) (l .inv .0), word-lit (l .i) (st .args .x) (after-loop (c .before .before) .loop-test .left))
     (wrote-then (st .pre .0 .sound) (l .inv .1) (rw (r .ensures .0) at (c .before .before .put-short2 .ensures)))
 
 pub put-interleaved-spec : {M : Type 1} → statement M

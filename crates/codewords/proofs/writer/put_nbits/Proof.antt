@@ -19,6 +19,16 @@ halves n v h =
     let e : n ≡ n - 32 + 32 = omega arith in
     ap (λ (k : ℕ). lit k v) e ∙ lit-split (n - 32) 32 v
 
+-- earlier states
+abbrev begin : tie.After-put-short2 → tie.Start
+begin c = let t = c .before .before in t .before .before
+
+abbrev after-put-short2 : tie.After-put-short-arg3 → tie.After-put-short2
+after-put-short2 c = let t = c .before .before in t .before
+
+abbrev after-put-short2′ : tie.After-put-short3 → tie.After-put-short2
+after-put-short2′ c = let t = c .before .before in t .before .before
+
 put-short-requires : tie.Need-put-short-requires
 put-short-requires c κs = search needs
 
@@ -36,19 +46,19 @@ put-short-requires-2 c κs = search needs
 
 put-short-requires-3 : tie.Need-put-short-requires-3
 put-short-requires-3 c κs =
-    let st = c .before .before .before .before .before .before .before in
-    let h = c .before .before .before .before .before .if1 .left in
-    (room-after 32 (st .pre .0) (c .before .before .before .put-short2 .ensures) (omega (arith, length-lit (st .args .n - 32) (st .args .v / 2 ^ 32))), omega arith)
+    let st = begin (after-put-short2 c) in
+    let h = after-put-short2 c .before .before .if1 .left in
+    (room-after 32 (st .pre .0) (after-put-short2 c .put-short2 .ensures) (omega (arith, length-lit (st .args .n - 32) (st .args .v / 2 ^ 32))), omega arith)
 
 same-length-2 : tie.Need-same-length-2
 same-length-2 c = search needs
 
 returns-2 : tie.Need-returns-2
 returns-2 c =
-    let st = c .before .before .before .before .before .before .before .before .before .before in
-    let h = c .before .before .before .before .before .before .before .before .if1 .left in
+    let st = begin (after-put-short2′ (c .before .before)) in
+    let h = after-put-short2′ (c .before .before) .before .before .if1 .left in
     rw (halves (st .args .n) (st .args .v) (omega arith))
-    (wrote-then (st .pre .0 .sound) (c .before .before .before .before .before .before .put-short2 .ensures) (c .before .before .put-short3 .ensures))
+    (wrote-then (st .pre .0 .sound) (after-put-short2′ (c .before .before) .put-short2 .ensures) (c .before .before .put-short3 .ensures))
 
 pub put-nbits-spec : {M : Type 1} → statement M
 put-nbits-spec =

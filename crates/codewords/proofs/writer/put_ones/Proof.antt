@@ -29,6 +29,19 @@ more n left k h g l s p q =
     let e : n - (left - k) ≡ n - left + k = omega arith in
     rw (e, ← replicate-append-replicate) (wrote-then s p (rw (lit-ones k 32 g) at q))
 
+-- earlier states
+abbrev at-loop : tie.After-put-short Inv-loop μ-loop → tie.At-loop Inv-loop μ-loop
+at-loop c = let t = c .before .before in t .before
+
+abbrev at-loop′ : tie.After-put-short2 Inv-loop μ-loop → tie.At-loop Inv-loop μ-loop
+at-loop′ c = let t = c .before .before in t .before
+
+abbrev after-loop : tie.After-slice-known3 Inv-loop μ-loop → tie.After-loop Inv-loop μ-loop
+after-loop c = let t = c .before .before in t .before .before
+
+abbrev in-loop : tie.After-slice-known2 Inv-loop μ-loop → tie.In-loop Inv-loop μ-loop
+in-loop c = let t = c .before .before in t .before .before
+
 -- at the loop's head there is room for the ones that are left
 room-at : (c : tie.At-loop Inv-loop μ-loop) → Room (c .loop .out) (c .loop .s) (c .loop .left)
 room-at c =
@@ -54,9 +67,9 @@ loop-less c = omega arith
 
 loop-again : tie.Need-loop-again Inv-loop μ-loop
 loop-again c =
-    let st = c .before .before .before .before .before .before .before in
-    let l = c .before .before .before .before .before .loop in
-    let t = c .before .before .before .before .loop-test .taken in
+    let st = at-loop (c .before .before) .before .before in
+    let l = in-loop c .before .loop in
+    let t = in-loop c .loop-test .taken in
     (omega (arith, l .inv .0), more (st .args .n) (l .left) 32 (omega arith) (omega arith) (l .inv .0) (st .pre .sound) (l .inv .1) (c .before .before .put-short .ensures))
 
 cast-put-short : tie.Need-cast-put-short Inv-loop μ-loop
@@ -66,14 +79,14 @@ put-short-requires-2 : tie.Need-put-short-requires-2 Inv-loop μ-loop
 put-short-requires-2 c κs = (room-at (c .before .before), omega (arith, c .before .loop-test .left))
 
 same-length : tie.Need-same-length Inv-loop μ-loop
-same-length c = c .before .before .put-short2 .ensures .size ∙ c .before .before .before .before .before .loop .inv .1 .size
+same-length c = c .before .before .put-short2 .ensures .size ∙ after-loop c .before .loop .inv .1 .size
 
 returns : tie.Need-returns Inv-loop μ-loop
 returns c =
-    let st = c .before .before .before .before .before .before .before in
-    let l = c .before .before .before .before .before .loop in
+    let st = at-loop′ (c .before .before) .before .before in
+    let l = after-loop c .before .loop in
     let z : st .args .n - (l .left - l .left) ≡ st .args .n = omega arith in
-    rw z at (more (st .args .n) (l .left) (l .left) (omega arith) (omega (arith, c .before .before .before .before .loop-test .left)) (l .inv .0) (st .pre .sound) (l .inv .1) (c .before .before .put-short2 .ensures))
+    rw z at (more (st .args .n) (l .left) (l .left) (omega arith) (omega (arith, after-loop c .loop-test .left)) (l .inv .0) (st .pre .sound) (l .inv .1) (c .before .before .put-short2 .ensures))
 
 pub put-ones-spec : {M : Type 1} → statement M
 put-ones-spec =

@@ -13,6 +13,13 @@ use Rattle.codewords.proofs.writer.put_short.Reads as reads
 use Rattle.codewords.proofs.writer.put_short.Lts as lts
 use Rattle.codewords.proofs.writer.put_four.Reads as put-four-reads
 
+-- earlier states
+abbrev after-struct-known : tie.After-put-four → tie.After-struct-known
+after-struct-known c = let t = c .before .before in t .before .before
+
+abbrev else1 : tie.After-slice-known2 → tie.Else1
+else1 c = let t = c .before .before in t .before .before
+
 -- the two powers, as they are shifted
 size-is : (c : tie.Start) → 1 * 2 ^ c .args .n % 2 ^ 64 ≡ 2 ^ c .args .n
 size-is c = one-shl (c .args .n) (omega (arith, c .pre .1))
@@ -44,7 +51,8 @@ add-k c = search needs
 
 returns : tie.Need-returns
 returns c =
-    let s = c .before .before .before .before in
+    let t = c .before .before in
+    let s = t .before .before in
     rw (size-is s) (wrote-few (s .args .out .now) (s .args .w) (s .args .n) (s .args .v) (s .pre .0 .sound) (c .if1 .taken))
 
 cast-put-four : tie.Need-cast-put-four
@@ -67,7 +75,7 @@ add-t17 c = search needs
 
 rem-t12 : tie.Need-rem-t12
 rem-t12 c =
-    let s = c .before .before .before .before .before .before .before .before in
+    let s = after-struct-known (c .before .before) .before .before in
     rw (rest-is s) (pow-pos _)
 
 same-length : tie.Need-same-length
@@ -75,10 +83,10 @@ same-length c = search needs
 
 returns-2 : tie.Need-returns-2
 returns-2 c =
-    let s = c .before .before .before .before .before .before .before .before in
+    let s = after-struct-known (c .before .before) .before .before in
     let a = s .args in
     let k = a .w .«pending_bits» + a .n in
-    let h : 32 ≤ k = c .before .before .before .before .if1 .left in
+    let h : 32 ≤ k = else1 c .if1 .left in
     rw (size-is s, rest-is s)
     (wrote-bits k 32 (k - 32) (joined (a .w) (a .n) (a .v)) (sym (lit-join (a .w .«pending_bits») (a .w .pending) (a .n) (a .v)))
     (omega arith) (omega (arith, s .pre)) (omega arith) (rw (size-is s) at (c .before .before .put-four .ensures)))

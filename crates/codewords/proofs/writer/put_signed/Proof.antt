@@ -28,12 +28,23 @@ signed m b h =
 length-is : (m : ℕ) (b : Bool) → 511 ≤ m → length (codeM m b) ≡ length (codeU (m + 1 - 1)) + 1
 length-is m b h = ap length (signed m b h) ∙ length-append (codeU (m + 1 - 1)) (b ∷ [])
 
+-- earlier states
+abbrev after-slice-known : tie.After-put-code → tie.After-slice-known
+after-slice-known c = let t = c .before .before in t .before
+
+abbrev after-put-code : tie.After-put-bit-arg → tie.After-put-code
+after-put-code c = let t = c .before .before in t .before
+
+abbrev after-put-code′ : tie.After-put-bit → tie.After-put-code
+after-put-code′ c = let t = c .before .before in t .before .before
+
 word-of-requires : tie.Need-word-of-requires
 word-of-requires c κs = search needs
 
 put-short-requires : tie.Need-put-short-requires
 put-short-requires c κs =
-    let r = c .before .before .before .before .pre .0 in
+    let t = c .before .before in
+    let r = t .before .before .pre .0 in
     let u = c .before .word-of in
     (record { sound = r .sound; room = omega (arith, r .room, length-lit (u .result .len) (u .result .bits), ap length (u .ensures .0)) }, omega (arith, u .ensures .1))
 
@@ -41,31 +52,32 @@ same-length : tie.Need-same-length
 same-length c = search needs
 
 returns : tie.Need-returns
-returns c = rw (c .before .before .before .before .word-of .ensures .0) at (c .before .before .put-short .ensures)
+returns c = let t = c .before .before in rw (t .before .before .word-of .ensures .0) at (t .put-short .ensures)
 
 add-put-code : tie.Need-add-put-code
 add-put-code c = search needs
 
 put-code-requires : tie.Need-put-code-requires
 put-code-requires c κs =
-    let st = c .before .before .before in
+    let t = c .before .before in
+    let st = t .before in
     let r = st .pre .0 in
     (record { sound = r .sound; room = omega (arith, r .room, length-is (st .args .m) (st .args .minus) (c .before .if1 .left)) }, omega arith)
 
 put-bit-requires : tie.Need-put-bit-requires
 put-bit-requires c κs =
-    let st = c .before .before .before .before .before .before .before in
-    room-after 1 (st .pre .0) (c .before .before .before .put-code .ensures)
-    (omega (arith, length-is (st .args .m) (st .args .minus) (c .before .before .before .before .before .if1 .left)))
+    let st = after-slice-known (after-put-code c) .before in
+    room-after 1 (st .pre .0) (after-put-code c .put-code .ensures)
+    (omega (arith, length-is (st .args .m) (st .args .minus) (after-put-code c .before .before .if1 .left)))
 
 same-length-2 : tie.Need-same-length-2
 same-length-2 c = search needs
 
 returns-2 : tie.Need-returns-2
 returns-2 c =
-    let st = c .before .before .before .before .before .before .before .before .before .before in
-    rw (signed (st .args .m) (st .args .minus) (c .before .before .before .before .before .before .before .before .if1 .left))
-    (wrote-then (st .pre .0 .sound) (c .before .before .before .before .before .before .put-code .ensures) (c .before .before .put-bit .ensures))
+    let st = after-slice-known (after-put-code′ (c .before .before)) .before in
+    rw (signed (st .args .m) (st .args .minus) (after-put-code′ (c .before .before) .before .before .if1 .left))
+    (wrote-then (st .pre .0 .sound) (after-put-code′ (c .before .before) .put-code .ensures) (c .before .before .put-bit .ensures))
 
 pub put-signed-spec : {M : Type 1} → statement M
 put-signed-spec =

@@ -9,6 +9,10 @@ use Rattle.codewords.proofs.writer.put_uint.Reads as reads
 use Rattle.codewords.proofs.writer.put_uint.Lts as lts
 use Rattle.codewords.proofs.writer.put_code.Reads as put-code-reads
 
+-- earlier states
+abbrev begin : tie.After-put-code → tie.Start
+begin c = let t = c .before .before in t .before
+
 add-put-code : tie.Need-add-put-code
 add-put-code c = search needs
 
@@ -23,7 +27,7 @@ same-length c = search needs
 
 returns : tie.Need-returns
 returns c =
-    let v = c .before .before .before .before .before .args .v in
+    let v = begin (c .before .before) .args .v in
     let e : v + 1 - 1 ≡ v = omega arith in
     rw e at (c .before .before .put-code .ensures)
 

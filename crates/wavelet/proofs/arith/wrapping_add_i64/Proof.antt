@@ -22,9 +22,10 @@ from-bits-requires c κs = search needs
 
 returns : tie.Need-returns
 returns c =
-    let s = c .before .before .before .before in
-    let e1 = c .before .before .before .bits .ensures ∙ ap (ofZ w64) (toZ-ofZ (s .fits .a)) in
-    let e2 = c .before .before .bits2 .ensures ∙ ap (ofZ w64) (toZ-ofZ (s .fits .b)) in
+    let t = c .before .before in
+    let s = t .before .before in
+    let e1 = t .before .bits .ensures ∙ ap (ofZ w64) (toZ-ofZ (s .fits .a)) in
+    let e2 = t .bits2 .ensures ∙ ap (ofZ w64) (toZ-ofZ (s .fits .b)) in
     toZ-ofZ (record { sfits = c .from-bits .ok }) ∙ c .from-bits .ensures ∙ ap (toZ w64) (c .before .wrapping-add-u64 .ensures ∙ ap₂ (λ (x y : ℕ). (x + y) % 2 ^ 64) e1 e2) ∙ add-bits (s .args .a) (s .args .b) (s .fits .a) (s .fits .b)
 
 pub wrapping-add-i64-spec : {M : Type 1} → statement M

@@ -23,9 +23,10 @@ from-bits-requires c κs = search needs
 
 returns : tie.Need-returns
 returns c =
-    let s = c .before .before .before .before in
-    let e1 = c .before .before .before .bits .ensures ∙ ap (ofZ w64) (toZ-ofZ (s .fits .a)) in
-    let e2 = c .before .before .bits2 .ensures ∙ ap (ofZ w64) (toZ-ofZ (s .fits .b)) in
+    let t = c .before .before in
+    let s = t .before .before in
+    let e1 = t .before .bits .ensures ∙ ap (ofZ w64) (toZ-ofZ (s .fits .a)) in
+    let e2 = t .bits2 .ensures ∙ ap (ofZ w64) (toZ-ofZ (s .fits .b)) in
     let r = c .before .wrapping-sub-u64 in
     toZ-ofZ (record { sfits = c .from-bits .ok }) ∙ c .from-bits .ensures ∙ sub-bits (s .args .a) (s .args .b) (r .result) (s .fits .a) (s .fits .b) (omega (arith, r .ok)) (ap (λ (y : ℕ). (r .result + y) % 2 ^ 64) (sym e2) ∙ r .ensures ∙ e1)
 

@@ -5,6 +5,20 @@ use borrow.Author.Needs.{needs}
 use Rattle.wavelet.proofs.component.analyse_components.Statement.{statement}
 use Rattle.wavelet.proofs.component.analyse_components.Tie as tie
 
+-- earlier states
+abbrev begin : tie.After-analyse-component → tie.Start
+begin c =
+    let t = c .before .before in
+    let u = t .before .before in
+    let v = u .before .before in
+    v .before
+
+abbrev after-analyse-component : tie.After-analyse-component2 → tie.After-analyse-component
+after-analyse-component c = let t = c .before .before in t .before
+
+abbrev after-analyse-component2 : tie.After-analyse-component3 → tie.After-analyse-component2
+after-analyse-component2 c = let t = c .before .before in t .before
+
 mul-m : tie.Need-mul-m
 mul-m c = search needs
 
@@ -28,10 +42,10 @@ same-length c = search needs
 
 returns : tie.Need-returns
 returns c =
-    let st = c .before .before .before .before .before .before .before .before .before .before .before .before .before .before in
+    let st = begin (after-analyse-component (after-analyse-component2 (c .before))) in
     let a = st .args in
-    let x = c .before .before .before .before .before .before .before .analyse-component in
-    let y = c .before .before .before .before .analyse-component2 in
+    let x = after-analyse-component (after-analyse-component2 (c .before)) .analyse-component in
+    let y = after-analyse-component2 (c .before) .analyse-component2 in
     let z = c .before .analyse-component3 in
     three-are (a .n) (a .luma .ph * a .luma .pw) (a .colour .ph * a .colour .pw) (a .work .now) (x .last .0) (y .last .0) (z .last .0) _ _ _ (st .pre .fits) (x .kept .0) (y .kept .0) (x .ensures) (y .ensures) (z .ensures)
 

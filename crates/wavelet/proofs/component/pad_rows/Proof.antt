@@ -29,9 +29,22 @@ record Room (p pw m w have given : ℕ) : Type 0 where
   fits : p + pw ≤ have
   source : m * w + w ≤ given
 
-room : (c : tie.In-loop Inv-loop μ-loop) → Room (c .before .loop .at) (c .before .before .before .before .before .args .c .pw) (min (c .before .loop .n) (c .before .before .before .before .before .args .c .h - 1)) (c .before .before .before .before .before .args .c .w) (length (c .before .before .before .before .before .args .work .now)) (length (c .before .before .before .before .before .args .samples .now))
+-- earlier states
+abbrev begin : tie.At-loop Inv-loop μ-loop → tie.Start Inv-loop μ-loop
+begin c = let t = c .before .before in t .before .before
+
+abbrev at-loop : tie.After-pad-row-arg Inv-loop μ-loop → tie.At-loop Inv-loop μ-loop
+at-loop c = let t = c .before .before in t .before
+
+abbrev in-loop : tie.After-pad-row Inv-loop μ-loop → tie.In-loop Inv-loop μ-loop
+in-loop c = let t = c .before .before in t .before
+
+abbrev after-pad-row : tie.After-analyse Inv-loop μ-loop → tie.After-pad-row Inv-loop μ-loop
+after-pad-row c = let t = c .before .before in t .before
+
+room : (c : tie.In-loop Inv-loop μ-loop) → Room (c .before .loop .at) (begin (c .before) .args .c .pw) (min (c .before .loop .n) (begin (c .before) .args .c .h - 1)) (begin (c .before) .args .c .w) (length (begin (c .before) .args .work .now)) (length (begin (c .before) .args .samples .now))
 room c =
-    let st = c .before .before .before .before .before in
+    let st = begin (c .before) in
     let a = st .args in
     let l = c .before .loop in
     let q = st .pre .0 in
@@ -41,15 +54,15 @@ room c =
 -- the slice with one more row written
 abbrev with-row : tie.After-pad-row Inv-loop μ-loop → List ℤ
 with-row c =
-    let a = c .before .before .before .before .before .before .before .before .args in
-    let l = c .before .before .before .before .loop in
+    let a = begin (at-loop (c .before)) .args in
+    let l = at-loop (c .before) .loop in
     take (l .at) (l .work) ++ (c .pad-row .last .0 ++ drop (l .at + a .c .pw - l .at) (drop (l .at) (l .work)))
 
-with-row-long : (c : tie.After-pad-row Inv-loop μ-loop) → length (with-row c) ≡ length (c .before .before .before .before .before .before .before .before .args .work .now)
+with-row-long : (c : tie.After-pad-row Inv-loop μ-loop) → length (with-row c) ≡ length (begin (at-loop (c .before)) .args .work .now)
 with-row-long c =
-    let a = c .before .before .before .before .before .before .before .before .args in
-    let l = c .before .before .before .before .loop in
-    lent-long (l .at) (a .c .pw) (c .pad-row .last .0) (l .work) (omega (arith, room (c .before .before .before), l .inv .long)) (c .pad-row .kept .0) ∙ l .inv .long
+    let a = begin (at-loop (c .before)) .args in
+    let l = at-loop (c .before) .loop in
+    lent-long (l .at) (a .c .pw) (c .pad-row .last .0) (l .work) (omega (arith, room (in-loop c), l .inv .long)) (c .pad-row .kept .0) ∙ l .inv .long
 
 sub-last : tie.Need-sub-last Inv-loop μ-loop
 sub-last c = omega (arith, c .before .before .pre .0 .some)
@@ -68,7 +81,7 @@ least-requires c κs = tt
 
 mul-f : tie.Need-mul-f Inv-loop μ-loop
 mul-f c =
-    let e = ap (λ (m : ℕ). m * c .before .before .before .before .before .before .args .c .w) (c .least .ensures) in
+    let e = ap (λ (m : ℕ). m * begin (c .before .before) .args .c .w) (c .least .ensures) in
     omega (arith, e, room (c .before) .source)
 
 mul-pad-row : tie.Need-mul-pad-row Inv-loop μ-loop
@@ -85,13 +98,13 @@ part-pad-row-end c = omega (arith, room (c .before), c .before .before .loop .in
 
 pad-row-requires : tie.Need-pad-row-requires Inv-loop μ-loop
 pad-row-requires c κs =
-    let st = c .before .before .before .before .before .before .before in (
+    let st = begin (at-loop c) in (
       (st .pre .0 .some .0, rw (c .before .least .ensures) (room (c .before .before) .source)),
-      rw (c .before .before .before .before .filter-shift .ensures) (bits-le (st .args .index) (st .pre .1)),
+      rw (at-loop c .before .filter-shift .ensures) (bits-le (st .args .index) (st .pre .1)),
     )
 
 mul-analyse : tie.Need-mul-analyse Inv-loop μ-loop
-mul-analyse c = omega (arith, room (c .before .before .before .before))
+mul-analyse c = let t = c .before .before in omega (arith, room (t .before .before))
 
 sub-analyse : tie.Need-sub-analyse Inv-loop μ-loop
 sub-analyse c = omega arith
@@ -100,14 +113,14 @@ part-analyse-start : tie.Need-part-analyse-start Inv-loop μ-loop
 part-analyse-start c = omega arith
 
 part-analyse-end : tie.Need-part-analyse-end Inv-loop μ-loop
-part-analyse-end c = omega (arith, room (c .before .before .before .before), with-row-long (c .before))
+part-analyse-end c = let t = c .before .before in omega (arith, room (t .before .before), with-row-long (c .before))
 
 analyse-requires : tie.Need-analyse-requires Inv-loop μ-loop
 analyse-requires c κs =
-    let st = c .before .before .before .before .before .before .before .before .before .before in
+    let st = begin (in-loop (c .before .before) .before) in
     let a = st .args in
-    let l = c .before .before .before .before .before .before .loop in
-    let e = length-lent (l .at) (a .c .pw) (with-row (c .before .before)) (omega (arith, room (c .before .before .before .before .before), with-row-long (c .before .before))) in
+    let l = in-loop (c .before .before) .before .loop in
+    let e = length-lent (l .at) (a .c .pw) (with-row (c .before .before)) (omega (arith, room (in-loop (c .before .before)), with-row-long (c .before .before))) in
     (st .pre .1, rw e (st .pre .0 .short))
 
 add-n : tie.Need-add-n Inv-loop μ-loop
@@ -118,16 +131,16 @@ loop-less c = omega arith
 
 loop-again : tie.Need-loop-again Inv-loop μ-loop
 loop-again c =
-    let st = c .before .before .before .before .before .before .before .before .before .before .before .before in
+    let st = begin (at-loop (after-pad-row (c .before) .before)) in
     let a = st .args in
-    let l = c .before .before .before .before .before .before .before .before .loop in
-    let i = c .before .before .before .before .before .before .before in
+    let l = at-loop (after-pad-row (c .before) .before) .loop in
+    let i = in-loop (after-pad-row (c .before)) in
     let s = a .samples .now in
-    let r = c .before .before .before .before .pad-row in
+    let r = after-pad-row (c .before) .pad-row in
     let f = padded s (a .c .offset) (a .c .w) (a .c .h) in
     let e = length-lent (l .at) (a .c .pw) (l .work) (omega (arith, room i, l .inv .long)) in
-    let bits = c .before .before .before .before .before .before .before .before .before .filter-shift in
-    let from-is = c .before .before .before .before .before .before .least .ensures in
+    let bits = at-loop (after-pad-row (c .before) .before) .before .filter-shift in
+    let from-is = after-pad-row (c .before) .before .before .least .ensures in
     let row-is : r .last .0 ≡ row (a .c .pw) (λ x. raise wrap (filterOf (a .index) .bits) (f (l .n) x)) =
     r .ensures ∙ ap₂ (λ (m from : ℕ). row m (paddedRow (bits .result) s (a .c .offset) (a .c .w) (from * a .c .w))) e from-is
     ∙ ap (λ (b : ℕ). row (a .c .pw) (λ x. raise wrap b (f (l .n) x))) (bits .ensures) in
@@ -138,7 +151,7 @@ same-length c = c .before .loop .inv .long
 
 returns : tie.Need-returns Inv-loop μ-loop
 returns c =
-    let a = c .before .before .before .before .before .args in
+    let a = begin (c .before) .args in
     let l = c .before .loop in
     rows-all (a .index) (padded (a .samples .now) (a .c .offset) (a .c .w) (a .c .h)) (a .work .now) (a .c .ph) (a .c .pw) (l .work) (l .n) (l .at) (l .inv) (omega arith)
 

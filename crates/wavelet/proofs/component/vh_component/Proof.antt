@@ -8,12 +8,22 @@ use borrow.Author.Needs.{needs}
 use Rattle.wavelet.proofs.component.vh_component.Statement.{statement}
 use Rattle.wavelet.proofs.component.vh_component.Tie as tie
 
+-- earlier states
+abbrev begin : tie.After-vh-bands-arg → tie.Start
+begin c =
+    let t = c .before .before in
+    let u = t .before .before in
+    u .before
+
+abbrev after-pad-rows : tie.After-vh-bands → tie.After-pad-rows
+after-pad-rows c = let t = c .before .before in t .before
+
 pad-rows-requires : tie.Need-pad-rows-requires
 pad-rows-requires c κs = search needs
 
 vh-bands-requires : tie.Need-vh-bands-requires
 vh-bands-requires c κs =
-    let st = c .before .before .before .before .before in
+    let st = begin c in
     let a = st .args in
     let q = st .pre .0 in
     let r = c .before .before .pad-rows in
@@ -28,9 +38,9 @@ same-length c = search needs
 
 returns : tie.Need-returns
 returns c =
-    let st = c .before .before .before .before .before .before .before in
+    let st = begin (c .before .before) in
     let a = st .args in
-    let r = c .before .before .before .before .pad-rows in
+    let r = after-pad-rows (c .before) .pad-rows in
     let b = c .before .vh-bands in
     vh-level (a .n) (a .off) (a .c .ph) (a .c .pw) (a .work .now) (st .pre .0 .place) (a .t .ih) (a .t .iv) (padded (a .samples .now) (a .c .offset) (a .c .w) (a .c .h)) (r .last .0) (b .last .0)
     (r .ensures) (b .ensures)

@@ -16,10 +16,14 @@ deep-filter-requires-2 : tie.Need-deep-filter-requires-2
 deep-filter-requires-2 c κs = search needs
 
 returns : tie.Need-returns
-returns c = let a = c .before .before .before .args in ap limitBy (sym (c .if1 .taken)) ∙ limit-is (a .i) (a .j) (c .before .before .deep-filter .ensures) (c .before .deep-filter2 .ensures)
+returns c =
+    let t = c .before .before in
+    let a = t .before .args in ap limitBy (sym (c .if1 .taken)) ∙ limit-is (a .i) (a .j) (t .deep-filter .ensures) (c .before .deep-filter2 .ensures)
 
 returns-2 : tie.Need-returns-2
-returns-2 c = let a = c .before .before .before .args in ap limitBy (sym (c .if1 .left)) ∙ limit-is (a .i) (a .j) (c .before .before .deep-filter .ensures) (c .before .deep-filter2 .ensures)
+returns-2 c =
+    let t = c .before .before in
+    let a = t .before .args in ap limitBy (sym (c .if1 .left)) ∙ limit-is (a .i) (a .j) (t .deep-filter .ensures) (c .before .deep-filter2 .ensures)
 
 pub depth-limit-spec : {M : Type 1} → statement M
 depth-limit-spec =

@@ -26,6 +26,13 @@ Inv-loop row₀ index k₀ row k = I row₀ index row k
 abbrev μ-loop : tie.MeasureT-loop
 μ-loop row₀ index k₀ row k = k
 
+-- earlier states
+abbrev at-loop : tie.After-lift-arg Inv-loop μ-loop → tie.At-loop Inv-loop μ-loop
+at-loop c = let t = c .before .before in t .before
+
+abbrev after-stage : tie.After-row Inv-loop μ-loop → tie.After-stage Inv-loop μ-loop
+after-stage c = let t = c .before .before in t .before
+
 stage-count-requires : tie.Need-stage-count-requires Inv-loop μ-loop
 stage-count-requires c κs = c .pre .0
 
@@ -54,23 +61,23 @@ stage-requires c κs = omega arith
 
 lift-requires : tie.Need-lift-requires Inv-loop μ-loop
 lift-requires c κs =
-    let l = c .before .before .before .loop in
-    (c .before .stage .ensures .legal, rw (l .inv .long) (c .before .before .before .before .before .pre .1))
+    let l = at-loop c .loop in
+    (c .before .stage .ensures .legal, rw (l .inv .long) (at-loop c .before .before .pre .1))
 
 loop-less : tie.Need-loop-less Inv-loop μ-loop
 loop-less c = omega arith
 
 loop-again : tie.Need-loop-again Inv-loop μ-loop
 loop-again c =
-    let st = c .before .before .before .before .before .before .before in
-    let l = c .before .before .before .before .before .loop in
-    let s = c .before .before .before .stage in
+    let st = at-loop (c .before .before) .before .before in
+    let l = at-loop (c .before .before) .loop in
+    let s = after-stage c .stage in
     let z = c .before .lift in
     record {
       k-le = omega (arith, l .inv .k-le);
       room = l .inv .room;
       long = z .kept .0 ∙ l .inv .long;
-      now-is = analysis-turn (st .args .index) (l .k) (s .result) (st .args .row .now) (l .row) _ (st .pre .0) (c .before .before .before .before .loop-test .taken) (l .inv .k-le) (s .ensures .is) (l .inv .now-is) (z .ensures);
+      now-is = analysis-turn (st .args .index) (l .k) (s .result) (st .args .row .now) (l .row) _ (st .pre .0) (after-stage c .before .loop-test .taken) (l .inv .k-le) (s .ensures .is) (l .inv .now-is) (z .ensures);
     }
 
 same-length : tie.Need-same-length Inv-loop μ-loop
@@ -78,8 +85,9 @@ same-length c = c .before .loop .inv .long
 
 returns : tie.Need-returns Inv-loop μ-loop
 returns c =
+    let t = c .before .before in
     let l = c .before .loop in
-    let st = c .before .before .before in
+    let st = t .before in
     let e : l .k ≡ 0 = omega arith in
     l .inv .now-is ∙ ap (λ (k : ℕ). analysis wrap (drop k (filterOf (st .args .index) .stages)) (st .args .row .now)) e
 

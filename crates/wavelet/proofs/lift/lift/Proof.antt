@@ -25,6 +25,16 @@ Inv-loop a₀ s plus len half n₀ a n = I a₀ (stageOf s) plus a n
 abbrev μ-loop : tie.MeasureT-loop
 μ-loop a₀ s plus len half n₀ a n = length a₀ / 2 - n
 
+-- earlier states
+abbrev begin : tie.After-run-length Inv-loop μ-loop → tie.Start Inv-loop μ-loop
+begin c = let t = c .before .before in t .before
+
+abbrev after-run-length : tie.After-run-arg Inv-loop μ-loop → tie.After-run-length Inv-loop μ-loop
+after-run-length c = let t = c .before .before in t .before
+
+abbrev after-places : tie.After-run Inv-loop μ-loop → tie.After-places Inv-loop μ-loop
+after-places c = let t = c .before .before in t .before
+
 loop-holds : tie.Need-loop-holds Inv-loop μ-loop
 loop-holds c = record { n-le = omega arith; long = refl; now-is = lifted-zero wrap (stageOf (c .args .s)) (c .args .plus) (c .args .a .now) }
 
@@ -32,7 +42,7 @@ run-length-requires : tie.Need-run-length-requires Inv-loop μ-loop
 run-length-requires c κs = (c .before .before .pre .0, (c .before .before .pre .1, c .loop-test .taken))
 
 places-requires : tie.Need-places-requires Inv-loop μ-loop
-places-requires c κs = (c .before .before .before .pre .0, (c .before .before .before .pre .1, (c .before .loop-test .taken, omega arith)))
+places-requires c κs = let t = c .before .before in (t .before .pre .0, (t .before .pre .1, (c .before .loop-test .taken, omega arith)))
 
 mul-k : tie.Need-mul-k Inv-loop μ-loop
 mul-k c = omega arith
@@ -43,25 +53,25 @@ add-k c = omega arith
 run-requires : tie.Need-run-requires Inv-loop μ-loop
 unfolding stageOf
 run-requires c κs =
-    let st = c .before .before .before .before .before .before in
+    let st = begin (after-run-length c) in
     let a = st .args in
-    let l = c .before .before .before .before .before .loop in
-    row-runs (a .s) (c .before .before .places .result) (length (a .a .now)) (l .n) (c .before .before .before .run-length .result) (st .pre .0) (c .before .before .places .ensures) (c .before .before .before .run-length .ensures) (l .a) (l .inv .long)
+    let l = after-run-length c .before .before .loop in
+    row-runs (a .s) (c .before .before .places .result) (length (a .a .now)) (l .n) (after-run-length c .run-length .result) (st .pre .0) (c .before .before .places .ensures) (after-run-length c .run-length .ensures) (l .a) (l .inv .long)
 
 add-n : tie.Need-add-n Inv-loop μ-loop
-add-n c = omega (arith, c .before .before .before .before .before .run-length .ensures .fits)
+add-n c = omega (arith, after-run-length (c .before .before) .run-length .ensures .fits)
 
 loop-less : tie.Need-loop-less Inv-loop μ-loop
-loop-less c = omega (arith, c .before .before .before .before .before .run-length .ensures .some)
+loop-less c = omega (arith, after-run-length (c .before .before) .run-length .ensures .some)
 
 loop-again : tie.Need-loop-again Inv-loop μ-loop
 unfolding stageOf
 loop-again c =
-    let st = c .before .before .before .before .before .before .before .before in
+    let st = begin (after-run-length (c .before .before)) in
     let a = st .args in
-    let l = c .before .before .before .before .before .before .before .loop in
-    let m = c .before .before .before .before .before .run-length in
-    let o = c .before .before .before .before .places in
+    let l = after-run-length (c .before .before) .before .before .loop in
+    let m = after-run-length (c .before .before) .run-length in
+    let o = after-places (c .before) .places in
     let r = c .before .run in
     record {
       n-le = omega (arith, m .ensures .fits);

@@ -47,11 +47,12 @@ wrapping-add-i64-requires c κs = search needs
 
 returns : tie.Need-returns
 returns c =
-    let st = c .before .before .before .before in
+    let t = c .before .before in
+    let st = t .before .before in
     let a = st .args in
     let m = c .before .wrapping-mul-i64 in
-    let fy : SFits w64 (at (a .a .now) (getD (a .t3) (a .k) 0 + a .x)) = sfits-of (c .before .before .before .y .given) in
-    let ft : SFits w64 (at (a .t2 .taps) (a .k)) = sfits-of (c .before .before .t .given) in
+    let fy : SFits w64 (at (a .a .now) (getD (a .t3) (a .k) 0 + a .x)) = sfits-of (t .before .y .given) in
+    let ft : SFits w64 (at (a .t2 .taps) (a .k)) = sfits-of (t .t .given) in
     let fm : SFits w64 (m .result) = sfits-of (m .ok) in
     let e1 = simp (toZ-ofZ, ft, fy) at (m .ensures) in
     let e2 = simp (toZ-ofZ, st .fits .sum, fm) at (c .wrapping-add-i64 .ensures) in

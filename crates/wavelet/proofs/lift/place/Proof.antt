@@ -22,7 +22,8 @@ within-requires c κs = search needs
 returns : tie.Need-returns
 unfolding stageOf
 returns c =
-    let st = c .before .before .before in
+    let t = c .before .before in
+    let st = t .before in
     let a = st .args in
     let e : c .within .result ≡ place (stageOf (a .s)) (a .len) (a .n) (a .k) = c .within .ensures ∙ rw (c .before .monus .ensures) in
     (e, rw e (place-law (stageOf (a .s)) (a .len) (a .n) (a .k) (st .pre .0 .side) (st .pre .1 .1 .0) .inside))

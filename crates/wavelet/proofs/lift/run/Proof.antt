@@ -16,10 +16,20 @@ use Rattle.wavelet.proofs.lift.run.Tie as tie
 by-bits : (z : ℤ) (n : ℕ) → SFits w64 z → ofZ w64 z ≡ n → z ≡ toZ w64 n
 by-bits z n f e = sym (toZ-ofZ f) ∙ ap (toZ w64) e
 
+-- earlier states
+abbrev after-t : tie.Then2 → tie.After-t
+after-t c = let t = c .before .before in t .before
+
+abbrev then1 : tie.After-run-two-arg2 → tie.Then1
+then1 c = let t = c .before .before in t .before
+
+abbrev then1′ : tie.After-run-two-arg → tie.Then1
+then1′ c = let t = c .before .before in t .before
+
 -- what the test says: both taps have the same bits
-equal : (c : tie.Then2) → ofZ w64 (at (c .before .before .before .before .args .t2 .taps) 1) ≡ ofZ w64 (at (c .before .before .before .before .args .t2 .taps) 0)
+equal : (c : tie.Then2) → ofZ w64 (at (after-t c .before .args .t2 .taps) 1) ≡ ofZ w64 (at (after-t c .before .args .t2 .taps) 0)
 equal c =
-    let taps = c .before .before .before .before .args .t2 .taps in
+    let taps = after-t c .before .args .t2 .taps in
     sym (eqb-true (ofZ w64 (at taps 0)) (ofZ w64 (at taps 1)) (c .if2 .taken))
 
 fits0 : (c : tie.After-t1) → SFits w64 (at (c .before .before .args .t2 .taps) 0)
@@ -42,37 +52,39 @@ array-read-j c = search needs
 
 run-two-requires : tie.Need-run-two-requires
 run-two-requires c κs =
-    let st = c .before .before .before .before .before .before in
+    let st = after-t (c .before .before) .before in
     let a = st .args in
-    two-runs (a .t2) (pos 1) (a .t4) (c .before .before .before .if1 .taken) (a .a .now) (a .p) (a .count) (a .step) (st .pre)
+    two-runs (a .t2) (pos 1) (a .t4) (then1′ c .if1 .taken) (a .a .now) (a .p) (a .count) (a .step) (st .pre)
 
 same-length : tie.Need-same-length
 same-length c = search needs
 
 returns : tie.Need-returns
 returns c =
-    let two = c .before .before .before .before in
+    let t = c .before .before in
+    let two = t .before .before in
     let t1 = two .before .before in
     let st = t1 .before .before in
     let a = st .args in
     let s = a .t2 in
-    let one = c .before .before .before .if3 .taken in
+    let one = t .before .if3 .taken in
     c .before .run-two .ensures
     ∙ two-ran s (pos 1) (a .t4) (two .before .if1 .taken) (by-bits (at (s .taps) 0) 1 (fits0 t1) one) (by-bits (at (s .taps) 1) 1 (fits1 t1) (equal two ∙ one))
     (st .pre .legal) (a .plus) (a .p) (a .step) (a .count) (a .a .now)
 
 run-two-requires-2 : tie.Need-run-two-requires-2
 run-two-requires-2 c κs =
-    let st = c .before .before .before .before .before .before in
+    let st = after-t (c .before .before) .before in
     let a = st .args in
-    two-runs (a .t2) (toZ w64 (ofZ w64 (at (a .t2 .taps) 0))) (a .t4) (c .before .before .before .if1 .taken) (a .a .now) (a .p) (a .count) (a .step) (st .pre)
+    two-runs (a .t2) (toZ w64 (ofZ w64 (at (a .t2 .taps) 0))) (a .t4) (then1 c .if1 .taken) (a .a .now) (a .p) (a .count) (a .step) (st .pre)
 
 same-length-2 : tie.Need-same-length-2
 same-length-2 c = search needs
 
 returns-2 : tie.Need-returns-2
 returns-2 c =
-    let two = c .before .before .before .before in
+    let t = c .before .before in
+    let two = t .before .before in
     let t1 = two .before .before in
     let st = t1 .before .before in
     let a = st .args in

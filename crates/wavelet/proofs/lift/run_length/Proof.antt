@@ -11,7 +11,8 @@ add-if1 c = search needs
 
 returns : tie.Need-returns
 returns c =
-    let st = c .before .before .before in
+    let t = c .before .before in
+    let st = t .before in
     moves-one (st .args .s) (st .args .len) (st .args .n) (st .pre .1 .1)
 
 add-monus : tie.Need-add-monus
@@ -37,10 +38,14 @@ most-requires c κs = search needs
 
 returns-2 : tie.Need-returns-2
 returns-2 c =
-    let st = c .before .before .before .before .before .before .before .before .before in
+    let t = c .before .before in
+    let u = t .before .before in
+    let w = u .before .before in
+    let z = w .before .before in
+    let st = z .before in
     let a = st .args in
-    moves-more (a .s) (a .len) (a .n) (c .most .result) (st .pre .0) (st .pre .1 .1) (omega (arith, c .before .before .before .before .before .before .if1 .left))
-    (c .most .ensures ∙ rw (c .before .monus2 .ensures, c .before .before .least .ensures, c .before .before .before .monus .ensures))
+    moves-more (a .s) (a .len) (a .n) (c .most .result) (st .pre .0) (st .pre .1 .1) (omega (arith, w .if1 .left))
+    (c .most .ensures ∙ rw (c .before .monus2 .ensures, t .least .ensures, t .before .monus .ensures))
 
 pub run-length-spec : {M : Type 1} → statement M
 run-length-spec =

@@ -31,6 +31,13 @@ Inv-loop a₀ s plus o p count step i₀ a i = I a₀ (stageOf s) plus o p count
 abbrev μ-loop : tie.MeasureT-loop
 μ-loop a₀ s plus o p count step i₀ a i = count - i
 
+-- earlier states
+abbrev in-loop : tie.After-scaled Inv-loop μ-loop → tie.In-loop Inv-loop μ-loop
+in-loop c = let t = c .before .before in t .before
+
+abbrev after-tap-sum : tie.After-change Inv-loop μ-loop → tie.After-tap-sum Inv-loop μ-loop
+after-tap-sum c = let t = c .before .before in t .before
+
 writes : (c : tie.In-loop Inv-loop μ-loop) → c .before .before .args .p + c .before .before .args .step * c .before .loop .i < length (c .before .loop .a)
 writes c = rw (c .before .loop .inv .long) (c .before .before .pre .writes (c .before .loop .i) (c .loop-test .taken))
 
@@ -42,30 +49,31 @@ mul-x c = omega (arith, writes c)
 
 tap-sum-requires : tie.Need-tap-sum-requires Inv-loop μ-loop
 tap-sum-requires c κs =
-    let st = c .before .before .before in
-    let l = c .before .before .loop in
+    let t = c .before .before in
+    let st = t .before in
+    let l = t .loop in
     record { legal = st .pre .legal; long = st .pre .long; inside = λ j h. rw (l .inv .long) (st .pre .inside (l .i) j (c .before .loop-test .taken) h) }
 
 scaled-requires : tie.Need-scaled-requires Inv-loop μ-loop
-scaled-requires c κs = c .before .before .before .before .pre .legal .shift-le
+scaled-requires c κs = let t = c .before .before in t .before .before .pre .legal .shift-le
 
 add-k : tie.Need-add-k Inv-loop μ-loop
-add-k c = omega (arith, writes (c .before .before .before))
+add-k c = let t = c .before .before in omega (arith, writes (t .before))
 
 mul-v : tie.Need-mul-v Inv-loop μ-loop
-mul-v c = omega (arith, writes (c .before .before .before))
+mul-v c = let t = c .before .before in omega (arith, writes (t .before))
 
 slice-copy-out-v : tie.Need-slice-copy-out-v Inv-loop μ-loop
-slice-copy-out-v c = omega (arith, writes (c .before .before .before))
+slice-copy-out-v c = let t = c .before .before in omega (arith, writes (t .before))
 
 change-requires : tie.Need-change-requires Inv-loop μ-loop
 change-requires c κs = tt
 
 mul-y : tie.Need-mul-y Inv-loop μ-loop
-mul-y c = omega (arith, writes (c .before .before .before .before .before))
+mul-y c = omega (arith, writes (in-loop (c .before .before)))
 
 slice-set-from-y : tie.Need-slice-set-from-y Inv-loop μ-loop
-slice-set-from-y c = omega (arith, writes (c .before .before .before .before .before))
+slice-set-from-y c = omega (arith, writes (in-loop (c .before .before)))
 
 add-i : tie.Need-add-i Inv-loop μ-loop
 add-i c = omega arith
@@ -76,12 +84,12 @@ loop-less c = omega arith
 loop-again : tie.Need-loop-again Inv-loop μ-loop
 unfolding stageOf
 loop-again c =
-    let st = c .before .before .before .before .before .before .before in
-    let l = c .before .before .before .before .before .before .loop in
+    let st = in-loop (c .before .before) .before .before in
+    let l = in-loop (c .before .before) .before .loop in
     let a = st .args in
     let s = a .s in
     let x = a .step * l .i in
-    let t = c .before .before .before .tap-sum in
+    let t = after-tap-sum c .tap-sum in
     let d = c .before .before .scaled in
     let ft : SFits w64 (t .result) = sfits-of (t .ok) in
     let fd : SFits w64 (d .result) = sfits-of (d .ok) in
@@ -95,7 +103,7 @@ loop-again c =
     record {
       i-le = omega arith;
       long = simp length-set (l .inv .long);
-      now-is = ap (set (l .a) (a .p + x)) v ∙ ran-turn s (a .plus) (a .o) (a .p) (a .count) (a .step) (l .i) (a .a .now) (l .a) (st .pre) (c .before .before .before .before .before .loop-test .taken) (l .inv .now-is);
+      now-is = ap (set (l .a) (a .p + x)) v ∙ ran-turn s (a .plus) (a .o) (a .p) (a .count) (a .step) (l .i) (a .a .now) (l .a) (st .pre) (in-loop (c .before .before) .loop-test .taken) (l .inv .now-is);
     }
 
 same-length : tie.Need-same-length Inv-loop μ-loop

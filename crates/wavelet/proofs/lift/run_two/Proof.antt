@@ -30,6 +30,16 @@ Inv-loop a₀ plus t shift i j p count step n₀ a n = I a₀ (stageOf (twoTaps 
 abbrev μ-loop : tie.MeasureT-loop
 μ-loop a₀ plus t shift i j p count step n₀ a n = count - n
 
+-- earlier states
+abbrev at-loop : tie.After-v Inv-loop μ-loop → tie.At-loop Inv-loop μ-loop
+at-loop c = let t = c .before .before in t .before
+
+abbrev after-v : tie.After-scaled Inv-loop μ-loop → tie.After-v Inv-loop μ-loop
+after-v c = let t = c .before .before in t .before
+
+abbrev after-wrapping-mul-i64 : tie.After-change Inv-loop μ-loop → tie.After-wrapping-mul-i64 Inv-loop μ-loop
+after-wrapping-mul-i64 c = let t = c .before .before in t .before
+
 -- the invariant has the tap by its bits: what m updates leave is the same
 same-tap : (c : tie.Start Inv-loop μ-loop) (m : ℕ)
     → ran (stageOf (twoTaps (toZ w64 (ofZ w64 (c .args .t))) (c .args .shift))) (c .args .plus) (twoPlaces (c .args .i) (c .args .j)) (c .args .p) (c .args .step) m (c .args .a .now)
@@ -80,25 +90,25 @@ wrapping-mul-i64-requires : tie.Need-wrapping-mul-i64-requires Inv-loop μ-loop
 wrapping-mul-i64-requires c κs = tt
 
 scaled-requires : tie.Need-scaled-requires Inv-loop μ-loop
-scaled-requires c κs = c .before .before .before .before .before .before .pre .legal .shift-le
+scaled-requires c κs = at-loop (c .before .before) .before .pre .legal .shift-le
 
 add-k : tie.Need-add-k Inv-loop μ-loop
-add-k c = omega (arith, writes (c .before .before .before .before .before))
+add-k c = omega (arith, writes (after-v c .before .before))
 
 mul-w : tie.Need-mul-w Inv-loop μ-loop
-mul-w c = omega (arith, writes (c .before .before .before .before .before))
+mul-w c = omega (arith, writes (after-v c .before .before))
 
 slice-copy-out-w : tie.Need-slice-copy-out-w Inv-loop μ-loop
-slice-copy-out-w c = omega (arith, writes (c .before .before .before .before .before))
+slice-copy-out-w c = omega (arith, writes (after-v c .before .before))
 
 change-requires : tie.Need-change-requires Inv-loop μ-loop
 change-requires c κs = tt
 
 mul-y : tie.Need-mul-y Inv-loop μ-loop
-mul-y c = omega (arith, writes (c .before .before .before .before .before .before .before))
+mul-y c = omega (arith, writes (after-v (c .before .before) .before .before))
 
 slice-set-from-y : tie.Need-slice-set-from-y Inv-loop μ-loop
-slice-set-from-y c = omega (arith, writes (c .before .before .before .before .before .before .before))
+slice-set-from-y c = omega (arith, writes (after-v (c .before .before) .before .before))
 
 add-n : tie.Need-add-n Inv-loop μ-loop
 add-n c = omega arith
@@ -109,18 +119,18 @@ loop-less c = omega arith
 loop-again : tie.Need-loop-again Inv-loop μ-loop
 unfolding stageOf
 loop-again c =
-    let turn = c .before .before .before .before .before .before .before in
+    let turn = after-v (c .before .before) .before .before in
     let st = turn .before .before in
     let l = turn .before .loop in
     let a = st .args in
     let s = twoTaps (a .t) (a .shift) in
     let o = twoPlaces (a .i) (a .j) in
     let x = a .step * l .n in
-    let b = c .before .before .before .before .wrapping-add-i64 in
-    let m = c .before .before .before .wrapping-mul-i64 in
+    let b = after-wrapping-mul-i64 c .before .wrapping-add-i64 in
+    let m = after-wrapping-mul-i64 c .wrapping-mul-i64 in
     let d = c .before .before .scaled in
-    let fu : SFits w64 (at (l .a) (a .i + x)) = sfits-of (c .before .before .before .before .before .before .u .given) in
-    let fv : SFits w64 (at (l .a) (a .j + x)) = sfits-of (c .before .before .before .before .before .v .given) in
+    let fu : SFits w64 (at (l .a) (a .i + x)) = sfits-of (after-v (c .before .before) .before .u .given) in
+    let fv : SFits w64 (at (l .a) (a .j + x)) = sfits-of (after-v (c .before .before) .v .given) in
     let fb : SFits w64 (b .result) = sfits-of (b .ok) in
     let fm : SFits w64 (m .result) = sfits-of (m .ok) in
     let fd : SFits w64 (d .result) = sfits-of (d .ok) in

@@ -21,9 +21,16 @@ record Room (p pw m w have given : ℕ) : Type 0 where
   fits : p + pw ≤ have
   source : m * w + w ≤ given
 
-room : (c : tie.In-loop Inv-loop μ-loop) → Room (c .before .loop .at) (c .before .before .before .args .pw) (min (c .before .loop .n) (c .before .before .before .args .h - 1)) (c .before .before .before .args .w) (length (c .before .before .before .args .plane .now)) (length (c .before .before .before .args .samples .now))
+-- earlier states
+abbrev begin : tie.In-loop Inv-loop μ-loop → tie.Start Inv-loop μ-loop
+begin c = let t = c .before .before in t .before
+
+abbrev after-least : tie.After-plane Inv-loop μ-loop → tie.After-least Inv-loop μ-loop
+after-least c = let t = c .before .before in t .before
+
+room : (c : tie.In-loop Inv-loop μ-loop) → Room (c .before .loop .at) (begin c .args .pw) (min (c .before .loop .n) (begin c .args .h - 1)) (begin c .args .w) (length (begin c .args .plane .now)) (length (begin c .args .samples .now))
 room c =
-    let st = c .before .before .before in
+    let st = begin c in
     let a = st .args in
     let l = c .before .loop in
     let r = parts-room _ (a .plane .now) 0 (a .ph) (a .pw) (l .plane) (l .n) (l .at) (l .inv) (omega (arith, st .pre .long)) (c .loop-test .taken) in
@@ -43,7 +50,8 @@ least-requires c κs = tt
 
 mul-f : tie.Need-mul-f Inv-loop μ-loop
 mul-f c =
-    let e = ap (λ (m : ℕ). m * c .before .before .before .before .args .w) (c .least .ensures) in
+    let t = c .before .before in
+    let e = ap (λ (m : ℕ). m * t .before .before .args .w) (c .least .ensures) in
     omega (arith, e, room (c .before) .source)
 
 mul-pad-row : tie.Need-mul-pad-row Inv-loop μ-loop
@@ -60,7 +68,7 @@ part-pad-row-end c = omega (arith, room (c .before), c .before .before .loop .in
 
 pad-row-requires : tie.Need-pad-row-requires Inv-loop μ-loop
 pad-row-requires c κs =
-    let st = c .before .before .before .before .before in
+    let st = begin (c .before .before) in
     ((st .pre .some .0, rw (c .before .least .ensures) (room (c .before .before) .source)), omega arith)
 
 add-n : tie.Need-add-n Inv-loop μ-loop
@@ -71,14 +79,14 @@ loop-less c = omega arith
 
 loop-again : tie.Need-loop-again Inv-loop μ-loop
 loop-again c =
-    let st = c .before .before .before .before .before .before .before in
+    let st = begin (after-least c .before) in
     let a = st .args in
-    let l = c .before .before .before .before .before .loop in
-    let i = c .before .before .before .before in
+    let l = after-least c .before .before .loop in
+    let i = after-least c .before in
     let s = a .samples .now in
     let e = length-lent (l .at) (a .pw) (l .plane) (omega (arith, room i, l .inv .long)) in
     let f : c .before .pad-row .last .0 ≡ row (a .pw) (padded s (a .offset) (a .w) (a .h) (l .n)) =
-    c .before .pad-row .ensures ∙ ap₂ (λ (m from : ℕ). row m (paddedRow 0 s (a .offset) (a .w) (from * a .w))) e (c .before .before .before .least .ensures) in
+    c .before .pad-row .ensures ∙ ap₂ (λ (m from : ℕ). row m (paddedRow 0 s (a .offset) (a .w) (from * a .w))) e (after-least c .least .ensures) in
     lent-next (λ y. row (a .pw) (padded s (a .offset) (a .w) (a .h) y)) (a .plane .now) 0 (a .ph) (a .pw) (l .plane) (l .n) (l .at) (length-padded s (a .offset) (a .w) (a .h) (a .pw)) (l .inv) (omega (arith, st .pre .long)) (i .loop-test .taken) (c .before .pad-row .last .0) f
 
 same-length : tie.Need-same-length Inv-loop μ-loop
@@ -86,9 +94,10 @@ same-length c = c .before .loop .inv .long
 
 returns : tie.Need-returns Inv-loop μ-loop
 returns c =
-    let a = c .before .before .before .args in
+    let t = c .before .before in
+    let a = t .before .args in
     let l = c .before .loop in
-    padded-all (a .samples .now) (a .offset) (a .w) (a .h) (a .pw) (a .ph) (a .plane .now) (l .plane) (l .n) (l .at) (c .before .before .before .pre .long) (l .inv) (omega arith)
+    padded-all (a .samples .now) (a .offset) (a .w) (a .h) (a .pw) (a .ph) (a .plane .now) (l .plane) (l .n) (l .at) (t .before .pre .long) (l .inv) (omega arith)
 
 pub pad-component-spec : {M : Type 1} → statement M
 pad-component-spec =

@@ -31,9 +31,28 @@ record Room (k w have : ℕ) : Type 0 where
   inside : k < w
   fits : k < have
 
-room : (c : tie.In-loop Inv-loop μ-loop Inv-loop2 μ-loop2) → Room (c .before .loop .k) (c .before .before .before .before .args .w) (length (c .before .before .before .before .args .dst .now))
+-- earlier states
+abbrev begin : tie.At-loop Inv-loop μ-loop Inv-loop2 μ-loop2 → tie.Start Inv-loop μ-loop Inv-loop2 μ-loop2
+begin c = let t = c .before .before in t .before
+
+abbrev at-loop : tie.After-centred2 Inv-loop μ-loop Inv-loop2 μ-loop2 → tie.At-loop Inv-loop μ-loop Inv-loop2 μ-loop2
+at-loop c = let t = c .before .before in t .before
+
+abbrev at-loop′ : tie.After-centred Inv-loop μ-loop Inv-loop2 μ-loop2 → tie.At-loop Inv-loop μ-loop Inv-loop2 μ-loop2
+at-loop′ c = let t = c .before .before in t .before
+
+abbrev at-loop′′ : tie.After-raised2 Inv-loop μ-loop Inv-loop2 μ-loop2 → tie.At-loop Inv-loop μ-loop Inv-loop2 μ-loop2
+at-loop′′ c = let t = c .before .before in t .before .before
+
+abbrev in-loop : tie.After-raised Inv-loop μ-loop Inv-loop2 μ-loop2 → tie.In-loop Inv-loop μ-loop Inv-loop2 μ-loop2
+in-loop c = let t = c .before .before in t .before
+
+abbrev after-centred2 : tie.In-loop2 Inv-loop μ-loop Inv-loop2 μ-loop2 → tie.After-centred2 Inv-loop μ-loop Inv-loop2 μ-loop2
+after-centred2 c = let t = c .before .before in t .before
+
+room : (c : tie.In-loop Inv-loop μ-loop Inv-loop2 μ-loop2) → Room (c .before .loop .k) (begin (c .before) .args .w) (length (begin (c .before) .args .dst .now))
 room c =
-    let a = c .before .before .before .before .args in
+    let a = begin (c .before) .args in
     let e = c .before .before .least .ensures in
     record {
       inside = omega (arith, c .loop-test .taken, e, min-le-right (length (a .dst .now)) (a .w));
@@ -56,35 +75,35 @@ add-p : tie.Need-add-p Inv-loop μ-loop Inv-loop2 μ-loop2
 add-p c = omega (arith, room c)
 
 mul-s : tie.Need-mul-s Inv-loop μ-loop Inv-loop2 μ-loop2
-mul-s c = omega (arith, room c, c .before .before .before .before .pre)
+mul-s c = let t = c .before .before in omega (arith, room c, t .before .before .pre)
 
 shared-slice-read-s : tie.Need-shared-slice-read-s Inv-loop μ-loop Inv-loop2 μ-loop2
-shared-slice-read-s c = omega (arith, room (c .before), c .before .before .before .before .before .pre)
+shared-slice-read-s c = omega (arith, room (c .before), begin (c .before .before) .pre)
 
 centred-requires : tie.Need-centred-requires Inv-loop μ-loop Inv-loop2 μ-loop2
 centred-requires c κs = tt
 
 raised-requires : tie.Need-raised-requires Inv-loop μ-loop Inv-loop2 μ-loop2
-raised-requires c κs = c .before .before .before .before .before .before .pre .1
+raised-requires c κs = begin (at-loop′ c) .pre .1
 
 mul-y : tie.Need-mul-y Inv-loop μ-loop Inv-loop2 μ-loop2
-mul-y c = omega (arith, room (c .before .before .before))
+mul-y c = let t = c .before .before in omega (arith, room (t .before))
 
 slice-set-from-y : tie.Need-slice-set-from-y Inv-loop μ-loop Inv-loop2 μ-loop2
-slice-set-from-y c = omega (arith, room (c .before .before .before), c .before .before .before .before .loop .inv .1 .long)
+slice-set-from-y c = let t = c .before .before in omega (arith, room (t .before), t .before .before .loop .inv .1 .long)
 
 add-k : tie.Need-add-k Inv-loop μ-loop Inv-loop2 μ-loop2
-add-k c = omega (arith, room (c .before .before .before))
+add-k c = let t = c .before .before in omega (arith, room (t .before))
 
 loop-less : tie.Need-loop-less Inv-loop μ-loop Inv-loop2 μ-loop2
 loop-less c = omega arith
 
 loop-again : tie.Need-loop-again Inv-loop μ-loop Inv-loop2 μ-loop2
 loop-again c =
-    let st = c .before .before .before .before .before .before .before in
+    let st = begin (at-loop′ (c .before)) in
     let a = st .args in
-    let l = c .before .before .before .before .loop in
-    let r = room (c .before .before .before) in
+    let l = at-loop′ (c .before) .loop in
+    let r = room (in-loop c) in
     let s = a .samples .now in (
       omega arith,
       filled-next (a .bits) s (a .offset) (a .w) (a .from) (a .dst .now) (l .dst) (l .k) _ (r .fits) (l .inv .1)
@@ -102,14 +121,14 @@ centred-requires-2 : tie.Need-centred-requires-2 Inv-loop μ-loop Inv-loop2 μ-l
 centred-requires-2 c κs = tt
 
 raised-requires-2 : tie.Need-raised-requires-2 Inv-loop μ-loop Inv-loop2 μ-loop2
-raised-requires-2 c κs = c .before .before .before .before .before .before .pre .1
+raised-requires-2 c κs = begin (at-loop c) .pre .1
 
 loop2-holds : tie.Need-loop2-holds Inv-loop μ-loop Inv-loop2 μ-loop2
 loop2-holds c =
-    let st = c .before .before .before .before .before .before .before in
+    let st = begin (at-loop′′ c) in
     let a = st .args in
-    let l = c .before .before .before .before .loop in (
-      (omega arith, omega (arith, l .inv .0, c .before .before .before .before .before .least .ensures, min-le-left (length (a .dst .now)) (a .w))),
+    let l = at-loop′′ c .loop in (
+      (omega arith, omega (arith, l .inv .0, at-loop′′ c .before .least .ensures, min-le-left (length (a .dst .now)) (a .w))),
       filled-again (a .bits) (a .samples .now) (a .offset) (a .w) (a .from) (a .dst .now) (l .dst) (l .k) (l .inv .1),
     )
 
@@ -127,28 +146,28 @@ loop2-less c = omega arith
 
 loop2-again : tie.Need-loop2-again Inv-loop μ-loop Inv-loop2 μ-loop2
 loop2-again c =
-    let st = c .before .before .before .before .before .before .before .before .before in
+    let st = begin (at-loop (after-centred2 c)) in
     let a = st .args in
     let l = c .before .loop2 in
-    let l1 = c .before .before .before .before .before .before .loop in
+    let l1 = at-loop (after-centred2 c) .loop in
     let y = c .before .before .raised2 in
-    let z = c .before .before .before .centred2 in
+    let z = after-centred2 c .centred2 in
     let s = a .samples .now in
-    let past = past-samples (length (a .dst .now)) (a .w) (l .k) (omega (arith, c .before .before .before .before .before .before .before .least .ensures, l .inv .0)) (c .loop2-test .taken) in (
+    let past = past-samples (length (a .dst .now)) (a .w) (l .k) (omega (arith, at-loop (after-centred2 c) .before .least .ensures, l .inv .0)) (c .loop2-test .taken) in (
       omega arith,
       filled-next (a .bits) s (a .offset) (a .w) (a .from) (l1 .dst) (l .dst) (l .k) _ (omega (arith, l1 .inv .1 .long)) (l .inv .1)
           (toZ-ofZ (sfits-of (y .ok)) ∙ y .ensures ∙ ap (raise wrap (a .bits)) (toZ-ofZ (sfits-of (z .ok)) ∙ z .ensures) ∙ padded-behind (a .bits) s (a .offset) (a .w) (a .from) (l .k) past),
     )
 
 same-length : tie.Need-same-length Inv-loop μ-loop Inv-loop2 μ-loop2
-same-length c = c .before .loop2 .inv .1 .long ∙ c .before .before .before .before .before .before .loop .inv .1 .long
+same-length c = c .before .loop2 .inv .1 .long ∙ at-loop′′ (c .before .before) .loop .inv .1 .long
 
 returns : tie.Need-returns Inv-loop μ-loop Inv-loop2 μ-loop2
 returns c =
-    let st = c .before .before .before .before .before .before .before .before .before in
+    let st = begin (at-loop′′ (c .before .before)) in
     let a = st .args in
     let l = c .before .loop2 in
-    let l1 = c .before .before .before .before .before .before .loop in
+    let l1 = at-loop′′ (c .before .before) .loop in
     let f = paddedRow (a .bits) (a .samples .now) (a .offset) (a .w) (a .from) in
     let long = l1 .inv .1 .long in
     l .inv .1 .now-is ∙ fill-all f (l1 .dst) (l .k) (omega (arith, long)) ∙ ap (λ (n : ℕ). row n f) long

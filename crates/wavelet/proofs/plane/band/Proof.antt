@@ -19,6 +19,10 @@ record Room (to at b a jump n have : ℕ) : Type 0 where
   jumps : jump * n ≤ jump * a
   fits : to + at + b ≤ have
 
+-- earlier states
+abbrev in-loop : tie.After-work Inv-loop μ-loop → tie.In-loop Inv-loop μ-loop
+in-loop c = let t = c .before .before in t .before
+
 room : (c : tie.In-loop Inv-loop μ-loop) → Room (c .before .before .args .to) (c .before .loop .at) (c .before .before .args .b) (c .before .before .args .a) (c .before .before .args .jump) (c .before .loop .n) (length (c .before .before .args .work .now))
 room c =
     let st = c .before .before in
@@ -44,13 +48,14 @@ add-f c = omega (arith, room c, c .before .before .pre .starts)
 
 copy-into-requires : tie.Need-copy-into-requires Inv-loop μ-loop
 copy-into-requires c κs =
-    let st = c .before .before .before in
+    let t = c .before .before in
+    let st = t .before in
     let a = st .args in
-    let l = c .before .before .loop in
+    let l = t .loop in
     (band-copies (a .work .now) (a .to) (a .a) (a .b) (a .from) (a .jump) (st .pre) (l .work) (l .n) (l .at) (l .inv) (c .before .loop-test .taken), omega arith)
 
 add-at : tie.Need-add-at Inv-loop μ-loop
-add-at c = omega (arith, room (c .before .before .before))
+add-at c = let t = c .before .before in omega (arith, room (t .before))
 
 add-n : tie.Need-add-n Inv-loop μ-loop
 add-n c = omega arith
@@ -60,10 +65,10 @@ loop-less c = omega arith
 
 loop-again : tie.Need-loop-again Inv-loop μ-loop
 loop-again c =
-    let st = c .before .before .before .before .before in
+    let st = in-loop c .before .before in
     let a = st .args in
-    let l = c .before .before .before .before .loop in
-    band-turn (a .work .now) (a .to) (a .a) (a .b) (a .from) (a .jump) (st .pre) (l .work) (l .n) (l .at) (l .inv) (c .before .before .before .loop-test .taken) (c .before .copy-into .last .0) (c .before .copy-into .ensures)
+    let l = in-loop c .before .loop in
+    band-turn (a .work .now) (a .to) (a .a) (a .b) (a .from) (a .jump) (st .pre) (l .work) (l .n) (l .at) (l .inv) (in-loop c .loop-test .taken) (c .before .copy-into .last .0) (c .before .copy-into .ensures)
 
 same-length : tie.Need-same-length Inv-loop μ-loop
 same-length c = c .before .loop .inv .long

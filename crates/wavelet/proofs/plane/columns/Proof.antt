@@ -27,6 +27,13 @@ Inv-loop plane₀ h w index k₀ plane k = I plane₀ h w index plane k
 abbrev μ-loop : tie.MeasureT-loop
 μ-loop plane₀ h w index k₀ plane k = k
 
+-- earlier states
+abbrev at-loop : tie.After-lift-columns-arg Inv-loop μ-loop → tie.At-loop Inv-loop μ-loop
+at-loop c = let t = c .before .before in t .before
+
+abbrev after-stage : tie.After-plane Inv-loop μ-loop → tie.After-stage Inv-loop μ-loop
+after-stage c = let t = c .before .before in t .before
+
 stage-count-requires : tie.Need-stage-count-requires Inv-loop μ-loop
 stage-count-requires c κs = c .pre .1
 
@@ -56,8 +63,8 @@ stage-requires c κs = omega arith
 
 lift-columns-requires : tie.Need-lift-columns-requires Inv-loop μ-loop
 lift-columns-requires c κs =
-    let l = c .before .before .before .loop in
-    let p = c .before .before .before .before .before .pre .0 in
+    let l = at-loop c .loop in
+    let p = at-loop c .before .before .pre .0 in
     (record { long = l .inv .long ∙ p .long; h-le = p .h-le; w-le = p .w-le }, c .before .stage .ensures .legal)
 
 loop-less : tie.Need-loop-less Inv-loop μ-loop
@@ -65,16 +72,16 @@ loop-less c = omega arith
 
 loop-again : tie.Need-loop-again Inv-loop μ-loop
 loop-again c =
-    let st = c .before .before .before .before .before .before .before in
+    let st = at-loop (c .before .before) .before .before in
     let a = st .args in
-    let l = c .before .before .before .before .before .loop in
-    let s = c .before .before .before .stage in
+    let l = at-loop (c .before .before) .loop in
+    let s = after-stage c .stage in
     let z = c .before .lift-columns in
     record {
       k-le = omega (arith, l .inv .k-le);
       room = l .inv .room;
       long = z .kept .0 ∙ l .inv .long;
-      now-is = columns-turn (a .index) (l .k) (s .result) (a .h) (a .w) (a .plane .now) (l .plane) (z .last .0) (st .pre .1) (c .before .before .before .before .loop-test .taken) (l .inv .k-le) (s .ensures .is) (l .inv .now-is) (z .ensures);
+      now-is = columns-turn (a .index) (l .k) (s .result) (a .h) (a .w) (a .plane .now) (l .plane) (z .last .0) (st .pre .1) (after-stage c .before .loop-test .taken) (l .inv .k-le) (s .ensures .is) (l .inv .now-is) (z .ensures);
     }
 
 same-length : tie.Need-same-length Inv-loop μ-loop
@@ -82,8 +89,9 @@ same-length c = c .before .loop .inv .long
 
 returns : tie.Need-returns Inv-loop μ-loop
 returns c =
+    let t = c .before .before in
     let l = c .before .loop in
-    let a = c .before .before .before .args in
+    let a = t .before .args in
     let e : l .k ≡ 0 = omega arith in
     l .inv .now-is ∙ ap (λ (k : ℕ). asList (a .h) (a .w) (columnsBy (analysis wrap (drop k (filterOf (a .index) .stages))) (a .h) (a .w) (asPlane (a .w) (a .plane .now)))) e
 

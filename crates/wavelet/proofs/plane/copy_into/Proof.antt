@@ -34,6 +34,13 @@ Inv-loop work₀ a e to len from step bits k₀ work k = I work₀ bits (a + to)
 abbrev μ-loop : tie.MeasureT-loop
 μ-loop work₀ a e to len from step bits k₀ work k = len - k
 
+-- earlier states
+abbrev in-loop : tie.After-raised Inv-loop μ-loop → tie.In-loop Inv-loop μ-loop
+in-loop c = let t = c .before .before in t .before
+
+abbrev after-raised : tie.After-work Inv-loop μ-loop → tie.After-raised Inv-loop μ-loop
+after-raised c = let t = c .before .before in t .before
+
 loop-holds : tie.Need-loop-holds Inv-loop μ-loop
 loop-holds c = record { k-le = omega arith; long = refl; now-is = put-none _ _ }
 
@@ -45,35 +52,36 @@ add-p c = omega (arith, c .before .before .pre .0 .inside (c .before .loop .k) (
 
 number-at-requires : tie.Need-number-at-requires Inv-loop μ-loop
 number-at-requires c κs =
-    let l = c .before .before .loop in
-    rw (l .inv .long) (c .before .before .before .pre .0 .inside (l .k) (c .before .loop-test .taken))
+    let t = c .before .before in
+    let l = t .loop in
+    rw (l .inv .long) (t .before .pre .0 .inside (l .k) (c .before .loop-test .taken))
 
 raised-requires : tie.Need-raised-requires Inv-loop μ-loop
-raised-requires c κs = c .before .before .before .before .pre .1
+raised-requires c κs = let t = c .before .before in t .before .before .pre .1
 
 add-t : tie.Need-add-t Inv-loop μ-loop
-add-t c = omega (arith, c .before .before .before .before .before .pre .0)
+add-t c = omega (arith, in-loop c .before .before .pre .0)
 
 mul-store-at : tie.Need-mul-store-at Inv-loop μ-loop
-mul-store-at c = omega (arith, c .before .before .before .before .before .pre .0)
+mul-store-at c = omega (arith, in-loop c .before .before .pre .0)
 
 sub-store-at : tie.Need-sub-store-at Inv-loop μ-loop
-sub-store-at c = omega (arith, c .before .before .before .before .before .pre .0)
+sub-store-at c = omega (arith, in-loop c .before .before .pre .0)
 
 part-store-at-start : tie.Need-part-store-at-start Inv-loop μ-loop
-part-store-at-start c = omega (arith, c .before .before .before .before .before .pre .0 .part)
+part-store-at-start c = omega (arith, in-loop c .before .before .pre .0 .part)
 
 part-store-at-end : tie.Need-part-store-at-end Inv-loop μ-loop
-part-store-at-end c = omega (arith, c .before .before .before .before .before .pre .0 .part, c .before .before .before .before .loop .inv .long)
+part-store-at-end c = omega (arith, in-loop c .before .before .pre .0 .part, in-loop c .before .loop .inv .long)
 
-room : (c : tie.After-raised Inv-loop μ-loop) → c .before .before .before .before .before .args .to + c .before .before .before .before .loop .k < c .before .before .before .before .before .args .e - c .before .before .before .before .before .args .a
-room c = omega (arith, c .before .before .before .before .before .pre .0 .fits, c .before .before .before .loop-test .taken)
+room : (c : tie.After-raised Inv-loop μ-loop) → in-loop c .before .before .args .to + in-loop c .before .loop .k < in-loop c .before .before .args .e - in-loop c .before .before .args .a
+room c = omega (arith, in-loop c .before .before .pre .0 .fits, in-loop c .loop-test .taken)
 
 store-at-requires : tie.Need-store-at-requires Inv-loop μ-loop
 store-at-requires c κs =
-    let st = c .before .before .before .before .before .before in
+    let st = in-loop (c .before) .before .before in
     let a = st .args in
-    let l = c .before .before .before .before .before .loop in
+    let l = in-loop (c .before) .before .loop in
     rw (length-part (a .a) (a .e) (l .work) (st .pre .0 .part .0) (rw (l .inv .long) (st .pre .0 .part .1))) (room (c .before))
 
 add-k : tie.Need-add-k Inv-loop μ-loop
@@ -84,12 +92,12 @@ loop-less c = omega arith
 
 loop-again : tie.Need-loop-again Inv-loop μ-loop
 loop-again c =
-    let st = c .before .before .before .before .before .before .before .before in
+    let st = in-loop (after-raised c) .before .before in
     let a = st .args in
-    let l = c .before .before .before .before .before .before .before .loop in
-    let more = c .before .before .before .before .before .before .loop-test .taken in
-    let x = c .before .before .before .before .number-at in
-    let y = c .before .before .before .raised in
+    let l = in-loop (after-raised c) .before .loop in
+    let more = in-loop (after-raised c) .loop-test .taken in
+    let x = after-raised c .before .number-at in
+    let y = after-raised c .raised in
     let s = c .before .store-at in
     let w₀ = a .work .now in
     let fx : SFits w64 (x .result) = sfits-of (x .ok) in

@@ -15,7 +15,8 @@ same-length c = search needs
 
 returns : tie.Need-returns
 returns c =
-    let st = c .before .before .before in
+    let t = c .before .before in
+    let st = t .before in
     let a = st .args in
     let b = c .before .bands in
     h-bands (a .n) (a .off) (a .h) (a .w) (a .work .now) (st .pre .1) (b .last .0) (b .ensures)

@@ -20,6 +20,13 @@ record Room (at w from m have : ℕ) : Type 0 where
   front : m ≤ from
   behind : from + m ≤ have
 
+-- earlier states
+abbrev in-loop : tie.After-analyse-arg Inv-loop μ-loop → tie.In-loop Inv-loop μ-loop
+in-loop c = let t = c .before .before in t .before .before
+
+abbrev after-copy-into : tie.After-analyse Inv-loop μ-loop → tie.After-copy-into Inv-loop μ-loop
+after-copy-into c = let t = c .before .before in t .before
+
 room : (c : tie.In-loop Inv-loop μ-loop) → Room (c .before .loop .at) (c .before .before .args .w) (c .before .before .args .from) (c .before .before .args .h * c .before .before .args .w) (length (c .before .before .args .work .now))
 room c =
     let st = c .before .before in
@@ -45,15 +52,16 @@ add-f c = omega (arith, room c)
 
 copy-into-requires : tie.Need-copy-into-requires Inv-loop μ-loop
 copy-into-requires c κs =
-    let st = c .before .before .before in
+    let t = c .before .before in
+    let st = t .before in
     let a = st .args in
-    let l = c .before .before .loop in (
+    let l = t .loop in (
       rows-copies (a .index) (a .work .now) (a .from) (a .h) (a .w) (st .pre .0) (l .work) (l .n) (l .at) (l .inv) (c .before .loop-test .taken),
       rw (st .pre .1 .1) (bits-le (a .index) (st .pre .1 .0)),
     )
 
 mul-analyse : tie.Need-mul-analyse Inv-loop μ-loop
-mul-analyse c = omega (arith, room (c .before .before .before))
+mul-analyse c = let t = c .before .before in omega (arith, room (t .before))
 
 sub-analyse : tie.Need-sub-analyse Inv-loop μ-loop
 sub-analyse c = omega arith
@@ -62,15 +70,15 @@ part-analyse-start : tie.Need-part-analyse-start Inv-loop μ-loop
 part-analyse-start c = omega arith
 
 part-analyse-end : tie.Need-part-analyse-end Inv-loop μ-loop
-part-analyse-end c = omega (arith, room (c .before .before .before), c .before .before .before .before .loop .inv .long, c .before .copy-into .kept .0)
+part-analyse-end c = let t = c .before .before in omega (arith, room (t .before), t .before .before .loop .inv .long, c .before .copy-into .kept .0)
 
 analyse-requires : tie.Need-analyse-requires Inv-loop μ-loop
 analyse-requires c κs =
-    let st = c .before .before .before .before .before .before in
+    let st = in-loop c .before .before in
     let a = st .args in
-    let l = c .before .before .before .before .before .loop in
+    let l = in-loop c .before .loop in
     let g = c .before .before .copy-into in
-    let e = length-lent (l .at) (a .w) (g .last .0) (omega (arith, room (c .before .before .before .before), l .inv .long, g .kept .0)) in
+    let e = length-lent (l .at) (a .w) (g .last .0) (omega (arith, room (in-loop c), l .inv .long, g .kept .0)) in
     (st .pre .1 .0, rw e (st .pre .0 .short))
 
 add-n : tie.Need-add-n Inv-loop μ-loop
@@ -81,11 +89,11 @@ loop-less c = omega arith
 
 loop-again : tie.Need-loop-again Inv-loop μ-loop
 loop-again c =
-    let st = c .before .before .before .before .before .before .before .before in
+    let st = in-loop (c .before .before) .before .before in
     let a = st .args in
-    let l = c .before .before .before .before .before .before .before .loop in
-    rows-turn (a .index) (a .work .now) (a .from) (a .h) (a .w) (st .pre .0) (l .work) (l .n) (l .at) (l .inv) (c .before .before .before .before .before .before .loop-test .taken) (a .bits) (st .pre .1 .1)
-    (c .before .before .before .before .copy-into .last .0) (c .before .analyse .last .0) (c .before .before .before .before .copy-into .ensures) (c .before .analyse .ensures)
+    let l = in-loop (c .before .before) .before .loop in
+    rows-turn (a .index) (a .work .now) (a .from) (a .h) (a .w) (st .pre .0) (l .work) (l .n) (l .at) (l .inv) (in-loop (c .before .before) .loop-test .taken) (a .bits) (st .pre .1 .1)
+    (after-copy-into (c .before) .copy-into .last .0) (c .before .analyse .last .0) (after-copy-into (c .before) .copy-into .ensures) (c .before .analyse .ensures)
 
 same-length : tie.Need-same-length Inv-loop μ-loop
 same-length c = c .before .loop .inv .long

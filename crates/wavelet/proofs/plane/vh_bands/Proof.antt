@@ -5,6 +5,10 @@ use borrow.Author.Needs.{needs}
 use Rattle.wavelet.proofs.plane.vh_bands.Statement.{statement}
 use Rattle.wavelet.proofs.plane.vh_bands.Tie as tie
 
+-- earlier states
+abbrev after-columns : tie.After-bands → tie.After-columns
+after-columns c = let t = c .before .before in t .before
+
 mul-m : tie.Need-mul-m
 mul-m c = search needs
 
@@ -28,9 +32,10 @@ add-bands c = search needs
 
 bands-requires : tie.Need-bands-requires
 bands-requires c κs =
-    let st = c .before .before .before .before in
+    let t = c .before .before in
+    let st = t .before .before in
     let a = st .args in
-    let g = c .before .before .columns in
+    let g = t .columns in
     vh-bands (a .n) (a .off) (a .h) (a .w) (a .work .now) (st .pre .1 .0) (g .last .0) (st .pre .0) (g .kept .0)
 
 same-length : tie.Need-same-length
@@ -38,9 +43,9 @@ same-length c = search needs
 
 returns : tie.Need-returns
 returns c =
-    let st = c .before .before .before .before .before .before in
+    let st = after-columns (c .before) .before .before in
     let a = st .args in
-    let g = c .before .before .before .before .columns in
+    let g = after-columns (c .before) .columns in
     let b = c .before .bands in
     vh-bands-are (a .n) (a .off) (a .h) (a .w) (a .work .now) (st .pre .1 .0) (a .iv) (b .last .0) (g .last .0) (st .pre .0) (g .ensures) (b .ensures)
 
