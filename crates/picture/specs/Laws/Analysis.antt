@@ -16,11 +16,11 @@ use Rattle.laws.specs.Wrap.{wrap}
 use Rattle.quantiser.specs.Code.Default.{places}
 use Rattle.wavelet.specs.Planes.{Band, coefficients}
 use Rattle.wavelet.specs.Laws.Plane.{length-coefficients}
-use Rattle.wavelet.specs.Pad.{padded, componentOf}
+use Rattle.wavelet.specs.Pad.{padded}
 use Rattle.wavelet.specs.Depth.{deepest}
 use Rattle.wavelet.specs.Laws.Theorems.{component-exact}
 use Rattle.wavelet.specs.Code.Walk.{Deep}
-use Rattle.wavelet.specs.Code.Component.{ComponentsIn}
+use Rattle.wavelet.specs.Code.Component.{componentOf, ComponentsIn}
 use Rattle.wavelet.specs.declared.component.Component as below
 use Rattle.wavelet.specs.declared.component.Transform.{Transform}
 use Rattle.unit.specs.declared.Settings.{Settings}

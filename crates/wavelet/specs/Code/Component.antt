@@ -1,13 +1,21 @@
--- What the analysis of a component, and of three one after the other, asks.
+-- What the analysis of a component, and of three one after the other, gives and asks.
 use Prim.Native.Nat.{ℕ, _+_, _*_, _≤_}
 use mathlib.Core.List.{List}
 use lib.ListN.{length}
 use lib.IntN.{ℤ}
+use Rattle.laws.specs.Wrap.{wrap}
+use Rattle.wavelet.specs.Planes.{coefficients, dwt}
+use Rattle.wavelet.specs.Pad.{padded}
 use Rattle.wavelet.specs.Code.Level.{Place}
 use Rattle.wavelet.specs.Code.Walk.{Deep}
 use Rattle.wavelet.specs.declared.component.Component as Sides
 use Rattle.wavelet.specs.declared.component.Transform as Levels
 use Rattle.wavelet.specs.RowCall.{rowLimit}
+
+-- the coefficients of a component, in the stream's order, with sums that wrap: rows by filter i, columns by filter j, k
+-- horizontal-only levels and d both ways, from ph rows of pw
+abbrev pub componentOf : ℕ → ℕ → ℕ → ℕ → List ℕ → ℕ → ℕ → ℕ → ℕ → ℕ → List ℤ
+componentOf i j k d s o w h pw ph = coefficients (dwt wrap i j k d ph pw (padded s o w h))
 
 -- what the rows of a component ask: samples, and room for its padded plane
 pub record SamplesIn (s : List ℕ) (w h pw ph : ℕ) (l : List ℤ) : Type 0 where

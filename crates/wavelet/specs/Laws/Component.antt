@@ -10,7 +10,8 @@ use lib.IntN.{ℤ}
 use Rattle.laws.specs.Code.Window.{piece, put}
 use Rattle.laws.specs.Laws.Window.{length-lent, put-lent, length-put, drop-put}
 use Rattle.laws.specs.Plane.{asList}
-use Rattle.wavelet.specs.Pad.{padded, componentOf}
+use Rattle.wavelet.specs.Pad.{padded}
+use Rattle.wavelet.specs.Code.Component.{componentOf}
 use Rattle.wavelet.specs.Code.Level.{Place}
 use Rattle.wavelet.specs.Laws.Walk.{no-level}
 

@@ -17,7 +17,8 @@ use Rattle.laws.specs.Laws.Plane.{Agree}
 use Rattle.wavelet.specs.Lifting.{Keeps, exact}
 use Rattle.wavelet.specs.Planes.{Band, dwt, idwt, Padded}
 use Rattle.wavelet.specs.Depth.{deepFilter, limitBy, depthLimit}
-use Rattle.wavelet.specs.Pad.{padded, componentOf}
+use Rattle.wavelet.specs.Pad.{padded}
+use Rattle.wavelet.specs.Code.Component.{componentOf}
 use Rattle.wavelet.specs.Laws.Plane as laws
 use Rattle.wavelet.specs.Laws.PlaneBound as bound
 use Rattle.wavelet.specs.Laws.PlaneBound.{Small, AllSmall, Unwrapped, dwtGrown, Factor, times, dwt-times, levelMost, level-factor, levels-below, coefficients-small}
