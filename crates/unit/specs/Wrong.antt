@@ -39,7 +39,7 @@ use Rattle.unit.specs.LowDelay.{sliceBytes, numerator, alternated, evens
 use Rattle.unit.specs.HighQuality.{componentBits, highBits, sliceSize, shareOf, highNumbers, highIndex, indexBy, highPlan, largestNeed, scalerFrom}
 use Rattle.unit.specs.Unit.{majorVersion, numeratorOf, scalerOf, planOf, headBits, lengthOf, unitOf}
 use Rattle.unit.specs.Cut.{anyLost, isCut, cutCount}
-use Rattle.unit.specs.Outcome.{Outcome, codedOf, outcomeOf, tells}
+use Rattle.unit.specs.Outcome.{Outcome, codingRefusal, codedOf, outcomeOf, tells}
 use Rattle.unit.specs.Words.{settingsOf}
 
 -- ---- settings, as the job program's words
@@ -432,6 +432,9 @@ pub record Numbers : Type 0 where
   pub lent : first 9 (luma (128 ∷ [])) [] job ∷ first 8 (luma (128 ∷ [])) [] job ∷ first 9 (planes [] (128 ∷ []) (128 ∷ [])) [] job
       ∷ first 9 (planes (128 ∷ []) [] (128 ∷ [])) [] job ∷ first 9 (planes (128 ∷ []) (128 ∷ []) []) [] job ∷ []
       ≡ 0 ∷ 13 ∷ 12 ∷ 12 ∷ 12 ∷ []
+  -- an output as long as the unit and one byte shorter, the longest unit and one byte more
+  pub coding : codingRefusal 21 21 ∷ codingRefusal 20 21 ∷ codingRefusal 4294967296 4294967295 ∷ codingRefusal 4294967296 4294967296 ∷ []
+      ≡ 0 ∷ 14 ∷ 0 ∷ 14 ∷ []
   -- two rules that can be broken together, one behind the other: the first one counts
   pub order : firsts
       (wavelet 7 (depth 9 job) ∷ depth 9 (across 0 job) ∷ across 0 (scaler 0 job) ∷ scaler 0 (set job 0 0) ∷ set (index 256 job) 0 0
@@ -509,5 +512,6 @@ call-numbers = record {
   default = refl;
   area = refl;
   lent = refl;
+  coding = refl;
   order = refl;
 }
