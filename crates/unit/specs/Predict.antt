@@ -1,4 +1,4 @@
--- Level-0 prediction: ST 2042-1, 13.4 and 5.6.4 (the mean of three rounds down).
+-- Level-0 prediction: ST 2042-1, 13.4 and 5.6.4 (the mean).
 use mathlib.Core.List.{List, [], _∷_}
 use Prim.Native.Nat.{ℕ, zero, suc}
 use lib.IntN.{ℤ, pos, _+ℤ_}

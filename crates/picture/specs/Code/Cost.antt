@@ -34,7 +34,8 @@ kept c none n = record {
   fit = c .fit;
 }
 
-pub record Kept (c : Cost) (none : Bool) (n : ℕ) (r : Cost) : Type 0 where
+-- r is that cost
+pub record KeptTo (c : Cost) (none : Bool) (n : ℕ) (r : Cost) : Type 0 where
   pub is : r ≡ kept c none n
 
 -- a cost with one number more, whose code word has n bits: one bit is the number 0

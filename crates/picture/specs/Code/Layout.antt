@@ -10,7 +10,7 @@ use Rattle.quantiser.specs.Quant.{quantFactor, quantOffset, bandIndex}
 use Rattle.wavelet.specs.Depth.{deepest}
 use Rattle.unit.specs.Limits.{sideLimit}
 use Rattle.unit.specs.Sizes.{Size, area}
-use Rattle.unit.specs.Subbands.{levelSize}
+use Rattle.unit.specs.Subbands.{levelSize, subbandCount}
 use Rattle.unit.specs.Slices.{Grid, sliceCount, top, bottom, left, right}
 use Rattle.picture.specs.declared.slices.strip.Strip.{Strip}
 use Rattle.picture.specs.declared.slices.layout.Component.{Component}
@@ -25,7 +25,7 @@ unfoldable pub levelOf : ℕ → ℕ → ℕ
 levelOf k n = cond (leb n k) n (k + 1 + (n - 1 - k) / 3)
 
 abbrev pub bandCount : Layout → ℕ
-bandCount l = 1 + l .«depth_ho» + 3 * l .depth
+bandCount l = subbandCount (l .«depth_ho») (l .depth)
 
 abbrev pub gridIn : Layout → Grid
 gridIn l = record { down = l .down; across = l .across }
@@ -120,8 +120,8 @@ pub record StripIn (l : Layout) (c second : Component) (n from k q : ℕ) : Type
   pub slice : k < sliceCount (gridIn l)
   pub index : q ≤ 255
 
--- components that lie in the work slice w: rebuilt planes in its first a numbers, coefficients behind them up to e; the
--- two are alike
+-- components whose numbers of slice k at index q can be read from the work slice w: rebuilt planes in its first a
+-- numbers, coefficients behind them up to e, the second's with the sides of the first
 pub record RunIn (l : Layout) (c second : Component) (a e k q : ℕ) (w : List ℤ) : Type 0 where
   pub layout : LayoutIn l
   pub first : ComponentIn c

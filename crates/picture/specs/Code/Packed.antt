@@ -76,7 +76,7 @@ pub record Packable (a : ℕ) (t : Packing) (k : ℕ) : Type 0 where
 abbrev pub PackIn : List ℤ → Strip → Packing → ℕ → Type 0
 PackIn l s t k = Bounds (λ a n. Single a n l s × Packable a t k)
 
--- the numbers of all subbands of a component can be packed from place i on, before the coefficients
+-- the numbers of all subbands of a component can be packed from place i on, before its coefficients
 abbrev pub PackRunIn : Layout → Component → ℕ → ℕ → ℕ → List ℤ → Type 0
 PackRunIn l c i k q w = Bounds (λ a e. RunIn l c c a e k q w × ((l .predicted ≡ false) × (i + countOf l c k ≤ a)))
 

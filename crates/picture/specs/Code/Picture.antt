@@ -32,7 +32,7 @@ pub record Placed (p : Picture) (c : Component) : Type 0 where
   pub coefs : (p .front ≤ c .coefs) × (c .coefs + c .width * c .height ≤ p .end)
   pub rebuilt : c .rebuilt + c .width * c .height ≤ p .front
 
--- the components lie one behind the other, and the two colours are alike
+-- the components lie in the picture's parts, their rebuilt planes one behind the other, and the two colours are alike
 pub record Arranged (p : Picture) : Type 0 where
   pub layout : LayoutIn (p .layout)
   pub slices : slicesIn p ≤ sliceLimit

@@ -15,6 +15,6 @@ pub record Measured (s : Settings) : Type 0 where
   pub frame : Framed s
 
 -- z is no larger than the frame
-pub record Within (s : Settings) (z : Size) : Type 0 where
+pub record InFrame (s : Settings) (z : Size) : Type 0 where
   pub width : z .width ≤ s .«frame_width»
   pub height : z .height ≤ s .«frame_height»

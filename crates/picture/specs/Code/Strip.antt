@@ -98,7 +98,8 @@ pub record Small (a n : ℕ) (l : List ℤ) : Type 0 where
   pub few : n < 2 ^ 30
   pub order : a ≤ n
 
--- a strip whose rebuilt planes lie in the first a numbers, and whose coefficients lie behind them up to n
+-- a strip, with the factor and the offset of its index, whose rebuilt planes lie in the first a numbers, and whose
+-- coefficients lie behind them up to n
 pub record Within (a n : ℕ) (s : Strip) : Type 0 where
   pub rows : s .top ≤ s .bottom
   pub columns : s .left ≤ s .right
@@ -120,8 +121,7 @@ pub record Plain (a n : ℕ) (l : List ℤ) (s : Strip) : Type 0 where
   pub within : Within a n s
   pub plain : s .predicted ≡ false
 
--- some bounds of the work slice of which P holds: rebuilt planes or packed runs stand before front, coefficients from
--- there up to end
+-- there are bounds of the work slice of which P holds: where the front and where the coefficients end
 pub record Bounds (P : ℕ → ℕ → Type 0) : Type 0 where
   pub front : ℕ
   pub end : ℕ

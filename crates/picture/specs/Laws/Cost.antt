@@ -15,17 +15,17 @@ use Rattle.codewords.specs.Laws.Code.{codes-more, length-codeS-zero, length-cod
 use Rattle.unit.specs.Trim.{isZero, trimCons, trimmed, bitsOf, trimmedCost, fitPrefix}
 use Rattle.unit.specs.Laws.Trim.{Small, bits-most, fit-all, fit-prefix}
 use Rattle.picture.specs.declared.slices.cost.Cost.{Cost}
-use Rattle.picture.specs.Code.Cost.{fitted, kept, addLen, add1, added, addAll, noCost, Countable, Kept}
+use Rattle.picture.specs.Code.Cost.{fitted, kept, addLen, add1, added, addAll, noCost, Countable, KeptTo}
 use Rattle.picture.specs.Laws.Added.{added-one}
 
 -- ---- one number, as the code adds it
 pub kept-yes : (c : Cost) (none : Bool) (n : ℕ) → none ≡ true
-    → Kept c none n (record { room = c .room; bits = n; count = c .count + 1; «kept_bits» = c .«kept_bits»; keep = c .keep; «fit_bits» = c .«fit_bits»; fit = c .fit })
+    → KeptTo c none n (record { room = c .room; bits = n; count = c .count + 1; «kept_bits» = c .«kept_bits»; keep = c .keep; «fit_bits» = c .«fit_bits»; fit = c .fit })
 unfolding kept
 kept-yes c none n e = record { is = rw e }
 
 pub kept-no : (c : Cost) (none : Bool) (n : ℕ) → none ≡ false
-    → Kept c none n (record { room = c .room; bits = n; count = c .count + 1; «kept_bits» = n; keep = c .count + 1; «fit_bits» = c .«fit_bits»; fit = c .fit })
+    → KeptTo c none n (record { room = c .room; bits = n; count = c .count + 1; «kept_bits» = n; keep = c .count + 1; «fit_bits» = c .«fit_bits»; fit = c .fit })
 unfolding kept
 kept-no c none n e = record { is = rw e }
 

@@ -25,7 +25,7 @@ use Rattle.unit.specs.Laws.Test.{no-truth}
 use Rattle.unit.specs.Laws.Intlog2.{intlog2-least}
 use Rattle.unit.specs.Laws.Padded.{wide-few, high-few}
 use Rattle.unit.specs.Laws.Valid.{levels-few, luma-fits, colour-fits}
-use Rattle.picture.specs.Code.Sides.{Measured, Within}
+use Rattle.picture.specs.Code.Sides.{Measured, InFrame}
 use Rattle.picture.specs.Code.Matrix.{CarriedOf}
 use Rattle.wavelet.specs.RowCall.{rowLimit}
 
@@ -47,16 +47,16 @@ pub log-is : (n m : ℕ) → n ≤ 2 ^ m → m ≤ intlog2 n → m ≡ intlog2 n
 log-is n m h l = le-antisymm l (intlog2-least n .least m h)
 
 -- ---- areas
-pub luma-within : (s : Settings) (z : Size) → z ≡ lumaSize s → Within s z
+pub luma-within : (s : Settings) (z : Size) → z ≡ lumaSize s → InFrame s z
 luma-within s z e = let f = luma-fits s in rw e (record { width = f .0; height = f .1 })
 
-pub colour-within : (s : Settings) (z : Size) → z ≡ colourSize s → Within s z
+pub colour-within : (s : Settings) (z : Size) → z ≡ colourSize s → InFrame s z
 colour-within s z e =
     let f = luma-fits s in
     let c = colour-fits s in
     rw e (record { width = le-trans (c .0) (f .0); height = le-trans (c .1) (f .1) })
 
-pub padded-area-few : (s : Settings) (z : Size) → Measured s → Within s z → paddedArea s z ≤ 17179869184
+pub padded-area-few : (s : Settings) (z : Size) → Measured s → InFrame s z → paddedArea s z ≤ 17179869184
 padded-area-few s z m w =
     let k = s .«dwt_depth_ho» in
     let d = s .«dwt_depth» in

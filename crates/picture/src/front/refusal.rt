@@ -15,7 +15,7 @@ ghost use Rattle.unit.specs.Subbands.{subbandCount, paddedArea};
 ghost use Rattle.unit.specs.Rules.{first};
 ghost use Rattle.unit.specs.Refusal.{outside, anyAbove, badWavelets, badDepths, badSlices, badSizes, noTarget, badIndex, badTarget, badFrame, badMatrix, noMatrix, badArea, badPlanes, shortWork, shapeRules, rateRules, frameRules, matrixRules, memoryRules, refusalOf};
 ghost use Rattle.unit.specs.Outcome.{codingRefusal};
-ghost use Rattle.picture.specs.Code.Sides.{sizeIn, Measured, Within};
+ghost use Rattle.picture.specs.Code.Sides.{sizeIn, Measured, InFrame};
 ghost use Rattle.unit.specs.Three.{planes};
 
 // The number of the first rule of 1 to 13 that is broken, 0 where none is. The rules stand in groups, and each is a
@@ -294,7 +294,7 @@ fn no_matrix(s: Settings) -> bool
 
 // The area of a padded component; rules 2 and 8 bound the depths and the frame.
 fn padded_area(s: Settings, z: Sides) -> u64
-    requires { ⌜ Measured s × Within s (sizeIn z) ⌝ }
+    requires { ⌜ Measured s × InFrame s (sizeIn z) ⌝ }
     ensures { λ r. ⌜ (r ≡ paddedArea s (sizeIn z)) × (r ≤ 17179869184) ⌝ }
 {
     area(padded_size(s, z))

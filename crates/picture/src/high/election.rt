@@ -11,14 +11,14 @@ ghost use Rattle.unit.specs.declared.PictureKind.the-variants.{HighQuality};
 ghost use Rattle.unit.specs.Limits.{areaLimit, lastIndex};
 ghost use Rattle.unit.specs.Elect.{elect};
 ghost use Rattle.unit.specs.HighQuality.{fitsBy};
-ghost use Rattle.picture.specs.Code.Layout.{RunIn};
+ghost use Rattle.picture.specs.Code.Layout.{RunLies};
 ghost use Rattle.picture.specs.Code.Picture.{slicesIn, runOf, numbersIn, SliceIn};
 ghost use Rattle.picture.specs.Code.Tally.{trimmedOf};
 ghost use Rattle.picture.specs.Code.Choice.{indexIn, TermsIn, PlanIn};
 
 // The run of a component of slice k at index q, without its trailing zeros.
 fn trimmed_run(work: &[i64], p: Picture, c: Component, k: u32, q: u32) -> Trimmed
-    requires { ⌜ RunIn (p .layout) c c (p .front) (p .end) k q (now work) × (c .width * c .height ≤ areaLimit) ⌝ }
+    requires { ⌜ RunLies (p .layout) c c k q (now work) × (c .width * c .height ≤ areaLimit) ⌝ }
     ensures { λ r. ⌜ r ≡ trimmedOf (runOf (now (work .entry)) p c k q) ⌝ }
 {
     let l = p.layout;

@@ -10,7 +10,7 @@ ghost use Prim.Native.Nat.{_*_, _-_, _≤_, _<_};
 ghost use lib.Dec.{leb, ltb};
 ghost use Rattle.unit.specs.Limits.{areaLimit};
 ghost use Rattle.picture.specs.Code.Strip.{Small};
-ghost use Rattle.picture.specs.Code.Layout.{bandCount, windowOf, restNumbers, RunIn};
+ghost use Rattle.picture.specs.Code.Layout.{bandCount, windowOf, restNumbers, RunLies};
 ghost use Rattle.picture.specs.Code.Picture.{slicesIn, SliceIn, Arranged};
 ghost use Rattle.picture.specs.Code.Tally.{trimmedOf};
 ghost use Rattle.picture.specs.Code.Low.{rebuiltIn, lowFitsIn};
@@ -101,7 +101,7 @@ fn rest_run(
     q: u32,
     v: Window,
 ) -> Trimmed
-    requires { ⌜ RunIn (p .layout) c second (p .front) (p .end) k q (now work) × ((c .width * c .height ≤ areaLimit) × (v ≡ windowOf (p .layout) c 0 k)) ⌝ }
+    requires { ⌜ RunLies (p .layout) c second k q (now work) × ((c .width * c .height ≤ areaLimit) × (v ≡ windowOf (p .layout) c 0 k)) ⌝ }
     ensures { λ r. ⌜ r ≡ trimmedOf (restNumbers (now (work .entry)) (p .layout) c second pair k q (bandCount (p .layout) - 1)) ⌝ }
 {
     let none = Tally {

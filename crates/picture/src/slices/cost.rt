@@ -3,7 +3,7 @@ use crate::slices::strip::Strip;
 ghost use mathlib.Core.Path.{_≡_};
 ghost use Prim.Native.Nat.{_*_, _-_, _≤_, _<_, _^_};
 ghost use Rattle.picture.specs.Code.Strip.{secondNumber, placeNumbers, rowNumbers, stripNumbers, Inside, Lies};
-ghost use Rattle.picture.specs.Code.Cost.{noCost, fitted, addLen, addAll, Countable, Kept};
+ghost use Rattle.picture.specs.Code.Cost.{noCost, fitted, addLen, addAll, Countable, KeptTo};
 
 // The bits and the count of the numbers so far, the same up to the last number that is not 0, and of the longest run
 // from the start that takes at most room bits.
@@ -35,7 +35,7 @@ pub(crate) fn no_cost(room: u64) -> Cost
 // A cost with one number more, which ends at bits. The kept run reaches it unless it is 0 (none).
 fn keep_to(c: Cost, none: bool, bits: u64) -> Cost
     requires { ⌜ c .count < 2 ^ 41 ⌝ }
-    ensures { λ r. ⌜ Kept c none bits r ⌝ }
+    ensures { λ r. ⌜ KeptTo c none bits r ⌝ }
 {
     if none {
         Cost {

@@ -15,7 +15,7 @@ pub(crate) struct Tally {
     pub keep: usize,
 }
 
-// A component's run without its trailing zeros: how many numbers, and their bits.
+// A run without its trailing zeros: how many numbers, and their bits.
 pub(crate) struct Trimmed {
     pub count: usize,
     pub bits: u64,

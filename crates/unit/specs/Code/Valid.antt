@@ -6,6 +6,7 @@ use mathlib.Core.Option.{Option, none, some}
 use Prim.Native.Nat.{ℕ, _+_, _*_, _≤_}
 use lib.IntN.{ℤ}
 use lib.ListN.{length}
+use Rattle.wavelet.specs.RowCall.{rowLimit}
 use Rattle.unit.specs.declared.Settings.{Settings}
 use Rattle.unit.specs.declared.PictureKind.{PictureKind}
 use Rattle.unit.specs.declared.PictureKind.the-variants.{LowDelay, HighQuality}
@@ -83,6 +84,6 @@ pub record Valid (s : Settings) (m : List ℕ) (p : Three (List ℕ)) (work : Li
 pub record Sized (s : Settings) (z : Size) : Type 0 where
   pub width : Between sideLimit (z .width)
   pub height : Between sideLimit (z .height)
-  pub padded-width : Between 65536 (paddedSize (s .«dwt_depth_ho») (s .«dwt_depth») z .width)
-  pub padded-height : Between 65536 (paddedSize (s .«dwt_depth_ho») (s .«dwt_depth») z .height)
+  pub padded-width : Between rowLimit (paddedSize (s .«dwt_depth_ho») (s .«dwt_depth») z .width)
+  pub padded-height : Between rowLimit (paddedSize (s .«dwt_depth_ho») (s .«dwt_depth») z .height)
   pub padded-area : Between areaLimit (paddedArea s z)

@@ -1,5 +1,7 @@
 -- `high::election::fits` meets its contract.
 use native.Mathlib.Omega.{arith}
+use Rattle.picture.specs.Laws.Layout.{run-lies}
+use Rattle.picture.specs.Laws.Picture.{run-y}
 use Rattle.picture.specs.Laws.HighIndex.{run-bits, alone-not}
 use borrow.Author.Needs.{needs}
 use Rattle.picture.proofs.high.election.fits.Statement.{statement}
@@ -16,7 +18,7 @@ abbrev after-trimmed-run : tie.Then1 → tie.After-trimmed-run
 after-trimmed-run c = let t = c .before .before in t .before
 
 trimmed-run-requires : tie.Need-trimmed-run-requires
-trimmed-run-requires c κs = search needs
+trimmed-run-requires c κs = let h = c .before .pre .0 in (run-lies (run-y h), h .arranged .y .area)
 
 needs-of-requires : tie.Need-needs-of-requires
 needs-of-requires c κs =

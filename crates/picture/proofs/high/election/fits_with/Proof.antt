@@ -1,4 +1,6 @@
 -- `high::election::fits_with` meets its contract.
+use Rattle.picture.specs.Laws.Layout.{run-lies}
+use Rattle.picture.specs.Laws.Picture.{run-c1, run-c2}
 use Rattle.picture.specs.Laws.HighIndex.{bits-few, fits-by}
 use borrow.Author.Needs.{needs}
 use Rattle.picture.proofs.high.election.fits_with.Statement.{statement}
@@ -17,10 +19,13 @@ abbrev after-trimmed-run : tie.After-slice-size → tie.After-trimmed-run
 after-trimmed-run c = let t = c .before .before in t .before
 
 trimmed-run-requires : tie.Need-trimmed-run-requires
-trimmed-run-requires c κs = search needs
+trimmed-run-requires c κs = let h = c .before .before .pre .0 in (run-lies (run-c1 h), h .arranged .c1 .area)
 
 trimmed-run-requires-2 : tie.Need-trimmed-run-requires-2
-trimmed-run-requires-2 c κs = search needs
+trimmed-run-requires-2 c κs =
+    let t = c .before .before in
+    let h = t .before .pre .0 in
+    (run-lies (run-c2 h), h .arranged .c2 .area)
 
 needs-of-requires : tie.Need-needs-of-requires
 needs-of-requires c κs =

@@ -4,7 +4,7 @@ use mathlib.Core.Bool.{false}
 use native.Mathlib.Omega.{arith}
 use Rattle.picture.specs.Laws.Tally.{tally-keeps, tally-trimmed, TallyOf}
 use Rattle.picture.specs.Code.Picture.{runOf}
-use Rattle.picture.specs.Laws.Layout.{run-lies, run-window, first-addable, tally-whole}
+use Rattle.picture.specs.Laws.Layout.{run-window, first-addable, tally-whole}
 use Rattle.picture.proofs.high.election.trimmed_run.Statement.{statement}
 use Rattle.picture.proofs.high.election.trimmed_run.Tie as tie
 
@@ -19,17 +19,17 @@ whole c =
     tally-whole (a .work .now) (a .p .layout) (a .c) (a .c) false (a .k) (a .q) (c .rest-tally .result) (c .before .first-tally .result) (c .before .first-tally .ensures) (c .rest-tally .ensures)
 
 window-at-requires : tie.Need-window-at-requires
-window-at-requires c κs = run-window (c .before .pre .0) 0 (omega arith)
+window-at-requires c κs = run-window (c .before .pre .0 .holds) 0 (omega arith)
 
 first-tally-requires : tie.Need-first-tally-requires
-first-tally-requires c κs = let h = c .before .before .pre in (run-lies (h .0), (h .1, c .window-at .ensures))
+first-tally-requires c κs = let h = c .before .before .pre in (h .0, (h .1, c .window-at .ensures))
 
 rest-tally-requires : tie.Need-rest-tally-requires
 rest-tally-requires c κs =
     let t = c .before .before in
     let st = t .before in
     let a = st .args in
-    (run-lies (st .pre .0), (first-addable (a .work .now) (a .p .layout) (a .c) (a .c) false (a .k) (a .q) (st .pre .0) (st .pre .1) (c .first-tally .result) (c .first-tally .ensures), c .before .window-at .ensures))
+    (st .pre .0, (first-addable (a .work .now) (a .p .layout) (a .c) (a .c) false (a .k) (a .q) (st .pre .0 .holds) (st .pre .1) (c .first-tally .result) (c .first-tally .ensures), c .before .window-at .ensures))
 
 trimmed-of-requires : tie.Need-trimmed-of-requires
 trimmed-of-requires c κs = tally-keeps (whole c)

@@ -2,7 +2,6 @@
 use mathlib.Core.Path.{_∙_}
 use Prim.Native.Nat.{_-_}
 use Rattle.picture.specs.Code.Layout.{restNumbers, bandCount}
-use Rattle.picture.specs.Laws.Layout.{run-lies}
 use Rattle.picture.specs.Laws.Tally.{TallyOf, tally-of, tally-keeps, tally-trimmed}
 use native.Mathlib.Omega.{arith}
 use Rattle.picture.proofs.low.trial.rest_run.Statement.{statement}
@@ -16,7 +15,7 @@ whole c = tally-of _ (c .rest-tally .result) (c .rest-tally .ensures)
 rest-tally-requires : tie.Need-rest-tally-requires
 rest-tally-requires c κs =
     let h = c .before .pre in
-    (run-lies (h .0), (record { bits = omega arith; count = omega (arith, h .1 .0) }, h .1 .1))
+    (h .0, (record { bits = omega arith; count = omega (arith, h .1 .0) }, h .1 .1))
 
 trimmed-of-requires : tie.Need-trimmed-of-requires
 trimmed-of-requires c κs = tally-keeps (whole c)
