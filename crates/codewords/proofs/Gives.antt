@@ -42,14 +42,14 @@ use denote.Triple.End.{Kepts}
 use denote.Triple.Walked.{Stays, stay_none, gave_slice}
 use denote.Exit.{yes}
 use Rattle.codewords.specs.declared.writer.BitWriter.{BitWriter}
-use Rattle.codewords.proofs.Lends.{slice-ty, covered, from_at, out, outVal, ref}
+use Rattle.codewords.proofs.Lends.{slice_ty, covered, from_at, out, out_val, ref}
 use Rattle.codewords.proofs.Lends.{Takes as TakesOut}
 use Rattle.codewords.specs.contracts.writer.BitWriter as T
 use Rattle.codewords.proofs.writer.BitWriter.TheLaws as T'
 
 -- ---- the MIR
-abbrev pub lent-ty : Ty
-lent-ty = ty_ref erased mut (ty_named ((T.struct).name, []))
+abbrev pub lent_ty : Ty
+lent_ty = ty_ref erased mut (ty_named ((T.struct).name, []))
 
 -- the places of the writer lent, of the callee's result, of the output's address, of the output and of the writer's
 -- address are s, u, a, k and m
@@ -67,8 +67,8 @@ function f τs xs n s u a k m = record {
   lifetimes = 1;
   outlives = [];
   params = n;
-  locals = local T'.mir value_local ∷ local (slice-ty (named 0)) value_local ∷ local T'.mir value_local ∷ (map (λ τ. local τ value_local) τs
-      ++ (local T'.mir memory_slot ∷ local ty_unit value_local ∷ local (ty_ref erased mut (ty_int w8)) value_local ∷ local (slice-ty erased) value_local ∷ local lent-ty value_local ∷ []));
+  locals = local T'.mir value_local ∷ local (slice_ty (named 0)) value_local ∷ local T'.mir value_local ∷ (map (λ τ. local τ value_local) τs
+      ++ (local T'.mir memory_slot ∷ local ty_unit value_local ∷ local (ty_ref erased mut (ty_int w8)) value_local ∷ local (slice_ty erased) value_local ∷ local lent_ty value_local ∷ []));
   body = body f xs s u a k m;
 }
 
@@ -121,7 +121,7 @@ module _ {M : Type 1} (𝓤 : Ura M) (κ : Lft) (q : Share) (b o : ℕ) (γ : GN
     module _ (P : Fml) (made : ent 𝓤 (emp 𝓤) (sem 𝓛 P)) where
       pub enters : (l α : ℕ) (δ : GName)
           → ent 𝓤 (mean 𝓛 (Takes l α δ)) (sep 𝓤 (sep 𝓤 (A.lft κ q) (sep 𝓤 (A.lft (α ∷ []) full_share) (sem 𝓛 ftrue)))
-          (sem 𝓛 (fsep ((MutSlice (named 0) κ u8).own_val (out b o γ ys) (outVal b o ys ∷ [])) (fsep ((MutRef (named 1) (α ∷ []) T.the_row).own_val (ref l zero δ h) (vptr l zero ∷ [])) P))))
+          (sem 𝓛 (fsep ((MutSlice (named 0) κ u8).own_val (out b o γ ys) (out_val b o ys ∷ [])) (fsep ((MutRef (named 1) (α ∷ []) T.the_row).own_val (ref l zero δ h) (vptr l zero ∷ [])) P))))
       enters l α δ =
           qed 𝓛 (Takes l α δ ∷ []) ∵ split ! $ split ! $ split ! $ move ! (3 ∷ []) $ split ! $ move ! (0 ∷ 3 ∷ []) $ join ! $ move ! (2 ∷ 0 ∷ []) $ join ! $ frame ! $
           use0 𝓛 (‵ P) made $ move ! (1 ∷ 0 ∷ []) $ fjoin ! $ move ! (1 ∷ 0 ∷ []) $ fjoin ! $ done !
@@ -134,21 +134,21 @@ module _ {M : Type 1} (𝓤 : Ura M) (κ : Lft) (q : Share) (b o : ℕ) (γ : GN
 
     module _ (Q : Type 0) (rest : Fml) (post : List ℕ → BitWriter → Type 0) (f : Name) (C : Calls 𝓤 H) (Λ : Loops 𝓤 H) (fm : FmC 𝓤 H 𝓛.laws C) (Kf : Val → SProp 𝓤) (l₀ l₁ l₂ : ℕ) (E' : Env 𝓤 H) where
       abbrev E : Env 𝓤 H
-      E = (T'.mir, l₀) ∷ (slice-ty (named 0), l₁) ∷ (T'.mir, l₂) ∷ E'
+      E = (T'.mir, l₀) ∷ (slice_ty (named 0), l₁) ∷ (T'.mir, l₂) ∷ E'
 
-      module _ (s u a k m : ℕ) (lₛ lᵤ lₐ lₖ lₘ : ℕ) (eₛ : get_or E s (no_local 𝓤 H) ≡ (T'.mir, lₛ)) (eᵤ : get_or E u (no_local 𝓤 H) ≡ (ty_unit, lᵤ)) (eₐ : get_or E a (no_local 𝓤 H) ≡ (ty_ref erased mut (ty_int w8), lₐ)) (eₖ : get_or E k (no_local 𝓤 H) ≡ (slice-ty erased, lₖ)) (eₘ : get_or E m (no_local 𝓤 H) ≡ (lent-ty, lₘ)) where
+      module _ (s u a k m : ℕ) (lₛ lᵤ lₐ lₖ lₘ : ℕ) (eₛ : get_or E s (no_local 𝓤 H) ≡ (T'.mir, lₛ)) (eᵤ : get_or E u (no_local 𝓤 H) ≡ (ty_unit, lᵤ)) (eₐ : get_or E a (no_local 𝓤 H) ≡ (ty_ref erased mut (ty_int w8), lₐ)) (eₖ : get_or E k (no_local 𝓤 H) ≡ (slice_ty erased, lₖ)) (eₘ : get_or E m (no_local 𝓤 H) ≡ (lent_ty, lₘ)) where
         -- from the first statement to where the locals are freed: `args` reads the plain arguments, and Δ has their
         -- cells and what ends each local
         pub middle : (P : Fml) (xs : List Operand) (us : List Val) (Δ : List (Item 𝓤)) → SliceRoom u8 (length ys)
-            → ((α : ℕ) (δ : GName) → ent 𝓤 (mean 𝓛 (Takes lₛ α δ)) (C f (outVal b o ys ∷ vptr lₛ zero ∷ us) (λ w. mean 𝓛 (Gives lₛ α δ Q rest post w))))
+            → ((α : ℕ) (δ : GName) → ent 𝓤 (mean 𝓛 (Takes lₛ α δ)) (C f (out_val b o ys ∷ vptr lₛ zero ∷ us) (λ w. mean 𝓛 (Gives lₛ α δ Q rest post w))))
             → ((i₀ i₁ i₂ i₃ i₄ i₅ i₆ i₇ i₈ : Item 𝓤) → Opds (Go {0}) 𝓛 (i₀ ∷ i₁ ∷ i₂ ∷ i₃ ∷ i₄ ∷ i₅ ∷ i₆ ∷ i₇ ∷ i₈ ∷ Δ) E xs us)
             → ((r : BitWriter) (zs : List ℕ) → Is T.the_row r (T'.lowered r ∷ []) → post zs r → length zs ≡ length ys
             → Seq (Go {0}) 𝓛 (‵ ftrue ∷ ‵ (flft κ q) ∷ ‵ (finally u8 γ zs)
-            ∷ ‵ (froom T'.mir lₛ zero) ∷ ‵ (froom lent-ty lₘ zero) ∷ ‵ (froom (slice-ty erased) lₖ zero) ∷ ‵ (froom (ty_ref erased mut (ty_int w8)) lₐ zero) ∷ ‵ (froom ty_unit lᵤ zero)
-            ∷ ‵ (froom (slice-ty (named 0)) l₁ zero) ∷ ‵ (froom T'.mir l₂ zero) ∷ ‵ (froom T'.mir l₀ zero) ∷ Δ) (frees E (prop (Kf (T'.lowered r)))))
-            → Seq (Go {0}) 𝓛 ((‵ (flft κ q) ⊛ ‵ ftrue) ∷ ‵ (fsep ((MutSlice (named 0) κ u8).own_val (out b o γ ys) (outVal b o ys ∷ [])) (fsep ((T.the_row).own_val h (T'.lowered h ∷ [])) P))
-            ∷ ‵ (froom lent-ty lₘ zero) ∷ ‵ (froom (slice-ty erased) lₖ zero) ∷ ‵ (froom (ty_ref erased mut (ty_int w8)) lₐ zero) ∷ ‵ (froom ty_unit lᵤ zero) ∷ ‵ (froom T'.mir lₛ zero)
-            ∷ ‵ (fat full_share (slice-ty (named 0)) l₁ zero (outVal b o ys)) ∷ ‵ (fat full_share T'.mir l₂ zero (T'.lowered h)) ∷ ‵ (froom T'.mir l₀ zero) ∷ Δ) (runs C Λ E (body f xs s u a k m) (at_ret E Kf))
+            ∷ ‵ (froom T'.mir lₛ zero) ∷ ‵ (froom lent_ty lₘ zero) ∷ ‵ (froom (slice_ty erased) lₖ zero) ∷ ‵ (froom (ty_ref erased mut (ty_int w8)) lₐ zero) ∷ ‵ (froom ty_unit lᵤ zero)
+            ∷ ‵ (froom (slice_ty (named 0)) l₁ zero) ∷ ‵ (froom T'.mir l₂ zero) ∷ ‵ (froom T'.mir l₀ zero) ∷ Δ) (frees E (prop (Kf (T'.lowered r)))))
+            → Seq (Go {0}) 𝓛 ((‵ (flft κ q) ⊛ ‵ ftrue) ∷ ‵ (fsep ((MutSlice (named 0) κ u8).own_val (out b o γ ys) (out_val b o ys ∷ [])) (fsep ((T.the_row).own_val h (T'.lowered h ∷ [])) P))
+            ∷ ‵ (froom lent_ty lₘ zero) ∷ ‵ (froom (slice_ty erased) lₖ zero) ∷ ‵ (froom (ty_ref erased mut (ty_int w8)) lₐ zero) ∷ ‵ (froom ty_unit lᵤ zero) ∷ ‵ (froom T'.mir lₛ zero)
+            ∷ ‵ (fat full_share (slice_ty (named 0)) l₁ zero (out_val b o ys)) ∷ ‵ (fat full_share T'.mir l₂ zero (T'.lowered h)) ∷ ‵ (froom T'.mir l₀ zero) ∷ Δ) (runs C Λ E (body f xs s u a k m) (at_ret E Kf))
         middle P xs us Δ room met args next =
             move ! (1 ∷ []) $ fsplit ! $ move ! (1 ∷ []) $ drop ! $
             -- [the output; its token; the writer's address; the output's copy; its address; the callee's result; the
@@ -163,7 +163,7 @@ module _ {M : Type 1} (𝓤 : Ura M) (κ : Lft) (q : Share) (b o : ℕ) (γ : GN
             -- [the writer; the lender's part; its token; the output; its token; the writer's address; …]
             move ! (2 ∷ 0 ∷ []) $ join ! $ move ! (3 ∷ 2 ∷ []) $ join ! $ join ! $
             -- the call
-            calls_from ! fm (Takes lₛ α δ) (outVal b o ys ∷ vptr lₛ zero ∷ us) (λ w. mean 𝓛 (Gives lₛ α δ Q rest post w)) (met α δ) (and_then ! (load ! (from_at ! eₖ (stop !)) (look ! 3 refl)) (and_then ! (load ! (from_at ! eₘ (stop !)) (look ! 2 refl)) (args _ _ _ _ _ _ _ _ _))) (λ w.
+            calls_from ! fm (Takes lₛ α δ) (out_val b o ys ∷ vptr lₛ zero ∷ us) (λ w. mean 𝓛 (Gives lₛ α δ Q rest post w)) (met α δ) (and_then ! (load ! (from_at ! eₖ (stop !)) (look ! 3 refl)) (and_then ! (load ! (from_at ! eₘ (stop !)) (look ! 2 refl)) (args _ _ _ _ _ _ _ _ _))) (λ w.
             use1 𝓛 (Gives lₛ α δ Q rest post w) (id⊢ 𝓤 _) $ await ! tt $ pick ! (λ z. split ! $ move ! (1 ∷ []) $ pick ! (λ zs. split ! $ move ! (1 ∷ []) $ heard ! (post zs.0 zs.1.0) (λ p. fsplit ! $ fsplit ! $ move ! (1 ∷ []) $ feq_l ! (λ l.
             move ! (1 ∷ []) $ fsplit ! $ move ! (1 ∷ []) $ drop ! $ move ! (2 ∷ []) $ split ! $ move ! (1 ∷ []) $ feq_l ! (λ e.
             -- [the tokens; the writer's last value; the output's; the lender's part; the writer's address; …]

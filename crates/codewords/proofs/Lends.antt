@@ -65,21 +65,21 @@ pub record Arg : Type 1 where
 abbrev pub row : Arg → RattleType
 row R = plain_type R.X R.coded (R.ty ∷ []) R.holds
 
-abbrev pub bool-arg : Arg
-bool-arg = record { X = Bool; coded = coded_bool; ty = ty_bool; holds = Boolean.own; pure = λ _ _. tt; val = vbool; tells = bool_Tells; typed = λ x is. (tt, tt) }
+abbrev pub bool_arg : Arg
+bool_arg = record { X = Bool; coded = coded_bool; ty = ty_bool; holds = Boolean.own; pure = λ _ _. tt; val = vbool; tells = bool_Tells; typed = λ x is. (tt, tt) }
 
-abbrev pub uint-arg : Width → Arg
-uint-arg w = record { X = ℕ; coded = coded_ℕ; ty = ty_int w; holds = (UInt w).own_val; pure = λ _ _. (tt, tt); val = vint w; tells = uint_Tells w; typed = λ x is. (eqb_refl (bytes w), record { fits = is.1 }) }
+abbrev pub uint_arg : Width → Arg
+uint_arg w = record { X = ℕ; coded = coded_ℕ; ty = ty_int w; holds = (UInt w).own_val; pure = λ _ _. (tt, tt); val = vint w; tells = uint_Tells w; typed = λ x is. (eqb_refl (bytes w), record { fits = is.1 }) }
 
-abbrev pub sint-arg : Width → Arg
-sint-arg w = record { X = ℤ; coded = coded_ℤ; ty = ty_int w; holds = (SInt w).own_val; pure = λ _ _. (tt, tt); val = λ x. vint w (of_z w x); tells = sint_Tells w; typed = λ x is. (eqb_refl (bytes w), of_z_fits w x (record { sfits = is.1 })) }
+abbrev pub sint_arg : Width → Arg
+sint_arg w = record { X = ℤ; coded = coded_ℤ; ty = ty_int w; holds = (SInt w).own_val; pure = λ _ _. (tt, tt); val = λ x. vint w (of_z w x); tells = sint_Tells w; typed = λ x is. (eqb_refl (bytes w), of_z_fits w x (record { sfits = is.1 })) }
 
 -- ---- the MIR
-abbrev pub slice-ty : Lifetime → Ty
-slice-ty ℓ = ty_struct (38 ∷ 91 ∷ 93 ∷ []) (tcons (ty_ref ℓ mut (ty_int w8)) (tcons (ty_int w64) tnil))
+abbrev pub slice_ty : Lifetime → Ty
+slice_ty ℓ = ty_struct (38 ∷ 91 ∷ 93 ∷ []) (tcons (ty_ref ℓ mut (ty_int w8)) (tcons (ty_int w64) tnil))
 
-abbrev pub ref-ty : Ty
-ref-ty = ty_ref (named 1) mut (ty_named ((T.struct).name, []))
+abbrev pub ref_ty : Ty
+ref_ty = ty_ref (named 1) mut (ty_named ((T.struct).name, []))
 
 -- the places of the result, of the output's address, of the output and of the writer's copy are r, a, s and c
 abbrev pub body : Name → List Operand → ℕ → ℕ → ℕ → ℕ → Body
@@ -96,8 +96,8 @@ function f τs xs n r a s c = record {
   lifetimes = 2;
   outlives = [];
   params = n;
-  locals = local ty_unit value_local ∷ local (slice-ty (named 0)) value_local ∷ local ref-ty value_local ∷ (map (λ τ. local τ value_local) τs
-      ++ (local T'.mir value_local ∷ local (ty_ref erased mut (ty_int w8)) value_local ∷ local (slice-ty erased) value_local ∷ local T'.mir value_local ∷ []));
+  locals = local ty_unit value_local ∷ local (slice_ty (named 0)) value_local ∷ local ref_ty value_local ∷ (map (λ τ. local τ value_local) τs
+      ++ (local T'.mir value_local ∷ local (ty_ref erased mut (ty_int w8)) value_local ∷ local (slice_ty erased) value_local ∷ local T'.mir value_local ∷ []));
   body = body f xs r a s c;
 }
 
@@ -130,8 +130,8 @@ module _ {M : Type 1} {𝓤 : Ura M} {𝓛 : Logic 𝓤} {K : Type 0} {Γ : List
 abbrev pub out : ℕ → ℕ → GName → List ℕ → MutBor (List ℕ)
 out b o γ ys = record { ref_ptr = (b, o); ghost_name = γ; now = ys }
 
-abbrev pub outVal : ℕ → ℕ → List ℕ → Val
-outVal b o ys = slice_val (b, o) (length ys)
+abbrev pub out_val : ℕ → ℕ → List ℕ → Val
+out_val b o ys = slice_val (b, o) (length ys)
 
 abbrev pub ref : ℕ → ℕ → GName → BitWriter → MutBor BitWriter
 ref b o γ h = record { ref_ptr = (b, o); ghost_name = γ; now = h }
@@ -140,7 +140,7 @@ module _ {M : Type 1} (𝓤 : Ura M) (κ : Lft) (q : Share) (b' o' : ℕ) (γ' :
   -- what the callee takes, and what it gives: L is the type of the last values, and `rest` what is said of those of the
   -- plain arguments
   abbrev pub Takes : Item 𝓤
-  Takes = (‵ (flft κ q) ⊛ ‵ ftrue) ⊛ ‵ ((MutSlice (named 0) κ u8).own_val (out b' o' γ' ys) (outVal b' o' ys ∷ []))
+  Takes = (‵ (flft κ q) ⊛ ‵ ftrue) ⊛ ‵ ((MutSlice (named 0) κ u8).own_val (out b' o' γ' ys) (out_val b' o' ys ∷ []))
 
   abbrev pub Gives : (L : Type 0) (last : L → List ℕ) (rest : L → Fml) (post : List ℕ → BitWriter → Type 0) → Val → Item 𝓤
   Gives L last rest post w = later (some (λ (r : BitWriter). ((‵ (flft κ q) ⊛ ‵ ftrue) ⊛ ‵ ((T.the_row).own_val r (w ∷ [])))
@@ -156,9 +156,9 @@ module _ {M : Type 1} {𝓤 : Ura M} (𝓛 : Logic 𝓤) (κ κ' : Lft) (q q' : 
   -- P is what the plain arguments own
   module _ (P : Fml) (made : ent 𝓤 (emp 𝓤) (sem 𝓛 P)) where
     pub enters : Is T.the_row h (T'.lowered h ∷ [])
-        → ent 𝓤 (mean 𝓛 (Takes 𝓤 κ q b' o' γ' ys)) (sep 𝓤 (sep 𝓤 (A.lft κ q) (sem 𝓛 ftrue)) (sem 𝓛 (fsep ((MutSlice (named 0) κ u8).own_val (out b' o' γ' ys) (outVal b' o' ys ∷ [])) (fsep ((T.the_row).own_val h (T'.lowered h ∷ [])) P))))
+        → ent 𝓤 (mean 𝓛 (Takes 𝓤 κ q b' o' γ' ys)) (sep 𝓤 (sep 𝓤 (A.lft κ q) (sem 𝓛 ftrue)) (sem 𝓛 (fsep ((MutSlice (named 0) κ u8).own_val (out b' o' γ' ys) (out_val b' o' ys ∷ [])) (fsep ((T.the_row).own_val h (T'.lowered h ∷ [])) P))))
     enters is =
-        qed 𝓛 ((‵ (flft κ q) ⊛ ‵ ftrue) ∷ ‵ ((MutSlice (named 0) κ u8).own_val (out b' o' γ' ys) (outVal b' o' ys ∷ [])) ∷ []) ∵ frame ! $ use0 𝓛 (‵ P) made $
+        qed 𝓛 ((‵ (flft κ q) ⊛ ‵ ftrue) ∷ ‵ ((MutSlice (named 0) κ u8).own_val (out b' o' γ' ys) (out_val b' o' ys ∷ [])) ∷ []) ∵ frame ! $ use0 𝓛 (‵ P) made $
         owned ! T.the_row (Is T.the_row) ((LL.makes T.the_type T'.the_plain) 𝓛) h _ is $ fjoin ! $ move ! (1 ∷ 0 ∷ []) $ fjoin ! $ done !
 
     pub leaves : (r : BitWriter) (zs : List ℕ)
@@ -170,21 +170,21 @@ module _ {M : Type 1} {𝓤 : Ura M} (𝓛 : Logic 𝓤) (κ κ' : Lft) (q q' : 
   module _ (L : Type 0) (last : L → List ℕ) (rest : L → Fml) (post : List ℕ → BitWriter → Type 0) where
     module _ (f : Name) (C : Calls 𝓤 H) (Λ : Loops 𝓤 H) (fm : FmC 𝓤 H 𝓛.laws C) (Kf : Val → SProp 𝓤) (l₀ l₁ l₂ : ℕ) (E' : Env 𝓤 H) where
       abbrev E : Env 𝓤 H
-      E = (ty_unit, l₀) ∷ (slice-ty (named 0), l₁) ∷ (ref-ty, l₂) ∷ E'
+      E = (ty_unit, l₀) ∷ (slice_ty (named 0), l₁) ∷ (ref_ty, l₂) ∷ E'
 
-      module _ (i j k m : ℕ) (lᵢ lⱼ lₖ lₘ : ℕ) (eᵢ : get_or E i (no_local 𝓤 H) ≡ (T'.mir, lᵢ)) (eⱼ : get_or E j (no_local 𝓤 H) ≡ (ty_ref erased mut (ty_int w8), lⱼ)) (eₖ : get_or E k (no_local 𝓤 H) ≡ (slice-ty erased, lₖ)) (eₘ : get_or E m (no_local 𝓤 H) ≡ (T'.mir, lₘ)) where
+      module _ (i j k m : ℕ) (lᵢ lⱼ lₖ lₘ : ℕ) (eᵢ : get_or E i (no_local 𝓤 H) ≡ (T'.mir, lᵢ)) (eⱼ : get_or E j (no_local 𝓤 H) ≡ (ty_ref erased mut (ty_int w8), lⱼ)) (eₖ : get_or E k (no_local 𝓤 H) ≡ (slice_ty erased, lₖ)) (eₘ : get_or E m (no_local 𝓤 H) ≡ (T'.mir, lₘ)) where
         -- from the first statement to where the locals are freed: `args` reads the plain arguments, and Δ has their
         -- cells and what ends each local
         pub middle : (P : Fml) (xs : List Operand) (us : List Val) (Δ : List (Item 𝓤)) → SliceRoom u8 (length ys)
-            → (Is T.the_row h (T'.lowered h ∷ []) → ent 𝓤 (mean 𝓛 (Takes 𝓤 κ q b' o' γ' ys)) (C f (outVal b' o' ys ∷ T'.lowered h ∷ us) (λ w. mean 𝓛 (Gives 𝓤 κ q b' o' γ' ys L last rest post w))))
+            → (Is T.the_row h (T'.lowered h ∷ []) → ent 𝓤 (mean 𝓛 (Takes 𝓤 κ q b' o' γ' ys)) (C f (out_val b' o' ys ∷ T'.lowered h ∷ us) (λ w. mean 𝓛 (Gives 𝓤 κ q b' o' γ' ys L last rest post w))))
             → ((i₀ i₁ i₂ i₃ i₄ i₅ i₆ i₇ i₈ i₉ i₁₀ i₁₁ i₁₂ : Item 𝓤) → Opds (Go {0}) 𝓛 (i₀ ∷ i₁ ∷ i₂ ∷ i₃ ∷ i₄ ∷ i₅ ∷ i₆ ∷ i₇ ∷ i₈ ∷ i₉ ∷ i₁₀ ∷ i₁₁ ∷ i₁₂ ∷ Δ) E xs us)
             → ((r : BitWriter) (zs : L) → post (last zs) r → length (last zs) ≡ length ys
             → Seq (Go {0}) 𝓛 (‵ (fobs γ ((T.the_row).coded.code r)) ∷ ‵ (fbor κ' (Borrowed (mem T.the_row) b o γ)) ∷ ‵ (flft κ' q') ∷ (‵ (flft κ q) ⊛ ‵ ftrue) ∷ ‵ (finally u8 γ' (last zs))
-            ∷ ‵ (froom T'.mir lₘ zero) ∷ ‵ (froom (slice-ty erased) lₖ zero) ∷ ‵ (froom (ty_ref erased mut (ty_int w8)) lⱼ zero) ∷ ‵ (froom T'.mir lᵢ zero)
-            ∷ ‵ (froom (slice-ty (named 0)) l₁ zero) ∷ ‵ (froom ref-ty l₂ zero) ∷ ‵ (froom ty_unit l₀ zero) ∷ Δ) (frees E (prop (Kf vunit))))
-            → Seq (Go {0}) 𝓛 ((‵ (flft κ q) ⊛ ‵ (flft κ' q') ⊛ ‵ ftrue) ∷ ‵ (fsep ((MutSlice (named 0) κ u8).own_val (out b' o' γ' ys) (outVal b' o' ys ∷ [])) (fsep ((MutRef (named 1) κ' T.the_row).own_val (ref b o γ h) (vptr b o ∷ [])) P))
-            ∷ ‵ (froom T'.mir lₘ zero) ∷ ‵ (froom (slice-ty erased) lₖ zero) ∷ ‵ (froom (ty_ref erased mut (ty_int w8)) lⱼ zero) ∷ ‵ (froom T'.mir lᵢ zero)
-            ∷ ‵ (fat full_share (slice-ty (named 0)) l₁ zero (outVal b' o' ys)) ∷ ‵ (fat full_share ref-ty l₂ zero (vptr b o)) ∷ ‵ (froom ty_unit l₀ zero) ∷ Δ) (runs C Λ E (body f xs i j k m) (at_ret E Kf))
+            ∷ ‵ (froom T'.mir lₘ zero) ∷ ‵ (froom (slice_ty erased) lₖ zero) ∷ ‵ (froom (ty_ref erased mut (ty_int w8)) lⱼ zero) ∷ ‵ (froom T'.mir lᵢ zero)
+            ∷ ‵ (froom (slice_ty (named 0)) l₁ zero) ∷ ‵ (froom ref_ty l₂ zero) ∷ ‵ (froom ty_unit l₀ zero) ∷ Δ) (frees E (prop (Kf vunit))))
+            → Seq (Go {0}) 𝓛 ((‵ (flft κ q) ⊛ ‵ (flft κ' q') ⊛ ‵ ftrue) ∷ ‵ (fsep ((MutSlice (named 0) κ u8).own_val (out b' o' γ' ys) (out_val b' o' ys ∷ [])) (fsep ((MutRef (named 1) κ' T.the_row).own_val (ref b o γ h) (vptr b o ∷ [])) P))
+            ∷ ‵ (froom T'.mir lₘ zero) ∷ ‵ (froom (slice_ty erased) lₖ zero) ∷ ‵ (froom (ty_ref erased mut (ty_int w8)) lⱼ zero) ∷ ‵ (froom T'.mir lᵢ zero)
+            ∷ ‵ (fat full_share (slice_ty (named 0)) l₁ zero (out_val b' o' ys)) ∷ ‵ (fat full_share ref_ty l₂ zero (vptr b o)) ∷ ‵ (froom ty_unit l₀ zero) ∷ Δ) (runs C Λ E (body f xs i j k m) (at_ret E Kf))
         middle P xs us Δ room met args next =
             -- the writer's borrow is opened
             split ! $ move ! (1 ∷ []) $ split ! $ move ! (2 ∷ 1 ∷ []) $ join ! $ move ! (2 ∷ []) $ fsplit ! $ move ! (1 ∷ []) $ fsplit ! $ fsplit3 ! $ drop ! $ move ! (2 ∷ []) $ drop ! $ move ! (0 ∷ 1 ∷ 4 ∷ []) $
@@ -197,7 +197,7 @@ module _ {M : Type 1} {𝓤 : Ura M} (𝓛 : Logic 𝓤) (κ κ' : Lft) (q q' : 
             assigns ! (of_opd ! (load ! (from ! (hop ! (look ! 12 refl) (stop !))) (look_raw ! 0 refl))) (from_at ! eₘ (stop !)) (init ! 7 refl ((LL.lawful T.the_type T'.the_laws 𝓛).typed h _ g).0) $
             -- the call
             move ! (6 ∷ 5 ∷ []) $ join ! $
-            calls_from ! fm (Takes 𝓤 κ q b' o' γ' ys) (outVal b' o' ys ∷ T'.lowered h ∷ us) (λ w. mean 𝓛 (Gives 𝓤 κ q b' o' γ' ys L last rest post w)) (met g) (and_then ! (load ! (from_at ! eₖ (stop !)) (look ! 7 refl)) (and_then ! (load ! (from_at ! eₘ (stop !)) (look ! 6 refl)) (args _ _ _ _ _ _ _ _ _ _ _ _ _))) (λ w.
+            calls_from ! fm (Takes 𝓤 κ q b' o' γ' ys) (out_val b' o' ys ∷ T'.lowered h ∷ us) (λ w. mean 𝓛 (Gives 𝓤 κ q b' o' γ' ys L last rest post w)) (met g) (and_then ! (load ! (from_at ! eₖ (stop !)) (look ! 7 refl)) (and_then ! (load ! (from_at ! eₘ (stop !)) (look ! 6 refl)) (args _ _ _ _ _ _ _ _ _ _ _ _ _))) (λ w.
             use1 𝓛 (Gives 𝓤 κ q b' o' γ' ys L last rest post w) (id⊢ 𝓤 _) $ await ! tt $ pick ! (λ r. split ! $ move ! (1 ∷ []) $ pick ! (λ zs. split ! $ move ! (1 ∷ []) $ heard ! (post (last zs) r) (λ p. fsplit ! $ fsplit ! $ move ! (1 ∷ []) $ feq_l ! (λ l.
             move ! (2 ∷ []) $ split ! $ move ! (1 ∷ []) $ peeks ! T.the_row (Is T.the_row) (shows 𝓛 T.the_row) r (w ∷ []) (λ is.
             -- [what the result owns; the output's token; its last list; …; the writer's cell; what it owned; the open

@@ -19,9 +19,9 @@ value a [] = a
 value a (b ∷ s) = value (a * 2 + val b) s
 
 -- n bits 1
-abbrev pub oneBits : ℕ → Bits
-oneBits n = replicate n true
+abbrev pub one_bits : ℕ → Bits
+one_bits n = replicate n true
 
 -- n bits 0
-abbrev pub zeroBits : ℕ → Bits
-zeroBits n = replicate n false
+abbrev pub zero_bits : ℕ → Bits
+zero_bits n = replicate n false

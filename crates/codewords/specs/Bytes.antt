@@ -16,6 +16,6 @@ padding n = (8 - n % 8) % 8
 abbrev pub to_bytes : Bits → List ℕ
 to_bytes s = pack 7 0 s
 
-unfoldable pub fromBytes : List ℕ → Bits
-fromBytes [] = []
-fromBytes (x ∷ xs) = lit 8 x ++ fromBytes xs
+unfoldable pub from_bytes : List ℕ → Bits
+from_bytes [] = []
+from_bytes (x ∷ xs) = lit 8 x ++ from_bytes xs

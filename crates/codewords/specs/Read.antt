@@ -18,9 +18,9 @@ module _ {A : Type 0} where
   give x = λ s. got x s
 
   -- what was found, or, where a field is missing, a stop where it began
-  abbrev pub orStop : Bits → Option (A × Bits) → Read A
-  orStop s none = stop s
-  orStop s (some r) = got r.0 r.1
+  abbrev pub or_stop : Bits → Option (A × Bits) → Read A
+  or_stop s none = stop s
+  or_stop s (some r) = got r.0 r.1
 
   abbrev pub checked : (A → Bool) → Bits → Read A → Read A
   checked test s (stop t) = stop t
@@ -41,62 +41,62 @@ unfoldable pub ◌⊳◌ : {A B : Type 0} → Parser A → (A → Parser B) → 
 ◌⊳◌ p f = λ s. after (p s) f
 
 -- A.3.3: k bits as a number
-abbrev pub nbitsFrom : ℕ → ℕ → Bits → Option (ℕ × Bits)
-nbitsFrom zero a s = some (a, s)
-nbitsFrom (suc k) a [] = none
-nbitsFrom (suc k) a (b ∷ s) = nbitsFrom k (a * 2 + val b) s
+abbrev pub nbits_from : ℕ → ℕ → Bits → Option (ℕ × Bits)
+nbits_from zero a s = some (a, s)
+nbits_from (suc k) a [] = none
+nbits_from (suc k) a (b ∷ s) = nbits_from k (a * 2 + val b) s
 
-unfoldable pub readNbits : ℕ → Parser ℕ
-readNbits k s = orStop s (nbitsFrom k 0 s)
+unfoldable pub read_nbits : ℕ → Parser ℕ
+read_nbits k s = or_stop s (nbits_from k 0 s)
 
 -- A.3.2: one bit as a yes or no
-abbrev pub boolFrom : Bits → Option (Bool × Bits)
-boolFrom [] = none
-boolFrom (b ∷ s) = some (b, s)
+abbrev pub bool_from : Bits → Option (Bool × Bits)
+bool_from [] = none
+bool_from (b ∷ s) = some (b, s)
 
-unfoldable pub readBool : Parser Bool
-readBool s = orStop s (boolFrom s)
+unfoldable pub read_bool : Parser Bool
+read_bool s = or_stop s (bool_from s)
 
 -- A.4.3: starts at 1; while the next bit is 0 it doubles and adds the bit after; then 1 is taken off
-abbrev pub uintFrom : ℕ → Bits → Option (ℕ × Bits)
-uintFrom a [] = none
-uintFrom a (true ∷ s) = some (pred a, s)
-uintFrom a (false ∷ []) = none
-uintFrom a (false ∷ b ∷ s) = uintFrom (a * 2 + val b) s
+abbrev pub uint_from : ℕ → Bits → Option (ℕ × Bits)
+uint_from a [] = none
+uint_from a (true ∷ s) = some (pred a, s)
+uint_from a (false ∷ []) = none
+uint_from a (false ∷ b ∷ s) = uint_from (a * 2 + val b) s
 
-unfoldable pub readUint : Parser ℕ
-readUint s = orStop s (uintFrom 1 s)
+unfoldable pub read_uint : Parser ℕ
+read_uint s = or_stop s (uint_from 1 s)
 
 -- A.4.4: a number that is not 0 is followed by its sign
-abbrev pub signFrom : ℕ → Bits → Option (ℤ × Bits)
-signFrom zero s = some (pos zero, s)
-signFrom (suc n) [] = none
-signFrom (suc n) (true ∷ s) = some (negsuc n, s)
-signFrom (suc n) (false ∷ s) = some (pos (suc n), s)
+abbrev pub sign_from : ℕ → Bits → Option (ℤ × Bits)
+sign_from zero s = some (pos zero, s)
+sign_from (suc n) [] = none
+sign_from (suc n) (true ∷ s) = some (negsuc n, s)
+sign_from (suc n) (false ∷ s) = some (pos (suc n), s)
 
-abbrev pub sintFrom : Option (ℕ × Bits) → Option (ℤ × Bits)
-sintFrom none = none
-sintFrom (some r) = signFrom r.0 r.1
+abbrev pub sint_from : Option (ℕ × Bits) → Option (ℤ × Bits)
+sint_from none = none
+sint_from (some r) = sign_from r.0 r.1
 
-unfoldable pub readSint : Parser ℤ
-readSint s = orStop s (sintFrom (uintFrom 1 s))
+unfoldable pub read_sint : Parser ℤ
+read_sint s = or_stop s (sint_from (uint_from 1 s))
 
 -- A.2.4: on to the next whole byte. A unit is whole bytes, so the bits left over eights are those of the byte begun
-unfoldable pub byteAlign : Parser (Unit {0})
-byteAlign s = got tt (drop (length s % 8) s)
+unfoldable pub byte_align : Parser (Unit {0})
+byte_align s = got tt (drop (length s % 8) s)
 
 -- the next n bits as a bounded block, A.4.2
-abbrev pub splitFrom : ℕ → Bits → Option (Bits × Bits)
-splitFrom zero s = some ([], s)
-splitFrom (suc n) [] = none
-splitFrom (suc n) (b ∷ s) = more b (splitFrom n s)
+abbrev pub split_from : ℕ → Bits → Option (Bits × Bits)
+split_from zero s = some ([], s)
+split_from (suc n) [] = none
+split_from (suc n) (b ∷ s) = more b (split_from n s)
   where
     more : Bool → Option (Bits × Bits) → Option (Bits × Bits)
     more b none = none
     more b (some r) = some (b ∷ r.0, r.1)
 
-unfoldable pub readBits : ℕ → Parser Bits
-readBits n s = orStop s (splitFrom n s)
+unfoldable pub read_bits : ℕ → Parser Bits
+read_bits n s = or_stop s (split_from n s)
 
 -- ---- inside a bounded block, A.4.2: past its end every bit reads as 1
 unfoldable pub uintb : ℕ → Bits → ℕ × Bits

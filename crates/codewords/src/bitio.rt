@@ -1,8 +1,8 @@
 // The puts that slices and header use, with plain parameters: each lends the writer to the put of the same name in
 // `lent` and gives it back.
 ghost use Rattle.std.specs.Prelude.{[], ◌∷◌, ◌≤◌, ◌^◌, length};
-ghost use Rattle.codewords.specs.Bit.{lit, oneBits};
-ghost use Rattle.codewords.specs.CodeWord.{codeU, codeM, code_s};
+ghost use Rattle.codewords.specs.Bit.{lit, one_bits};
+ghost use Rattle.codewords.specs.CodeWord.{code_u, code_m, code_s};
 ghost use Rattle.codewords.specs.Bytes.{padding};
 ghost use Rattle.codewords.specs.Code.Writer.{Room, Wrote, Flushes, Aligns};
 
@@ -30,8 +30,8 @@ pub fn put_nbits(out: &mut [u8], w: BitWriter, v: u64, n: u32) -> BitWriter
 
 // Puts the unsigned code word of v.
 pub fn put_uint(out: &mut [u8], w: BitWriter, v: u32) -> BitWriter
-    requires { Room out.old w (length (codeU v)) }
-    ensures { Wrote out.old w (codeU v) out.new result }
+    requires { Room out.old w (length (code_u v)) }
+    ensures { Wrote out.old w (code_u v) out.new result }
 {
     let mut s = w;
     crate::lent::put_uint(out, &mut s, v);
@@ -50,8 +50,8 @@ pub fn put_sint(out: &mut [u8], w: BitWriter, v: i64) -> BitWriter
 
 // Puts the signed code word of the magnitude m, below 0 where minus is set.
 pub fn put_signed(out: &mut [u8], w: BitWriter, m: u64, minus: bool) -> BitWriter
-    requires { Room out.old w (length (codeM m minus)) × (m ≤ 2 ^ 63) }
-    ensures { Wrote out.old w (codeM m minus) out.new result }
+    requires { Room out.old w (length (code_m m minus)) × (m ≤ 2 ^ 63) }
+    ensures { Wrote out.old w (code_m m minus) out.new result }
 {
     let mut s = w;
     crate::lent::put_signed(out, &mut s, m, minus);
@@ -81,7 +81,7 @@ pub fn byte_align(out: &mut [u8], w: BitWriter) -> BitWriter
 // Puts n ones.
 pub fn put_ones(out: &mut [u8], w: BitWriter, n: u64) -> BitWriter
     requires { Room out.old w n }
-    ensures { Wrote out.old w (oneBits n) out.new result }
+    ensures { Wrote out.old w (one_bits n) out.new result }
 {
     let mut s = w;
     crate::lent::put_ones(out, &mut s, n);

@@ -1,8 +1,8 @@
 // The writer of bits lent by reference: each put copies the writer out, calls the put of the same name in `writer` on
 // it, and stores what that gave.
 ghost use Rattle.std.specs.Prelude.{[], ◌∷◌, ◌≤◌, ◌^◌, length};
-ghost use Rattle.codewords.specs.Bit.{lit, oneBits};
-ghost use Rattle.codewords.specs.CodeWord.{codeU, codeM, code_s};
+ghost use Rattle.codewords.specs.Bit.{lit, one_bits};
+ghost use Rattle.codewords.specs.CodeWord.{code_u, code_m, code_s};
 ghost use Rattle.codewords.specs.Bytes.{padding};
 ghost use Rattle.codewords.specs.Code.Writer.{Room, Wrote, Flushes, Aligns};
 
@@ -26,8 +26,8 @@ pub(crate) fn put_nbits(out: &mut [u8], w: &mut BitWriter, v: u64, n: u32)
 
 // Puts the unsigned code word of v.
 pub(crate) fn put_uint(out: &mut [u8], w: &mut BitWriter, v: u32)
-    requires { Room out.old w.old (length (codeU v)) }
-    ensures { Wrote out.old w.old (codeU v) out.new w.new }
+    requires { Room out.old w.old (length (code_u v)) }
+    ensures { Wrote out.old w.old (code_u v) out.new w.new }
 {
     *w = crate::writer::put_uint(out, *w, v);
 }
@@ -42,8 +42,8 @@ pub(crate) fn put_sint(out: &mut [u8], w: &mut BitWriter, v: i64)
 
 // Puts the signed code word of the magnitude m, below 0 where minus is set.
 pub(crate) fn put_signed(out: &mut [u8], w: &mut BitWriter, m: u64, minus: bool)
-    requires { Room out.old w.old (length (codeM m minus)) × (m ≤ 2 ^ 63) }
-    ensures { Wrote out.old w.old (codeM m minus) out.new w.new }
+    requires { Room out.old w.old (length (code_m m minus)) × (m ≤ 2 ^ 63) }
+    ensures { Wrote out.old w.old (code_m m minus) out.new w.new }
 {
     *w = crate::writer::put_signed(out, *w, m, minus);
 }
@@ -67,7 +67,7 @@ pub(crate) fn byte_align(out: &mut [u8], w: &mut BitWriter)
 // Puts n ones.
 pub(crate) fn put_ones(out: &mut [u8], w: &mut BitWriter, n: u64)
     requires { Room out.old w.old n }
-    ensures { Wrote out.old w.old (oneBits n) out.new w.new }
+    ensures { Wrote out.old w.old (one_bits n) out.new w.new }
 {
     *w = crate::writer::put_ones(out, *w, n);
 }

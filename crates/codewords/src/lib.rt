@@ -4,7 +4,7 @@ mod lent;
 pub mod writer;
 
 ghost use Rattle.std.specs.Prelude.{◌≡◌, ◌≤◌, ◌^◌, length, nat_abs};
-ghost use Rattle.codewords.specs.CodeWord.{codeU, code_s};
+ghost use Rattle.codewords.specs.CodeWord.{code_u, code_s};
 
 // How far v is from 0: 2^63 for the least i64.
 pub fn unsigned_abs(v: i64) -> u64
@@ -15,7 +15,7 @@ pub fn unsigned_abs(v: i64) -> u64
 
 // How many bits the unsigned code word of v has.
 pub fn uint_code_len(v: u32) -> u32
-    ensures { result ≡ length (codeU v) }
+    ensures { result ≡ length (code_u v) }
 {
     let w = v as u64 + 1;
     2 * (63 - u64::leading_zeros(w)) + 1

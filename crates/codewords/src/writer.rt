@@ -2,10 +2,10 @@
 // `bitio`, and there must be room for what they put.
 ghost use Rattle.std.specs.Prelude.{◌≡◌, ◌+◌, ◌-◌, ◌*◌, ◌≤◌, ◌<◌, ◌^◌, true, [], ◌∷◌, ◌++◌, length};
 ghost use Rattle.laws.specs.Code.Laid.{laid};
-ghost use Rattle.codewords.specs.Bit.{lit, oneBits};
+ghost use Rattle.codewords.specs.Bit.{lit, one_bits};
 ghost use Rattle.codewords.specs.Bytes.{to_bytes, padding};
-ghost use Rattle.codewords.specs.CodeWord.{interleaved, codeU, codeM, code_s};
-ghost use Rattle.codewords.specs.Code.Spread.{spreadBits};
+ghost use Rattle.codewords.specs.CodeWord.{interleaved, code_u, code_m, code_s};
+ghost use Rattle.codewords.specs.Code.Spread.{spread_bits};
 ghost use Rattle.codewords.specs.Code.Writer.{Room, Wrote, Flushes, Aligns};
 
 // The place where the bits pending go, these bits, and how many they are: fewer than 32.
@@ -102,7 +102,7 @@ pub(crate) fn flush(out: &mut [u8], w: BitWriter) -> BitWriter
 
 // The 8 low bits of b, each moved to twice its place.
 fn spread(b: u64) -> u64
-    ensures { (result ≡ spreadBits 8 b) × (result < 65536) }
+    ensures { (result ≡ spread_bits 8 b) × (result < 65536) }
 {
     let a = b % 256;
     let x = (a | a << 4) & 0x0F0F;
@@ -126,16 +126,16 @@ fn put_interleaved(out: &mut [u8], w: BitWriter, x: u64, n: u32) -> BitWriter
 
 // Puts the unsigned code word of x - 1.
 fn put_code(out: &mut [u8], w: BitWriter, x: u64) -> BitWriter
-    requires { Room out.old w (length (codeU (x - 1))) × (0 < x) }
-    ensures { Wrote out.old w (codeU (x - 1)) out.new result }
+    requires { Room out.old w (length (code_u (x - 1))) × (0 < x) }
+    ensures { Wrote out.old w (code_u (x - 1)) out.new result }
 {
     put_interleaved(out, w, x, 63 - u64::leading_zeros(x))
 }
 
 // Puts the unsigned code word of v.
 pub(crate) fn put_uint(out: &mut [u8], w: BitWriter, v: u32) -> BitWriter
-    requires { Room out.old w (length (codeU v)) }
-    ensures { Wrote out.old w (codeU v) out.new result }
+    requires { Room out.old w (length (code_u v)) }
+    ensures { Wrote out.old w (code_u v) out.new result }
 {
     put_code(out, w, v as u64 + 1)
 }
@@ -143,7 +143,7 @@ pub(crate) fn put_uint(out: &mut [u8], w: BitWriter, v: u32) -> BitWriter
 // The signed code word of a small magnitude m, below 0 where minus is set.
 fn word_of(m: u64, minus: bool) -> Word
     requires { m < 511 }
-    ensures { (lit result.len result.bits ≡ codeM m minus) × (result.len ≤ 18) }
+    ensures { (lit result.len result.bits ≡ code_m m minus) × (result.len ≤ 18) }
 {
     let n = 63 - u64::leading_zeros(m + 1);
     let word = 2 * spread(m + 1) + 1;
@@ -159,8 +159,8 @@ fn word_of(m: u64, minus: bool) -> Word
 
 // Puts the signed code word of the magnitude m, below 0 where minus is set.
 pub(crate) fn put_signed(out: &mut [u8], w: BitWriter, m: u64, minus: bool) -> BitWriter
-    requires { Room out.old w (length (codeM m minus)) × (m ≤ 2 ^ 63) }
-    ensures { Wrote out.old w (codeM m minus) out.new result }
+    requires { Room out.old w (length (code_m m minus)) × (m ≤ 2 ^ 63) }
+    ensures { Wrote out.old w (code_m m minus) out.new result }
 {
     if m < 511 {
         let c = word_of(m, minus);
@@ -190,7 +190,7 @@ pub(crate) fn byte_align(out: &mut [u8], w: BitWriter) -> BitWriter
 // Puts n ones.
 pub(crate) fn put_ones(out: &mut [u8], w: BitWriter, n: u64) -> BitWriter
     requires { Room out.old w n }
-    ensures { Wrote out.old w (oneBits n) out.new result }
+    ensures { Wrote out.old w (one_bits n) out.new result }
 {
     let mut left = n;
     let mut s = w;

@@ -3,8 +3,8 @@ use Rattle.std.specs.Prelude.{◌≡◌, ◌↔◌, Bool, true, false, cond, Lis
 use Rattle.unit.specs.declared.Answer.{Answer}
 use Rattle.unit.specs.declared.Answer.TheVariants.{Accepted, Refused}
 use Rattle.unit.specs.Three.{Three}
-use Rattle.unit.specs.Words.{known, settingsOf}
-use Rattle.unit.specs.Outcome.{number_of, outcomeOf}
+use Rattle.unit.specs.Words.{known, settings_of}
+use Rattle.unit.specs.Outcome.{number_of, outcome_of}
 use Rattle.unit.specs.Unit.{plan_of}
 use Rattle.unit.specs.Demand.{Undropped, Demand3}
 
@@ -33,19 +33,19 @@ pub record Left : Type 0 where
 
 module _ (ws m : List ℕ) (p : Three (List ℕ)) (out : List ℕ) (work : List ℤ) (v : Values) where
   -- what a picture call leaves, by whether the words are settings: 100 where they are none, and nothing changes
-  abbrev pub leftIf : Bool → Left
-  leftIf true =
-      let o = outcomeOf (settingsOf ws) m p out work in
+  abbrev pub left_if : Bool → Left
+  left_if true =
+      let o = outcome_of (settings_of ws) m p out work in
       record { number = number_of o.answer; output = o.output; work = o.work; values = values_of o.answer v }
-  leftIf false = record { number = 100; output = out; work = work; values = v }
+  left_if false = record { number = 100; output = out; work = work; values = v }
 
   unfoldable pub left_of : Left
-  left_of = leftIf (known ws)
+  left_of = left_if (known ws)
 
 -- the picture call: words, matrix, planes, lent slices and values as they came and as they are left
 pub record Picture (ws m : List ℕ) (p : Three (List ℕ)) (out : List ℕ) (work : List ℤ) (v : Values) (after : Left) : Type 0 where
   pub is : after ≡ left_of ws m p out work v
   -- an accepted call: demand 3 of the bytes that its length counts
-  pub demand : after.number ≡ 0 → Demand3 (settingsOf ws) m p (take after.values.written after.output)
+  pub demand : after.number ≡ 0 → Demand3 (settings_of ws) m p (take after.values.written after.output)
   -- its count of cut slices is 0 just where no slice has dropped a number that is not 0
-  pub uncut : after.number ≡ 0 → (after.values.cut ≡ 0) ↔ Undropped (plan_of (settingsOf ws) m p)
+  pub uncut : after.number ≡ 0 → (after.values.cut ≡ 0) ↔ Undropped (plan_of (settings_of ws) m p)

@@ -1,8 +1,8 @@
 // Entry points for C and Rust callers; include/rumqeshi.h declares them. Each does what the call inside does. A slice
 // is a pointer and a count, in this order.
 ghost use Rattle.std.specs.Prelude.{◌≡◌, pos, length};
-ghost use Rattle.codewords.specs.CodeWord.{codeU, code_s};
-ghost use Rattle.quantiser.specs.Quant.{quantFactor, quantOffset, forwardQuant, inverseQuant};
+ghost use Rattle.codewords.specs.CodeWord.{code_u, code_s};
+ghost use Rattle.quantiser.specs.Quant.{quant_factor, quant_offset, forward_quant, inverse_quant};
 ghost use Rattle.wavelet.specs.RowCall.{Analysed};
 ghost use Rattle.unit.specs.Three.{planes};
 ghost use Rattle.exports.specs.Calls.{Gives, Picture};
@@ -13,7 +13,7 @@ use unit::Answer;
 // How many bits the unsigned code word of v has.
 #[unsafe(no_mangle)]
 pub extern "C" fn vc2_uint_code_len(v: u32) -> u32
-    ensures { result ≡ length (codeU v) }
+    ensures { result ≡ length (code_u v) }
 {
     codewords::uint_code_len(v)
 }
@@ -28,7 +28,7 @@ pub extern "C" fn vc2_sint_code_len(v: i64) -> u32
 
 #[unsafe(no_mangle)]
 pub extern "C" fn vc2_quant_factor(index: u32, value: &mut i64) -> u32
-    ensures { Gives index (pos (quantFactor index)) value.old value.new result }
+    ensures { Gives index (pos (quant_factor index)) value.old value.new result }
 {
     let a = quantiser::quant_factor(index);
     match a {
@@ -42,7 +42,7 @@ pub extern "C" fn vc2_quant_factor(index: u32, value: &mut i64) -> u32
 
 #[unsafe(no_mangle)]
 pub extern "C" fn vc2_quant_offset(index: u32, value: &mut i64) -> u32
-    ensures { Gives index (pos (quantOffset index)) value.old value.new result }
+    ensures { Gives index (pos (quant_offset index)) value.old value.new result }
 {
     let a = quantiser::quant_offset(index);
     match a {
@@ -56,7 +56,7 @@ pub extern "C" fn vc2_quant_offset(index: u32, value: &mut i64) -> u32
 
 #[unsafe(no_mangle)]
 pub extern "C" fn vc2_forward_quant(coeff: i64, index: u32, value: &mut i64) -> u32
-    ensures { Gives index (forwardQuant coeff index) value.old value.new result }
+    ensures { Gives index (forward_quant coeff index) value.old value.new result }
 {
     let a = quantiser::forward_quant(coeff, index);
     match a {
@@ -70,7 +70,7 @@ pub extern "C" fn vc2_forward_quant(coeff: i64, index: u32, value: &mut i64) -> 
 
 #[unsafe(no_mangle)]
 pub extern "C" fn vc2_inverse_quant(number: i64, index: u32, value: &mut i64) -> u32
-    ensures { Gives index (inverseQuant number index) value.old value.new result }
+    ensures { Gives index (inverse_quant number index) value.old value.new result }
 {
     let a = quantiser::inverse_quant(number, index);
     match a {

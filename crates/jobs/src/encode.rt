@@ -3,8 +3,8 @@ ghost use Rattle.std.specs.Prelude.{◌≡◌, true, ◌*◌, ◌-◌, ◌≤◌
 ghost use Rattle.laws.specs.Code.Laid.{Lays};
 ghost use Rattle.unit.specs.Three.{planes};
 ghost use Rattle.unit.specs.Encoded.{Encodes};
-ghost use Rattle.jobs.specs.Job.{inOrder, printed};
-ghost use Rattle.jobs.specs.Code.Steps.{endsOf, Called, printedBy};
+ghost use Rattle.jobs.specs.Job.{in_order, printed};
+ghost use Rattle.jobs.specs.Code.Steps.{ends_of, Called, printed_by};
 
 use crate::parse::Ends;
 use unit::{Answer, Settings};
@@ -43,7 +43,7 @@ fn call(
     work: &mut [i64],
     out: &mut [u8],
 ) -> Answer
-    requires { (e ≡ endsOf words.now) × ((inOrder words.now ≡ true) × ((64 ≤ length matrix.old) × (4096 ≤ length samples.old))) }
+    requires { (e ≡ ends_of words.now) × ((in_order words.now ≡ true) × ((64 ≤ length matrix.old) × (4096 ≤ length samples.old))) }
     ensures { Called words.now out.old work.old out.new work.new result }
 {
     let settings = e.settings;
@@ -75,7 +75,7 @@ fn run_words(
     text: &mut [u8],
 ) -> usize
     requires { (64 ≤ length matrix.old) × ((4096 ≤ length samples.old) × ((length out.old ≤ 8192) × (24640 ≤ length text.old))) }
-    ensures { Lays text.old 0 (printedBy words.now out.old work.old) text.new result × (result ≤ length text.new) }
+    ensures { Lays text.old 0 (printed_by words.now out.old work.old) text.new result × (result ≤ length text.new) }
 {
     let e = crate::parse::ends_of(words);
     if !crate::parse::well_formed(words, e) {

@@ -1,9 +1,9 @@
 // A job's words, taken apart.
 ghost use Rattle.std.specs.Prelude.{◌≡◌, false, map, ◌+◌, ◌*◌, ◌≤◌, ◌<◌, length, drop};
 ghost use Rattle.laws.specs.Code.Laid.{Lays};
-ghost use Rattle.unit.specs.Refusal.{anyAbove};
-ghost use Rattle.jobs.specs.Job.{words_of, kind_of, contentOf, isEnd, inOrder};
-ghost use Rattle.jobs.specs.Code.Steps.{wordFrom, runEnd, endsOf, counted};
+ghost use Rattle.unit.specs.Refusal.{any_above};
+ghost use Rattle.jobs.specs.Job.{words_of, kind_of, content_of, is_end, in_order};
+ghost use Rattle.jobs.specs.Code.Steps.{word_from, run_end, ends_of, counted};
 
 // Where the words of each kind end: settings, matrix, luma and the two colours.
 #[derive(Drop)]
@@ -24,7 +24,7 @@ fn wide(x: u8) -> u32
 // The word whose bytes stand from i on.
 fn word_at(bytes: &[u8], i: usize) -> u32
     requires { i + 4 ≤ length bytes.now }
-    ensures { result ≡ wordFrom bytes.now i }
+    ensures { result ≡ word_from bytes.now i }
 {
     wide(bytes[i]) * 0x100_0000
         + wide(bytes[i + 1]) * 0x1_0000
@@ -53,7 +53,7 @@ fn kind_of(word: u32) -> u32
 }
 
 fn content_of(word: u32) -> u32
-    ensures { result ≡ contentOf word }
+    ensures { result ≡ content_of word }
 {
     word % 0x1000_0000
 }
@@ -61,7 +61,7 @@ fn content_of(word: u32) -> u32
 // Where the words of a kind that stand from from on end.
 fn run_end(words: &[u32], from: usize, kind: u32) -> usize
     requires { from ≤ length words.now }
-    ensures { (result ≡ runEnd kind words.now from) × (result ≤ length words.now) }
+    ensures { (result ≡ run_end kind words.now from) × (result ≤ length words.now) }
 {
     let n = words.len();
     let mut i = from;
@@ -76,7 +76,7 @@ fn run_end(words: &[u32], from: usize, kind: u32) -> usize
 
 // Where the words of each kind end.
 pub(crate) fn ends_of(words: &[u32]) -> Ends
-    ensures { result ≡ endsOf words.now }
+    ensures { result ≡ ends_of words.now }
 {
     let settings = run_end(words, 0, 0);
     let matrix = run_end(words, settings, 1);
@@ -93,7 +93,7 @@ pub(crate) fn ends_of(words: &[u32]) -> Ends
 
 // Whether a content is above 65,535.
 fn any_above(words: &[u32]) -> bool
-    ensures { result ≡ anyAbove 65535 (map contentOf words.now) }
+    ensures { result ≡ any_above 65535 (map content_of words.now) }
 {
     let n = words.len();
     let mut i = 0;
@@ -108,7 +108,7 @@ fn any_above(words: &[u32]) -> bool
 
 // Whether the one last word stands at place at.
 fn is_end(words: &[u32], at: usize) -> bool
-    ensures { result ≡ isEnd (drop at words.now) }
+    ensures { result ≡ is_end (drop at words.now) }
 {
     if words.len() == 0 {
         return false;
@@ -132,8 +132,8 @@ fn counted(rate: u32, number: u32, custom: u32, matrix: usize, samples: usize) -
 
 // Whether the job is well formed.
 pub(crate) fn well_formed(words: &[u32], e: Ends) -> bool
-    requires { e ≡ endsOf words.now }
-    ensures { result ≡ inOrder words.now }
+    requires { e ≡ ends_of words.now }
+    ensures { result ≡ in_order words.now }
 {
     let settings = e.settings;
     let matrix = e.matrix;
@@ -159,7 +159,7 @@ pub(crate) fn well_formed(words: &[u32], e: Ends) -> bool
 // The contents of the words, laid from the front of matrix on.
 pub(crate) fn load_matrix(words: &[u32], matrix: &mut [u32])
     requires { length words.now ≤ length matrix.old }
-    ensures { Lays matrix.old 0 (map contentOf words.now) matrix.new (length words.now) }
+    ensures { Lays matrix.old 0 (map content_of words.now) matrix.new (length words.now) }
 {
     let n = words.len();
     let mut i = 0;
@@ -171,8 +171,8 @@ pub(crate) fn load_matrix(words: &[u32], matrix: &mut [u32])
 
 // The contents of the words, laid from the front of samples on.
 pub(crate) fn load_samples(words: &[u32], samples: &mut [u16])
-    requires { (length words.now ≤ length samples.old) × (anyAbove 65535 (map contentOf words.now) ≡ false) }
-    ensures { Lays samples.old 0 (map contentOf words.now) samples.new (length words.now) }
+    requires { (length words.now ≤ length samples.old) × (any_above 65535 (map content_of words.now) ≡ false) }
+    ensures { Lays samples.old 0 (map content_of words.now) samples.new (length words.now) }
 {
     let n = words.len();
     let mut i = 0;

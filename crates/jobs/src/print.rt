@@ -1,9 +1,9 @@
 // What the program prints, as text in a lent slice. Each put gives the place after what it has written.
 ghost use Rattle.std.specs.Prelude.{◌≡◌, cond, [], ◌∷◌, ◌++◌, ◌+◌, ◌*◌, ◌≤◌, ◌<◌, length};
 ghost use Rattle.laws.specs.Code.Laid.{Lays};
-ghost use Rattle.unit.specs.Outcome.{tells, lengthIn};
+ghost use Rattle.unit.specs.Outcome.{tells, length_in};
 ghost use Rattle.unit.specs.declared.Answer.TheVariants.{Accepted};
-ghost use Rattle.jobs.specs.Job.{decimal, line_of, hexDigit, bytesFrom, unitIn, jobText};
+ghost use Rattle.jobs.specs.Job.{decimal, line_of, hex_digit, bytes_from, unit_in, job_text};
 ghost use Rattle.jobs.specs.Code.Steps.{chunk};
 
 use unit::{Answer, Coded};
@@ -39,7 +39,7 @@ fn put_value(text: &mut [u8], at: usize, n: u32, behind: u8) -> usize
 
 fn digit(v: u8) -> u8
     requires { v < 16 }
-    ensures { result ≡ hexDigit v }
+    ensures { result ≡ hex_digit v }
 {
     if v < 10 { 48 + v } else { 55 + v }
 }
@@ -64,7 +64,7 @@ fn put_byte(text: &mut [u8], at: usize, b: u8, last: bool) -> usize
 // The bytes, 16 a line.
 fn put_bytes(text: &mut [u8], at: usize, bytes: &[u8]) -> usize
     requires { at + 3 * length bytes.now ≤ length text.old }
-    ensures { Lays text.old at (bytesFrom 0 bytes.now) text.new result }
+    ensures { Lays text.old at (bytes_from 0 bytes.now) text.new result }
 {
     let n = bytes.len();
     let mut t = at;
@@ -78,7 +78,7 @@ fn put_bytes(text: &mut [u8], at: usize, bytes: &[u8]) -> usize
 
 pub(crate) fn put_job(text: &mut [u8]) -> usize
     requires { 4 ≤ length text.old }
-    ensures { Lays text.old 0 jobText text.new result }
+    ensures { Lays text.old 0 job_text text.new result }
 {
     let a = put(text, 0, b'j');
     let b = put(text, a, b'o');
@@ -99,8 +99,8 @@ fn put_coded(text: &mut [u8], c: Coded) -> usize
 
 // The answer's line, and the unit that an accepted call has written to out.
 pub(crate) fn put_answer(text: &mut [u8], r: Answer, out: &[u8]) -> usize
-    requires { (lengthIn r ≤ length out.now) × (44 + 3 * lengthIn r ≤ length text.old) }
-    ensures { Lays text.old 0 (line_of (tells r) ++ bytesFrom 0 (unitIn r out.now)) text.new result × (result ≤ length text.new) }
+    requires { (length_in r ≤ length out.now) × (44 + 3 * length_in r ≤ length text.old) }
+    ensures { Lays text.old 0 (line_of (tells r) ++ bytes_from 0 (unit_in r out.now)) text.new result × (result ≤ length text.new) }
 {
     match r {
         Answer::Refused(n) => put_value(text, 0, n, 10),

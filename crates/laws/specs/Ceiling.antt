@@ -6,5 +6,5 @@ abbrev pub ceiling : ℕ → ℕ → ℕ
 ceiling n m = (n + (m - 1)) / m
 
 -- n rounded up to a multiple of m
-abbrev pub roundedUp : ℕ → ℕ → ℕ
-roundedUp m n = ceiling n m * m
+abbrev pub rounded_up : ℕ → ℕ → ℕ
+rounded_up m n = ceiling n m * m

@@ -10,9 +10,9 @@ abbrev pub turned : Plane → Plane
 turned f y x = f x y
 
 -- a list of rows of w as a plane
-abbrev pub asPlane : ℕ → List ℤ → Plane
-asPlane w l y x = at l (y * w + x)
+abbrev pub as_plane : ℕ → List ℤ → Plane
+as_plane w l y x = at l (y * w + x)
 
 -- h rows of w, one after the other
-abbrev pub asList : ℕ → ℕ → Plane → List ℤ
-asList h w f = span (λ k. f (k / w) (k % w)) 0 (h * w)
+abbrev pub as_list : ℕ → ℕ → Plane → List ℤ
+as_list h w f = span (λ k. f (k / w) (k % w)) 0 (h * w)

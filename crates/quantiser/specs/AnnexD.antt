@@ -8,8 +8,8 @@ abbrev pub Table : Type 0
 Table = List (List (List ℕ))
 
 -- Table D.1: Deslauriers-Dubuc (9,7)
-unfoldable pub tableD1 : Table
-tableD1 =
+unfoldable pub table_d1 : Table
+table_d1 =
     ((0 ∷ [])
     ∷ (5 ∷ 3 ∷ 3 ∷ 0 ∷ [])
     ∷ (5 ∷ 3 ∷ 3 ∷ 0 ∷ 4 ∷ 4 ∷ 1 ∷ [])
@@ -31,8 +31,8 @@ tableD1 =
     ∷ (3 ∷ 0 ∷ 3 ∷ 5 ∷ 8 ∷ 10 ∷ 10 ∷ 8 ∷ []) ∷ []) ∷ []
 
 -- Table D.2: LeGall (5,3)
-unfoldable pub tableD2 : Table
-tableD2 =
+unfoldable pub table_d2 : Table
+table_d2 =
     ((0 ∷ [])
     ∷ (4 ∷ 2 ∷ 2 ∷ 0 ∷ [])
     ∷ (4 ∷ 2 ∷ 2 ∷ 0 ∷ 4 ∷ 4 ∷ 2 ∷ [])
@@ -54,8 +54,8 @@ tableD2 =
     ∷ (2 ∷ 0 ∷ 3 ∷ 6 ∷ 8 ∷ 11 ∷ 11 ∷ 9 ∷ []) ∷ []) ∷ []
 
 -- Table D.3: Deslauriers-Dubuc (13,7)
-unfoldable pub tableD3 : Table
-tableD3 =
+unfoldable pub table_d3 : Table
+table_d3 =
     ((0 ∷ [])
     ∷ (5 ∷ 3 ∷ 3 ∷ 0 ∷ [])
     ∷ (5 ∷ 3 ∷ 3 ∷ 0 ∷ 4 ∷ 4 ∷ 1 ∷ [])
@@ -77,8 +77,8 @@ tableD3 =
     ∷ (3 ∷ 0 ∷ 3 ∷ 5 ∷ 8 ∷ 10 ∷ 10 ∷ 8 ∷ []) ∷ []) ∷ []
 
 -- Table D.4: Haar with no shift
-unfoldable pub tableD4 : Table
-tableD4 =
+unfoldable pub table_d4 : Table
+table_d4 =
     ((0 ∷ [])
     ∷ (8 ∷ 4 ∷ 4 ∷ 0 ∷ [])
     ∷ (12 ∷ 8 ∷ 8 ∷ 4 ∷ 4 ∷ 4 ∷ 0 ∷ [])
@@ -100,8 +100,8 @@ tableD4 =
     ∷ (16 ∷ 12 ∷ 10 ∷ 8 ∷ 6 ∷ 4 ∷ 4 ∷ 0 ∷ []) ∷ []) ∷ []
 
 -- Table D.5: Haar with single shift
-unfoldable pub tableD5 : Table
-tableD5 =
+unfoldable pub table_d5 : Table
+table_d5 =
     ((0 ∷ [])
     ∷ (8 ∷ 4 ∷ 4 ∷ 0 ∷ [])
     ∷ (8 ∷ 4 ∷ 4 ∷ 0 ∷ 4 ∷ 4 ∷ 0 ∷ [])
@@ -123,8 +123,8 @@ tableD5 =
     ∷ (4 ∷ 0 ∷ 2 ∷ 4 ∷ 6 ∷ 8 ∷ 8 ∷ 4 ∷ []) ∷ []) ∷ []
 
 -- Table D.6: Fidelity
-unfoldable pub tableD6 : Table
-tableD6 =
+unfoldable pub table_d6 : Table
+table_d6 =
     ((0 ∷ [])
     ∷ (0 ∷ 4 ∷ 4 ∷ 8 ∷ [])
     ∷ (0 ∷ 4 ∷ 4 ∷ 8 ∷ 8 ∷ 8 ∷ 12 ∷ [])
@@ -146,8 +146,8 @@ tableD6 =
     ∷ (0 ∷ 4 ∷ 6 ∷ 8 ∷ 11 ∷ 13 ∷ 13 ∷ 17 ∷ []) ∷ []) ∷ []
 
 -- Table D.7: Daubechies (9,7)
-unfoldable pub tableD7 : Table
-tableD7 =
+unfoldable pub table_d7 : Table
+table_d7 =
     ((0 ∷ [])
     ∷ (3 ∷ 1 ∷ 1 ∷ 0 ∷ [])
     ∷ (3 ∷ 1 ∷ 1 ∷ 0 ∷ 4 ∷ 4 ∷ 2 ∷ [])
@@ -169,8 +169,8 @@ tableD7 =
     ∷ (1 ∷ 0 ∷ 3 ∷ 6 ∷ 10 ∷ 13 ∷ 13 ∷ 12 ∷ []) ∷ []) ∷ []
 
 -- Table D.8: Haar with no shift down, LeGall (5,3) across
-unfoldable pub tableD8 : Table
-tableD8 =
+unfoldable pub table_d8 : Table
+table_d8 =
     ((0 ∷ [])
     ∷ (6 ∷ 4 ∷ 2 ∷ 0 ∷ [])
     ∷ (6 ∷ 4 ∷ 2 ∷ 0 ∷ 5 ∷ 3 ∷ 1 ∷ [])
@@ -196,12 +196,12 @@ and_then none f = none
 and_then (some x) f = f x
 
 abbrev pub tables : List Table
-tables = tableD1 ∷ tableD2 ∷ tableD3 ∷ tableD4 ∷ tableD5 ∷ tableD6 ∷ tableD7 ∷ []
+tables = table_d1 ∷ table_d2 ∷ table_d3 ∷ table_d4 ∷ table_d5 ∷ table_d6 ∷ table_d7 ∷ []
 
 -- the table of a wavelet down and one across: one and the same, or Haar with no shift (3) with LeGall (1)
 abbrev pub table_of : ℕ → ℕ → Option Table
-table_of w h = cond (eqb w h) (get_elem? tables w) (cond (eqb w 3 && eqb h 1) (some tableD8) none)
+table_of w h = cond (eqb w h) (get_elem? tables w) (cond (eqb w 3 && eqb h 1) (some table_d8) none)
 
 -- the default matrix for a wavelet, a horizontal-only wavelet, a depth and a horizontal-only depth, if there is one
-unfoldable pub defaultMatrix : ℕ → ℕ → ℕ → ℕ → Option (List ℕ)
-defaultMatrix w h d k = and_then (table_of w h) (λ t. and_then (get_elem? t k) (λ b. get_elem? b d))
+unfoldable pub default_matrix : ℕ → ℕ → ℕ → ℕ → Option (List ℕ)
+default_matrix w h d k = and_then (table_of w h) (λ t. and_then (get_elem? t k) (λ b. get_elem? b d))

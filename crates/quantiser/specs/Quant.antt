@@ -7,35 +7,35 @@ use Rattle.quantiser.specs.Standard.{factor, signed}
 unfoldable pub cap : ℕ → ℕ
 cap n = min n (2 ^ 63 - 1)
 
-unfoldable pub quantFactor : ℕ → ℕ
-quantFactor i = cap (factor i)
+unfoldable pub quant_factor : ℕ → ℕ
+quant_factor i = cap (factor i)
 
-abbrev pub cappedOffsetBy : ℕ → ℕ → ℕ
-cappedOffsetBy zero f = 1
-cappedOffsetBy (suc zero) f = 2
-cappedOffsetBy (suc (suc i)) f = cap (f + 1) / 2
+abbrev pub capped_offset_by : ℕ → ℕ → ℕ
+capped_offset_by zero f = 1
+capped_offset_by (suc zero) f = 2
+capped_offset_by (suc (suc i)) f = cap (f + 1) / 2
 
-unfoldable pub quantOffset : ℕ → ℕ
-quantOffset i = cappedOffsetBy i (quantFactor i)
+unfoldable pub quant_offset : ℕ → ℕ
+quant_offset i = capped_offset_by i (quant_factor i)
 
 -- a coefficient quantised by the factor f
-unfoldable pub forwardBy : ℕ → ℤ → ℤ
-forwardBy f c = signed c (cap (4 * nat_abs c / f))
+unfoldable pub forward_by : ℕ → ℤ → ℤ
+forward_by f c = signed c (cap (4 * nat_abs c / f))
 
-unfoldable pub forwardQuant : ℤ → ℕ → ℤ
-forwardQuant c i = forwardBy (quantFactor i) c
+unfoldable pub forward_quant : ℤ → ℕ → ℤ
+forward_quant c i = forward_by (quant_factor i) c
 
 -- a number rebuilt by the factor f and the offset off: the magnitude, its product, and each sum capped
-abbrev pub cappedInverseAbs : ℕ → ℕ → ℕ → ℕ
-cappedInverseAbs f off zero = 0
-cappedInverseAbs f off (suc m) = cap (cap (cap (cap (suc m) * f) + off) + 2) / 4
+abbrev pub capped_inverse_abs : ℕ → ℕ → ℕ → ℕ
+capped_inverse_abs f off zero = 0
+capped_inverse_abs f off (suc m) = cap (cap (cap (cap (suc m) * f) + off) + 2) / 4
 
-unfoldable pub inverseBy : ℕ → ℕ → ℤ → ℤ
-inverseBy f off q = signed q (cappedInverseAbs f off (nat_abs q))
+unfoldable pub inverse_by : ℕ → ℕ → ℤ → ℤ
+inverse_by f off q = signed q (capped_inverse_abs f off (nat_abs q))
 
-unfoldable pub inverseQuant : ℤ → ℕ → ℤ
-inverseQuant q i = inverseBy (quantFactor i) (quantOffset i) q
+unfoldable pub inverse_quant : ℤ → ℕ → ℤ
+inverse_quant q i = inverse_by (quant_factor i) (quant_offset i) q
 
 -- a band's index: the slice's less the matrix value, not below 0
-abbrev pub bandIndex : ℕ → ℕ → ℕ
-bandIndex i m = i - m
+abbrev pub band_index : ℕ → ℕ → ℕ
+band_index i m = i - m

@@ -2,8 +2,8 @@
 ghost use Rattle.std.specs.Prelude.{◌≡◌, ◌<◌, get_or};
 ghost use Rattle.std.proofs.Math.ListN.{get_elem?};
 ghost use Rattle.quantiser.specs.AnnexD.{table_of};
-ghost use Rattle.quantiser.specs.Code.Default.{places, defaultOf};
-ghost use Rattle.quantiser.specs.Code.Cells.{allTables, cell_of, matrixAt};
+ghost use Rattle.quantiser.specs.Code.Default.{places, default_of};
+ghost use Rattle.quantiser.specs.Code.Cells.{all_tables, cell_of, matrix_at};
 
 // Annex D, a matrix to a line: 14 bytes, with zeros behind the values. A table has 19: those for horizontal-only depth
 // 0 and depths 0 to 4, for 1 and 0 to 4, for 2 and 0 to 3, for 3 and 0 to 2, for 4 and 0 to 1.
@@ -204,7 +204,7 @@ pub fn default_quant_matrix(
     depth: u32,
     depth_ho: u32,
 ) -> DefaultMatrix
-    ensures { result ≡ defaultOf wavelet wavelet_ho depth depth_ho }
+    ensures { result ≡ default_of wavelet wavelet_ho depth depth_ho }
 {
     let table = table_of(wavelet, wavelet_ho);
     let cell = cell_of(depth, depth_ho);
@@ -224,7 +224,7 @@ pub fn default_quant_matrix(
 
 // The number of a table, from 0; 8 where there is none.
 fn table_of(wavelet: u32, wavelet_ho: u32) -> u32
-    ensures { get_elem? allTables result ≡ table_of wavelet wavelet_ho }
+    ensures { get_elem? all_tables result ≡ table_of wavelet wavelet_ho }
 {
     if wavelet == wavelet_ho {
         return if wavelet < 7 { wavelet } else { 8 };
@@ -255,7 +255,7 @@ fn cell_of(depth: u32, depth_ho: u32) -> u32
 // The matrix at a place of a table.
 fn matrix_at(table: u32, cell: u32) -> [u32; 25]
     requires { (table < 8) × (cell < 19) }
-    ensures { result ≡ places (matrixAt table cell) }
+    ensures { result ≡ places (matrix_at table cell) }
 {
     let mut values = [0; 25];
     let mut i = 0;
@@ -269,7 +269,7 @@ fn matrix_at(table: u32, cell: u32) -> [u32; 25]
 // Value i of a matrix, of its first 14: 0 after the last.
 fn value_at(table: u32, cell: u32, i: usize) -> u32
     requires { (table < 8) × ((cell < 19) × (i < 14)) }
-    ensures { result ≡ get_or (matrixAt table cell) i 0 }
+    ensures { result ≡ get_or (matrix_at table cell) i 0 }
 {
     let place = cell as usize * 14 + i;
     wide(MATRICES[table as usize][place])

@@ -1,7 +1,7 @@
 // The 256 factors, and the offsets from them.
 ghost use Rattle.std.specs.Prelude.{◌≡◌, ◌≤◌, ◌<◌, ◌^◌};
-ghost use Rattle.quantiser.specs.Standard.{factorBy};
-ghost use Rattle.quantiser.specs.Quant.{quantFactor, quantOffset};
+ghost use Rattle.quantiser.specs.Standard.{factor_by};
+ghost use Rattle.quantiser.specs.Quant.{quant_factor, quant_offset};
 
 const FACTORS: [u64; 256] = [
     4,
@@ -265,7 +265,7 @@ const FACTORS: [u64; 256] = [
 // A factor by the table. The crate's public calls take it at every index.
 pub(crate) fn table_at(index: u32) -> u64
     requires { index ≤ 255 }
-    ensures { (result ≡ quantFactor index) × ((4 ≤ result) × (result < 2 ^ 63)) }
+    ensures { (result ≡ quant_factor index) × ((4 ≤ result) × (result < 2 ^ 63)) }
 {
     FACTORS[index as usize]
 }
@@ -273,7 +273,7 @@ pub(crate) fn table_at(index: u32) -> u64
 // The standard's formulas, by the index's remainder and the base, 2 to the power of its quotient by 4.
 fn factor_by(remainder: u32, base: u64) -> u64
     requires { base ≤ 2 ^ 31 }
-    ensures { result ≡ factorBy remainder base }
+    ensures { result ≡ factor_by remainder base }
 {
     if remainder == 0 {
         return 4 * base;
@@ -292,7 +292,7 @@ fn factor_by(remainder: u32, base: u64) -> u64
 // constant table anew at every call that reads it.
 pub fn factor_at(index: u32) -> u64
     requires { index ≤ 255 }
-    ensures { (result ≡ quantFactor index) × ((4 ≤ result) × (result < 2 ^ 63)) }
+    ensures { (result ≡ quant_factor index) × ((4 ≤ result) × (result < 2 ^ 63)) }
 {
     if index >= 128 {
         return table_at(index);
@@ -303,8 +303,8 @@ pub fn factor_at(index: u32) -> u64
 
 // The offset of an index, by its factor. For the layers above.
 pub fn offset_by(index: u32, factor: u64) -> u64
-    requires { (factor ≡ quantFactor index) × (factor < 2 ^ 63) }
-    ensures { (result ≡ quantOffset index) × (result < 2 ^ 63) }
+    requires { (factor ≡ quant_factor index) × (factor < 2 ^ 63) }
+    ensures { (result ≡ quant_offset index) × (result < 2 ^ 63) }
 {
     if index == 0 {
         return 1;
@@ -318,7 +318,7 @@ pub fn offset_by(index: u32, factor: u64) -> u64
 // The offset of an index.
 pub(crate) fn offset_at(index: u32) -> u64
     requires { index ≤ 255 }
-    ensures { (result ≡ quantOffset index) × (result < 2 ^ 63) }
+    ensures { (result ≡ quant_offset index) × (result < 2 ^ 63) }
 {
     offset_by(index, table_at(index))
 }

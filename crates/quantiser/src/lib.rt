@@ -6,7 +6,7 @@ ghost use Rattle.std.specs.Prelude.{◌≡◌, ◌*◌, ◌/◌, ◌≤◌, ◌<
 ghost use Rattle.codewords.specs.CodeWord.{log2, code_s};
 ghost use Rattle.quantiser.specs.Answer.{Answered};
 ghost use Rattle.quantiser.specs.Standard.{signed};
-ghost use Rattle.quantiser.specs.Quant.{cap, quantFactor, quantOffset, forwardBy, forwardQuant, inverseBy, inverseQuant};
+ghost use Rattle.quantiser.specs.Quant.{cap, quant_factor, quant_offset, forward_by, forward_quant, inverse_by, inverse_quant};
 ghost use Rattle.quantiser.specs.Code.Step.{Doubles};
 
 // A call's value, or its refusal's number in document 01.
@@ -17,7 +17,7 @@ pub enum QuantAnswer {
 }
 
 pub fn quant_factor(index: u32) -> QuantAnswer
-    ensures { Answered index (pos (quantFactor index)) result }
+    ensures { Answered index (pos (quant_factor index)) result }
 {
     if index > 255 {
         return QuantAnswer::Refused(6);
@@ -26,7 +26,7 @@ pub fn quant_factor(index: u32) -> QuantAnswer
 }
 
 pub fn quant_offset(index: u32) -> QuantAnswer
-    ensures { Answered index (pos (quantOffset index)) result }
+    ensures { Answered index (pos (quant_offset index)) result }
 {
     if index > 255 {
         return QuantAnswer::Refused(6);
@@ -35,7 +35,7 @@ pub fn quant_offset(index: u32) -> QuantAnswer
 }
 
 pub fn forward_quant(coeff: i64, index: u32) -> QuantAnswer
-    ensures { Answered index (forwardQuant coeff index) result }
+    ensures { Answered index (forward_quant coeff index) result }
 {
     if index > 255 {
         return QuantAnswer::Refused(6);
@@ -44,7 +44,7 @@ pub fn forward_quant(coeff: i64, index: u32) -> QuantAnswer
 }
 
 pub fn inverse_quant(number: i64, index: u32) -> QuantAnswer
-    ensures { Answered index (inverseQuant number index) result }
+    ensures { Answered index (inverse_quant number index) result }
 {
     if index > 255 {
         return QuantAnswer::Refused(6);
@@ -122,7 +122,7 @@ fn four_over(m: u64, f: u64) -> u64
 // Four times c over the factor f, truncated and capped. For the layers above.
 pub fn forward_by(c: i64, f: u64) -> i64
     requires { (4 ≤ f) × (f < 2 ^ 63) }
-    ensures { result ≡ forwardBy f c }
+    ensures { result ≡ forward_by f c }
 {
     let m = codewords::unsigned_abs(c);
     signed(c, cap(four_over(m, f)))
@@ -132,7 +132,7 @@ pub fn forward_by(c: i64, f: u64) -> i64
 // above.
 pub fn forward_size(c: i64, f: u64) -> u64
     requires { ((4 ≤ f) × (f < 2 ^ 63)) × (nat_abs c < 2 ^ 60) }
-    ensures { (result ≡ nat_abs (forwardBy f c)) × (result ≤ 2 ^ 60) }
+    ensures { (result ≡ nat_abs (forward_by f c)) × (result ≤ 2 ^ 60) }
 {
     let m = codewords::unsigned_abs(c);
     if f == 4 {
@@ -144,7 +144,7 @@ pub fn forward_size(c: i64, f: u64) -> u64
 // forward_by where nothing is capped; without a division where it is 0. For the layers above.
 pub fn forward_small(c: i64, f: u64) -> i64
     requires { ((4 ≤ f) × (f < 2 ^ 63)) × (nat_abs c < 2 ^ 60) }
-    ensures { result ≡ forwardBy f c }
+    ensures { result ≡ forward_by f c }
 {
     signed(c, forward_size(c, f))
 }
@@ -163,7 +163,7 @@ fn quotient_log2(n: u64, f: u64) -> u32
 // |c| + f) / f. For the layers above.
 pub fn forward_len_by(c: i64, f: u64) -> u32
     requires { ((4 ≤ f) × (f < 2 ^ 63)) × (nat_abs c < 2 ^ 60) }
-    ensures { result ≡ length (code_s (forwardBy f c)) }
+    ensures { result ≡ length (code_s (forward_by f c)) }
 {
     let n = 4 * codewords::unsigned_abs(c) + f;
     let e = quotient_log2(n, f);
@@ -185,7 +185,7 @@ fn capped_mul(a: u64, b: u64) -> u64
 // The number q rebuilt at the factor f and the offset off. For the layers above.
 pub fn inverse_by(q: i64, f: u64, off: u64) -> i64
     requires { (4 ≤ f) × (off < 2 ^ 63) }
-    ensures { result ≡ inverseBy f off q }
+    ensures { result ≡ inverse_by f off q }
 {
     let m = codewords::unsigned_abs(q);
     if m == 0 {

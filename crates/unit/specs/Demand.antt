@@ -4,27 +4,27 @@ use Rattle.std.specs.Prelude.{◌≡◌, cond, List, [], ◌∷◌, map, ℕ, su
 use Rattle.codewords.specs.Read.{got}
 use Rattle.laws.specs.Plane.{Plane}
 use Rattle.laws.specs.Rows.{span, total}
-use Rattle.quantiser.specs.Quant.{quantFactor, bandIndex}
+use Rattle.quantiser.specs.Quant.{quant_factor, band_index}
 use Rattle.wavelet.specs.Planes.{Band}
 use Rattle.unit.specs.declared.Settings.{Settings}
 use Rattle.unit.specs.declared.PictureKind.{PictureKind}
 use Rattle.unit.specs.declared.PictureKind.TheVariants.{LowDelay, HighQuality}
 use Rattle.unit.specs.declared.FragmentSlices.{FragmentSlices}
 use Rattle.unit.specs.declared.FragmentSlices.TheVariants.{Whole, Each}
-use Rattle.unit.specs.Limits.{lastIndex}
+use Rattle.unit.specs.Limits.{last_index}
 use Rattle.unit.specs.Three.{Three}
-use Rattle.unit.specs.Sizes.{Size, sizesOf, depthsOf}
+use Rattle.unit.specs.Sizes.{Size, sizes_of, depths_of}
 use Rattle.unit.specs.Slices.{Grid, slice_of}
-use Rattle.unit.specs.Matrix.{matrixValues}
-use Rattle.unit.specs.Parameters.{SliceParameters, lowDelay, highQuality, Parameters, parameterBytes, overhead}
-use Rattle.unit.specs.LowDelay.{sliceBytes, roomOf, alternated}
-use Rattle.unit.specs.Trim.{trimmedCost}
-use Rattle.unit.specs.Coefficients.{coefficientsOf}
+use Rattle.unit.specs.Matrix.{matrix_values}
+use Rattle.unit.specs.Parameters.{SliceParameters, low_delay, high_quality, Parameters, parameter_bytes, overhead}
+use Rattle.unit.specs.LowDelay.{slice_bytes, room_of, alternated}
+use Rattle.unit.specs.Trim.{trimmed_cost}
+use Rattle.unit.specs.Coefficients.{coefficients_of}
 use Rattle.unit.specs.Quantised.{size_of}
 use Rattle.unit.specs.Plan.{SlicePlan, Plan}
-use Rattle.unit.specs.Unit.{majorVersion, gridOf, plan_of}
-use Rattle.unit.specs.Reader.{SliceRead, Reading, readBands, readSamples}
-use Rattle.unit.specs.FragmentReader.{readUnits}
+use Rattle.unit.specs.Unit.{major_version, grid_of, plan_of}
+use Rattle.unit.specs.Reader.{SliceRead, Reading, read_bands, read_samples}
+use Rattle.unit.specs.FragmentReader.{read_units}
 
 -- P holds of every element
 abbrev pub All : {A : Type 0} → (A → Type 0) → List A → Type 0
@@ -56,20 +56,20 @@ Follow g k n [] e = n ≡ e
 Follow g k n (r ∷ rs) e = (r.offset ≡ n + g k) × Follow g (suc k) (n + g k + r.byte_count) rs e
 
 -- the bytes between slice k and the one before: where a fragment begins, its parse information and its header, 13 and 12
-abbrev pub headBefore : FragmentSlices → ℕ → ℕ
-headBefore Whole k = 0
-headBefore (Each n) k = cond (eqb (k % n) 0) 25 0
+abbrev pub head_before : FragmentSlices → ℕ → ℕ
+head_before Whole k = 0
+head_before (Each n) k = cond (eqb (k % n) 0) 25 0
 
 -- the bytes of the unit's head, or of the fragment of the transform parameters: of this parse information, 13, picture
 -- number, length of the data and slice count, 4, 2 and 2, and the parameters
-abbrev pub frontBy : FragmentSlices → ℕ → Parameters → ℕ
-frontBy Whole version t = overhead version t
-frontBy (Each n) version t = 21 + parameterBytes version t
+abbrev pub front_by : FragmentSlices → ℕ → Parameters → ℕ
+front_by Whole version t = overhead version t
+front_by (Each n) version t = 21 + parameter_bytes version t
 
 -- low delay: each slice takes exactly its slice bytes, and they sum to the numerator
 abbrev pub Bytes : SliceParameters → List SliceRead → Type 0
-Bytes (highQuality p c) ss = Unit {0}
-Bytes (lowDelay n d) ss = (map (λ (r : SliceRead). r.byte_count) ss ≡ span (sliceBytes n d) 0 (length ss)) × (total (map (λ (r : SliceRead). r.byte_count) ss) ≡ n)
+Bytes (high_quality p c) ss = Unit {0}
+Bytes (low_delay n d) ss = (map (λ (r : SliceRead). r.byte_count) ss ≡ span (slice_bytes n d) 0 (length ss)) × (total (map (λ (r : SliceRead). r.byte_count) ss) ≡ n)
 
 -- no slice has dropped a number that is not 0: a reader gets what was quantised. Document 01's dropped numbers are
 -- those after the runs that a cut keeps
@@ -82,12 +82,12 @@ AllZero a = All (λ (s : SlicePlan). s.index ≡ 0) a.slices
 
 -- a low-delay slice fits if what is written of all its numbers takes at most the bits that its bytes leave
 abbrev pub FitsIn : SlicePlan → Type 0
-FitsIn a = trimmedCost a.numbers.y + trimmedCost (alternated a.numbers.c1 a.numbers.c2) ≤ roomOf (bytes_of a)
+FitsIn a = trimmed_cost a.numbers.y + trimmed_cost (alternated a.numbers.c1 a.numbers.c2) ≤ room_of (bytes_of a)
 
 -- a slice that fits drops nothing, and every slice of an index below 127 fits
 pub record LowDrops (a : SlicePlan) : Type 0 where
   pub whole : FitsIn a → a.kept ≡ a.numbers
-  pub fits : a.index < lastIndex LowDelay → FitsIn a
+  pub fits : a.index < last_index LowDelay → FitsIn a
 
 -- which slices drop no number: a low-delay one that fits, and every one of high quality
 abbrev pub Drops : PictureKind → SlicePlan → Type 0
@@ -95,8 +95,8 @@ Drops LowDelay a = LowDrops a
 Drops HighQuality a = a.kept ≡ a.numbers
 
 -- the index of slice k
-abbrev pub planIndex : Plan → ℕ → ℕ
-planIndex a k = get_or (map (λ (s : SlicePlan). s.index) a.slices) k 0
+abbrev pub plan_index : Plan → ℕ → ℕ
+plan_index a k = get_or (map (λ (s : SlicePlan). s.index) a.slices) k 0
 
 -- a subband b and the one read, r, which has its sides: at every place, padding included, four times the error is
 -- less than the factor of the band's index there. Document 01's error is the coefficient less the reader's; n is the
@@ -105,7 +105,7 @@ pub record NearBand (g : Grid) (m : List ℕ) (index : ℕ → ℕ) (n : ℕ) (b
   pub high : b.high ≡ r.high
   pub wide : b.wide ≡ r.wide
   pub near : (y x : ℕ) → y < b.high → x < b.wide
-      → 4 * nat_abs (b.plane y x -ℤ r.plane y x) < quantFactor (bandIndex (index (slice_of g (size_of b) y x)) (get_or m n 0))
+      → 4 * nat_abs (b.plane y x -ℤ r.plane y x) < quant_factor (band_index (index (slice_of g (size_of b) y x)) (get_or m n 0))
 
 -- a component's subbands and those read, as many, each near; n is the number of the first
 abbrev pub NearBands : Grid → List ℕ → (ℕ → ℕ) → ℕ → List Band → List Band → Type 0
@@ -122,7 +122,7 @@ SameSamples z p f = (y x : ℕ) → y < z.height → x < z.width → f y x ≡ p
 pub record Demand3 (s : Settings) (m : List ℕ) (p : Three (List ℕ)) (bytes : List ℕ) : Type 0 where
   pub reading : Reading
   -- nothing stops the reading, and it ends at the last byte
-  pub reads : readUnits (sizesOf s) (majorVersion s) bytes ≡ got reading []
+  pub reads : read_units (sizes_of s) (major_version s) bytes ≡ got reading []
   pub kind : reading.kind ≡ s.kind
   pub number : reading.number ≡ s.picture_number
   pub parameters : reading.parameters ≡ (plan_of s m p).parameters
@@ -130,11 +130,11 @@ pub record Demand3 (s : Settings) (m : List ℕ) (p : Three (List ℕ)) (bytes :
   -- what is kept of a slice's numbers is all of them, unless it is of low delay, carries index 127 and does not fit
   pub drops : All (Drops s.kind) (plan_of s m p).slices
   pub places : let f = s.fragment_slices in
-      Follow (headBefore f) 0 (frontBy f (majorVersion s) reading.parameters) reading.slices (length bytes)
-  pub slice-bytes : Bytes reading.parameters.sliceParameters reading.slices
+      Follow (head_before f) 0 (front_by f (major_version s) reading.parameters) reading.slices (length bytes)
+  pub slice_bytes_lem : Bytes reading.parameters.slice_parameters reading.slices
   pub near : Undropped (plan_of s m p)
-      → let b = coefficientsOf s p in let r = readBands (sizesOf s) reading in let i = planIndex (plan_of s m p) in let v = matrixValues s m in
-      NearBands (gridOf s) v i 0 b.y r.y × NearBands (gridOf s) v i 0 b.c1 r.c1 × NearBands (gridOf s) v i 0 b.c2 r.c2
+      → let b = coefficients_of s p in let r = read_bands (sizes_of s) reading in let i = plan_index (plan_of s m p) in let v = matrix_values s m in
+      NearBands (grid_of s) v i 0 b.y r.y × NearBands (grid_of s) v i 0 b.c1 r.c1 × NearBands (grid_of s) v i 0 b.c2 r.c2
   pub samples : Undropped (plan_of s m p) → AllZero (plan_of s m p)
-      → let z = sizesOf s in let f = readSamples z reading (depthsOf s) in
+      → let z = sizes_of s in let f = read_samples z reading (depths_of s) in
       SameSamples z.y p.y f.y × SameSamples z.c1 p.c1 f.c1 × SameSamples z.c2 p.c2 f.c2

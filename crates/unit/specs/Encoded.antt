@@ -7,36 +7,36 @@ use Rattle.unit.specs.declared.Answer.{Answer}
 use Rattle.unit.specs.declared.Answer.TheVariants.{Accepted}
 use Rattle.unit.specs.Three.{Three}
 use Rattle.unit.specs.Rules.{or_else}
-use Rattle.unit.specs.Refusal.{refusalOf}
+use Rattle.unit.specs.Refusal.{refusal_of}
 use Rattle.unit.specs.Plan.{Plan}
 use Rattle.unit.specs.Unit.{plan_of}
 use Rattle.unit.specs.Fragments.{written_of}
-use Rattle.unit.specs.Cut.{cutCount}
-use Rattle.unit.specs.Outcome.{number_of, tells, scalerIn, codingRefusalOf, outcomeOf}
+use Rattle.unit.specs.Cut.{cut_count}
+use Rattle.unit.specs.Outcome.{number_of, tells, scaler_in, coding_refusal_of, outcome_of}
 use Rattle.unit.specs.Demand.{Undropped, Demand3}
 
 -- the answer's number: that of the first rule before coding that is broken, else of the first one that coding finds
 -- broken, else 0
-abbrev pub answerNumber : Settings → List ℕ → Three (List ℕ) → List ℕ → List ℤ → ℕ
-answerNumber s m p out work = or_else (refusalOf s m p work) (codingRefusalOf s (plan_of s m p) (length out))
+abbrev pub answer_number : Settings → List ℕ → Three (List ℕ) → List ℕ → List ℤ → ℕ
+answer_number s m p out work = or_else (refusal_of s m p work) (coding_refusal_of s (plan_of s m p) (length out))
 
 -- what an answer of number n tells, where a is the call's plan: n and, after 0, the length of all that is written, the
 -- count of cut slices and the final scaler
-abbrev pub toldBy : Settings → Plan → ℕ → List ℕ
-toldBy s a zero = 0 ∷ length (written_of s a) ∷ cutCount a ∷ scalerIn a.parameters.sliceParameters s.slice_size_scaler ∷ []
-toldBy s a (suc n) = suc n ∷ []
+abbrev pub told_by : Settings → Plan → ℕ → List ℕ
+told_by s a zero = 0 ∷ length (written_of s a) ∷ cut_count a ∷ scaler_in a.parameters.slice_parameters s.slice_size_scaler ∷ []
+told_by s a (suc n) = suc n ∷ []
 
-abbrev pub answerTold : Settings → List ℕ → Three (List ℕ) → List ℕ → List ℤ → List ℕ
-answerTold s m p out work = toldBy s (plan_of s m p) (answerNumber s m p out work)
+abbrev pub answer_told : Settings → List ℕ → Three (List ℕ) → List ℕ → List ℤ → List ℕ
+answer_told s m p out work = told_by s (plan_of s m p) (answer_number s m p out work)
 
 -- what a picture call does: settings s, lent matrix m, planes p, output and work slice as they came and as they are
 -- left, and the answer
 pub record Encodes (s : Settings) (m : List ℕ) (p : Three (List ℕ)) (out : List ℕ) (work : List ℤ) (out' : List ℕ) (work' : List ℤ) (r : Answer) : Type 0 where
-  pub answer : r ≡ (outcomeOf s m p out work).answer
-  pub number : number_of r ≡ answerNumber s m p out work
-  pub told : tells r ≡ answerTold s m p out work
-  pub output : out' ≡ (outcomeOf s m p out work).output
-  pub work-left : work' ≡ (outcomeOf s m p out work).work
+  pub answer : r ≡ (outcome_of s m p out work).answer
+  pub number : number_of r ≡ answer_number s m p out work
+  pub told : tells r ≡ answer_told s m p out work
+  pub output : out' ≡ (outcome_of s m p out work).output
+  pub work_left : work' ≡ (outcome_of s m p out work).work
   -- an accepted call: demand 3 of the bytes that the answer counts, as they now stand in the output
   pub demand : (c : Coded) → r ≡ Accepted c → Demand3 s m p (take c.written out')
   -- its count of cut slices is 0 just where no slice has dropped a number that is not 0, a premise of demand 3's `near`

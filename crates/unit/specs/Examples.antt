@@ -7,25 +7,25 @@ use Rattle.laws.specs.Rows.{span}
 use Rattle.laws.specs.Wrap.{wrap}
 use Rattle.codewords.specs.Bit.{lit}
 use Rattle.codewords.specs.Bytes.{to_bytes}
-use Rattle.codewords.specs.Laws.Byte.{length-toBytes}
-use Rattle.codewords.specs.CodeWord.{log2In, log2, interleaved, codeU, code_s}
+use Rattle.codewords.specs.Laws.Byte.{length-to_bytes}
+use Rattle.codewords.specs.CodeWord.{log2_in, log2, interleaved, code_u, code_s}
 use Rattle.quantiser.specs.Standard.{factor}
-use Rattle.quantiser.specs.Quant.{cap, quantFactor, quantOffset, forwardBy, forwardQuant, inverseBy, inverseQuant}
+use Rattle.quantiser.specs.Quant.{cap, quant_factor, quant_offset, forward_by, forward_quant, inverse_by, inverse_quant}
 use Rattle.wavelet.specs.Lifting.{Stage, exact, within, dot, delta, lifted, analysis}
 use Rattle.wavelet.specs.Planes.{Band}
-use Rattle.wavelet.specs.Filters.{legall, filterOf, analysisBy}
+use Rattle.wavelet.specs.Filters.{legall, filter_of, analysis_by}
 use Rattle.unit.specs.declared.Settings.{Settings}
 use Rattle.unit.specs.declared.PictureKind.TheVariants.{LowDelay}
 use Rattle.unit.specs.declared.RateControl.TheVariants.{PictureBytes}
-use Rattle.unit.specs.Matrix.{matrixValues, carriedMatrix}
-use Rattle.unit.specs.Parameters.{extendedBits, parameterBits, parameterBytes}
-use Rattle.unit.specs.Unit.{majorVersion, gridOf, numeratorOf, plan_of, length_of}
-use Rattle.unit.specs.Coefficients.{coefficientsOf}
+use Rattle.unit.specs.Matrix.{matrix_values, carried_matrix}
+use Rattle.unit.specs.Parameters.{extended_bits, parameter_bits, parameter_bytes}
+use Rattle.unit.specs.Unit.{major_version, grid_of, numerator_of, plan_of, length_of}
+use Rattle.unit.specs.Coefficients.{coefficients_of}
 use Rattle.unit.specs.Laws.LowDelay.{runs_fit, length-low}
 use Rattle.unit.specs.Three.{Three}
 use Rattle.unit.specs.Sizes.{Size}
 use Rattle.unit.specs.Slices.{Grid, left, right}
-use Rattle.unit.specs.LowDelay.{sliceBytes, numerator, roomOf, alternated, low_bits, keptRuns, lowNumbers, lowIndex, lowPlanOf, lowPlan, lowSlices, zeroPlanes}
+use Rattle.unit.specs.LowDelay.{slice_bytes, numerator, room_of, alternated, low_bits, kept_runs, low_numbers, low_index, low_plan_of, low_plan, low_slices, zero_planes}
 use Rattle.unit.specs.Predict.{mean}
 
 -- -n
@@ -42,10 +42,10 @@ unfolding analysis
 one_number wr [] z = refl
 one_number wr (st ∷ ss) z = rw (one_number wr ss z) (one-stage wr st (not st.adds) z)
 
--- ---- one-slice 4:4:4 low delay
+-- ---- one_slice_lem 4:4:4 low delay
 -- both wavelets 1, both depths 0, default matrix, not extended, target 51; the other settings are those of r
-unfoldable pub oneSlice : Settings → Settings
-oneSlice r = record {
+unfoldable pub one_slice : Settings → Settings
+one_slice r = record {
   kind = LowDelay;
   wavelet_index = 1;
   wavelet_index_ho = 1;
@@ -69,22 +69,22 @@ oneSlice r = record {
 }
 
 -- a low-delay slice takes its n bytes, whatever its numbers are
-low-bytes : (g : Grid) (m : List ℕ) (b : Three (List Band)) (n q : ℕ) (z : Three (List ℤ)) → 1 ≤ n → length (to_bytes (lowPlanOf g m b n q z).bits) ≡ n
-low-bytes g m b n q z some =
-    let w = keptRuns (roomOf n) z.y (alternated z.c1 z.c2) in
-    length-toBytes (low_bits n q w.luma w.colour)
-    ∙ omega (arith, length-low n q w.luma w.colour (runs_fit (roomOf n) z.y (alternated z.c1 z.c2)) some)
+low_bytes : (g : Grid) (m : List ℕ) (b : Three (List Band)) (n q : ℕ) (z : Three (List ℤ)) → 1 ≤ n → length (to_bytes (low_plan_of g m b n q z).bits) ≡ n
+low_bytes g m b n q z some =
+    let w = kept_runs (room_of n) z.y (alternated z.c1 z.c2) in
+    length-to_bytes (low_bits n q w.luma w.colour)
+    ∙ omega (arith, length-low n q w.luma w.colour (runs_fit (room_of n) z.y (alternated z.c1 z.c2)) some)
 
 -- the unit's length, for a picture of any size and any planes
-one-slice : (r : Settings) (m : List ℕ) (p : Three (List ℕ)) → length_of (oneSlice r) (plan_of (oneSlice r) m p) ≡ 52
-unfolding oneSlice length_of plan_of flatten lowSlices lowPlan numeratorOf numerator majorVersion carriedMatrix parameterBytes parameterBits extendedBits log2In log2 lit interleaved codeU sliceBytes
-one-slice r m p =
-    let g = gridOf (oneSlice r) in
-    let v = matrixValues (oneSlice r) m in
-    let b = coefficientsOf (oneSlice r) p in
-    let q = lowIndex g v b 31 zeroPlanes 0 in
-    let z = lowNumbers g v b zeroPlanes 0 q in
-    omega (arith, low-bytes g v b 31 q z (omega arith), ap length (append-nil (to_bytes (lowPlanOf g v b 31 q z).bits)))
+one_slice_lem : (r : Settings) (m : List ℕ) (p : Three (List ℕ)) → length_of (one_slice r) (plan_of (one_slice r) m p) ≡ 52
+unfolding one_slice length_of plan_of flatten low_slices low_plan numerator_of numerator major_version carried_matrix parameter_bytes parameter_bits extended_bits log2_in log2 lit interleaved code_u slice_bytes
+one_slice_lem r m p =
+    let g = grid_of (one_slice r) in
+    let v = matrix_values (one_slice r) m in
+    let b = coefficients_of (one_slice r) p in
+    let q = low_index g v b 31 zero_planes 0 in
+    let z = low_numbers g v b zero_planes 0 q in
+    omega (arith, low_bytes g v b 31 q z (omega arith), ap length (append-nil (to_bytes (low_plan_of g v b 31 q z).bits)))
 
 -- two slices across, and a band of width 5
 abbrev pub halves : Grid
@@ -95,54 +95,54 @@ five = record { width = 5; height = 1 }
 
 pub record MarkedExamples : Type 0 where
   -- factors 0 to 5; factor 243 is below 2^63 - 1, factor 244 equals it
-  pub factors : span quantFactor 0 6 ≡ 4 ∷ 5 ∷ 6 ∷ 7 ∷ 8 ∷ 10 ∷ []
-  pub factor-243 : quantFactor 243 < 2 ^ 63 - 1
-  pub factor-244 : quantFactor 244 ≡ 2 ^ 63 - 1
+  pub factors : span quant_factor 0 6 ≡ 4 ∷ 5 ∷ 6 ∷ 7 ∷ 8 ∷ 10 ∷ []
+  pub factor_243 : quant_factor 243 < 2 ^ 63 - 1
+  pub factor_244 : quant_factor 244 ≡ 2 ^ 63 - 1
   -- offsets 0, 1, 2
-  pub offsets : span quantOffset 0 3 ≡ 1 ∷ 2 ∷ 3 ∷ []
+  pub offsets : span quant_offset 0 3 ≡ 1 ∷ 2 ∷ 3 ∷ []
   -- -7 at index 2 becomes -4, rebuilt -7; 5 at index 4 becomes 2, rebuilt 5; -2^63 at index 0 becomes -(2^63 - 1)
-  pub minus-7 : forwardQuant (minus 7) 2 ≡ minus 4
-  pub minus-4 : inverseQuant (minus 4) 2 ≡ minus 7
-  pub plus-5 : forwardQuant (pos 5) 4 ≡ pos 2
-  pub plus-2 : inverseQuant (pos 2) 4 ≡ pos 5
-  pub least : forwardQuant (minus (2 ^ 63)) 0 ≡ minus (2 ^ 63 - 1)
+  pub minus_7 : forward_quant (minus 7) 2 ≡ minus 4
+  pub minus_4 : inverse_quant (minus 4) 2 ≡ minus 7
+  pub plus_5 : forward_quant (pos 5) 4 ≡ pos 2
+  pub plus_2 : inverse_quant (pos 2) 4 ≡ pos 5
+  pub least : forward_quant (minus (2 ^ 63)) 0 ≡ minus (2 ^ 63 - 1)
   -- code lengths of 0, 1, 3, -2^63
-  pub code-lengths : map (λ (z : ℤ). length (code_s z)) (pos 0 ∷ pos 1 ∷ pos 3 ∷ minus (2 ^ 63) ∷ []) ≡ 1 ∷ 4 ∷ 6 ∷ 128 ∷ []
+  pub code_lengths : map (λ (z : ℤ). length (code_s z)) (pos 0 ∷ pos 1 ∷ pos 3 ∷ minus (2 ^ 63) ∷ []) ≡ 1 ∷ 4 ∷ 6 ∷ 128 ∷ []
   -- LeGall row 1, 2, with and without wrap; a row of one number, by every filter
-  pub row-of-two : analysisBy wrap 1 (pos 1 ∷ pos 2 ∷ []) ≡ pos 2 ∷ pos 1 ∷ []
-  pub row-of-two-exact : analysisBy exact 1 (pos 1 ∷ pos 2 ∷ []) ≡ pos 2 ∷ pos 1 ∷ []
-  pub row-of-one : (wr : ℤ → ℤ) (i : ℕ) (z : ℤ) → analysisBy wr i (z ∷ []) ≡ z ∷ []
+  pub row-of-two : analysis_by wrap 1 (pos 1 ∷ pos 2 ∷ []) ≡ pos 2 ∷ pos 1 ∷ []
+  pub row-of-two-exact : analysis_by exact 1 (pos 1 ∷ pos 2 ∷ []) ≡ pos 2 ∷ pos 1 ∷ []
+  pub row-of-one : (wr : ℤ → ℤ) (i : ℕ) (z : ℤ) → analysis_by wr i (z ∷ []) ≡ z ∷ []
   -- numerator 10, 3 slices
-  pub slice-bytes : span (sliceBytes 10 3) 0 3 ≡ 3 ∷ 3 ∷ 4 ∷ []
+  pub slice_bytes_lem : span (slice_bytes 10 3) 0 3 ≡ 3 ∷ 3 ∷ 4 ∷ []
   -- the mean of -1, -1, -1
   pub mean-of-three : mean (minus 1) (minus 1) (minus 1) ≡ minus 1
   -- band width 5 in two slices: 0 to 2, 2 to 5
-  pub slice-0 : (left halves five 0 ≡ 0) × (right halves five 0 ≡ 2)
-  pub slice-1 : (left halves five 1 ≡ 2) × (right halves five 1 ≡ 5)
-  -- one-slice 4:4:4 low delay, target 51: numerator 31, and 52 bytes for every picture
-  pub one-slice-numerator : (r : Settings) (m : List ℕ) → numeratorOf (oneSlice r) m ≡ 31
-  pub one-slice-length : (r : Settings) (m : List ℕ) (p : Three (List ℕ)) → length_of (oneSlice r) (plan_of (oneSlice r) m p) ≡ 52
+  pub slice_0 : (left halves five 0 ≡ 0) × (right halves five 0 ≡ 2)
+  pub slice_1 : (left halves five 1 ≡ 2) × (right halves five 1 ≡ 5)
+  -- one_slice_lem 4:4:4 low delay, target 51: numerator 31, and 52 bytes for every picture
+  pub one_slice_numerator : (r : Settings) (m : List ℕ) → numerator_of (one_slice r) m ≡ 31
+  pub one_slice_length : (r : Settings) (m : List ℕ) (p : Three (List ℕ)) → length_of (one_slice r) (plan_of (one_slice r) m p) ≡ 52
 
-pub marked-examples : MarkedExamples
-unfolding factor cap quantFactor quantOffset forwardBy forwardQuant inverseBy inverseQuant log2In log2 lit interleaved codeU code_s within dot delta lifted analysis legall wrap sliceBytes oneSlice numeratorOf numerator majorVersion carriedMatrix parameterBytes parameterBits extendedBits
-marked-examples = record {
+pub marked_examples : MarkedExamples
+unfolding factor cap quant_factor quant_offset forward_by forward_quant inverse_by inverse_quant log2_in log2 lit interleaved code_u code_s within dot delta lifted analysis legall wrap slice_bytes one_slice numerator_of numerator major_version carried_matrix parameter_bytes parameter_bits extended_bits
+marked_examples = record {
   factors = refl;
-  factor-243 = lit< tt;
-  factor-244 = refl;
+  factor_243 = lit< tt;
+  factor_244 = refl;
   offsets = refl;
-  minus-7 = refl;
-  minus-4 = refl;
-  plus-5 = refl;
-  plus-2 = refl;
+  minus_7 = refl;
+  minus_4 = refl;
+  plus_5 = refl;
+  plus_2 = refl;
   least = refl;
-  code-lengths = refl;
+  code_lengths = refl;
   row-of-two = refl;
   row-of-two-exact = refl;
-  row-of-one = λ wr i z. one_number wr (filterOf i).stages z;
-  slice-bytes = refl;
+  row-of-one = λ wr i z. one_number wr (filter_of i).stages z;
+  slice_bytes_lem = refl;
   mean-of-three = refl;
-  slice-0 = (refl, refl);
-  slice-1 = (refl, refl);
-  one-slice-numerator = λ r m. refl;
-  one-slice-length = one-slice;
+  slice_0 = (refl, refl);
+  slice_1 = (refl, refl);
+  one_slice_numerator = λ r m. refl;
+  one_slice_length = one_slice_lem;
 }

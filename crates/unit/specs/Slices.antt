@@ -18,8 +18,8 @@ pub record Grid : Type 0 where
   pub across : ℕ
 
 -- how many slices there are
-abbrev pub sliceCount : Grid → ℕ
-sliceCount g = g.down * g.across
+abbrev pub slice_count : Grid → ℕ
+slice_count g = g.down * g.across
 
 module _ (g : Grid) (z : Size) (k : ℕ) where
   -- the window of slice k in a subband of size z
@@ -36,8 +36,8 @@ module _ (g : Grid) (z : Size) (k : ℕ) where
   right = bound g.across z.width (suc (k % g.across))
 
   -- how many numbers slice k has of the subband
-  abbrev pub partSize : ℕ
-  partSize = (bottom - top) * (right - left)
+  abbrev pub part_size : ℕ
+  part_size = (bottom - top) * (right - left)
 
   -- slice k's part of a plane, row by row
   abbrev pub part : Plane → List ℤ

@@ -12,16 +12,16 @@ use Rattle.unit.specs.declared.RateControl.TheVariants.{Lossless, FixedQuantInde
 use Rattle.unit.specs.declared.FragmentSlices.{FragmentSlices}
 use Rattle.unit.specs.declared.FragmentSlices.TheVariants.{Whole, Each}
 use Rattle.unit.specs.Three.{Three}
-use Rattle.unit.specs.Sizes.{lumaSize}
-use Rattle.unit.specs.Slices.{Grid, sliceCount}
-use Rattle.unit.specs.Subbands.{paddedArea}
-use Rattle.unit.specs.Matrix.{matrixValues, carriedMatrix}
-use Rattle.unit.specs.Parameters.{SliceParameters, lowDelay, highQuality, Parameters, parameterBits, overhead, fill}
-use Rattle.unit.specs.Coefficients.{coefficientsOf}
+use Rattle.unit.specs.Sizes.{luma_size}
+use Rattle.unit.specs.Slices.{Grid, slice_count}
+use Rattle.unit.specs.Subbands.{padded_area}
+use Rattle.unit.specs.Matrix.{matrix_values, carried_matrix}
+use Rattle.unit.specs.Parameters.{SliceParameters, low_delay, high_quality, Parameters, parameter_bits, overhead, fill}
+use Rattle.unit.specs.Coefficients.{coefficients_of}
 use Rattle.unit.specs.Plan.{SlicePlan, Plan}
-use Rattle.unit.specs.LowDelay.{numerator, lowSlices, zeroPlanes}
-use Rattle.unit.specs.HighQuality.{highSlices, scalerFrom}
-use Rattle.unit.specs.Framing.{infoBits}
+use Rattle.unit.specs.LowDelay.{numerator, low_slices, zero_planes}
+use Rattle.unit.specs.HighQuality.{high_slices, scaler_from}
+use Rattle.unit.specs.Framing.{info_bits}
 
 -- document 01's asymmetric: the wavelet indices differ, or the horizontal-only depth is not 0
 abbrev pub asymmetric : Settings → Bool
@@ -32,30 +32,30 @@ abbrev pub fragmented : FragmentSlices → Bool
 fragmented Whole = false
 fragmented (Each n) = true
 
-abbrev pub versionBy : Bool → PictureKind → ℕ
-versionBy true k = 3
-versionBy false HighQuality = 2
-versionBy false LowDelay = 1
+abbrev pub version_by : Bool → PictureKind → ℕ
+version_by true k = 3
+version_by false HighQuality = 2
+version_by false LowDelay = 1
 
 -- major_version: 3 if extended, asymmetric or in fragments, else 2 for high quality, else 1
-unfoldable pub majorVersion : Settings → ℕ
-majorVersion s = versionBy (s.extended || (fragmented s.fragment_slices || asymmetric s)) s.kind
+unfoldable pub major_version : Settings → ℕ
+major_version s = version_by (s.extended || (fragmented s.fragment_slices || asymmetric s)) s.kind
 
 -- the slices across and down
-abbrev pub gridOf : Settings → Grid
-gridOf s = record { down = s.slices_y; across = s.slices_x }
+abbrev pub grid_of : Settings → Grid
+grid_of s = record { down = s.slices_y; across = s.slices_x }
 
 -- the transform parameters of a call, by its slice parameters; m is the lent matrix
-abbrev pub parametersBy : Settings → List ℕ → SliceParameters → Parameters
-parametersBy s m p = record {
+abbrev pub parameters_by : Settings → List ℕ → SliceParameters → Parameters
+parameters_by s m p = record {
   wavelet = s.wavelet_index;
   depth = s.dwt_depth;
-  waveletHo = s.wavelet_index_ho;
-  depthHo = s.dwt_depth_ho;
+  wavelet_ho = s.wavelet_index_ho;
+  depth_ho = s.dwt_depth_ho;
   across = s.slices_x;
   down = s.slices_y;
-  sliceParameters = p;
-  matrix = carriedMatrix s m;
+  slice_parameters = p;
+  matrix = carried_matrix s m;
 }
 
 -- the byte target: a picture's bytes, 0 for other rates
@@ -65,57 +65,57 @@ target_of (FixedQuantIndex q) = 0
 target_of (PictureBytes n) = n
 
 module _ (s : Settings) (m : List ℕ) where
-  abbrev pub lowParameters : ℕ → Parameters
-  lowParameters n = parametersBy s m (lowDelay n (sliceCount (gridOf s)))
+  abbrev pub low_parameters : ℕ → Parameters
+  low_parameters n = parameters_by s m (low_delay n (slice_count (grid_of s)))
 
-  abbrev pub highParameters : ℕ → Parameters
-  highParameters c = parametersBy s m (highQuality s.slice_prefix_bytes c)
+  abbrev pub high_parameters : ℕ → Parameters
+  high_parameters c = parameters_by s m (high_quality s.slice_prefix_bytes c)
 
   -- the low-delay numerator
-  unfoldable pub numeratorOf : ℕ
-  numeratorOf = numerator (majorVersion s) (target_of s.rate) (sliceCount (gridOf s)) lowParameters
+  unfoldable pub numerator_of : ℕ
+  numerator_of = numerator (major_version s) (target_of s.rate) (slice_count (grid_of s)) low_parameters
 
   -- the bytes for all high-quality slices: the target less overhead, or 0 below that
-  abbrev pub highBytes : ℕ → ℕ
-  highBytes c = target_of s.rate - (overhead (majorVersion s) (highParameters c))
+  abbrev pub high_bytes : ℕ → ℕ
+  high_bytes c = target_of s.rate - (overhead (major_version s) (high_parameters c))
 
-  abbrev pub highSlicesOf : Three (List Band) → ℕ → List SlicePlan
-  highSlicesOf b c = highSlices (gridOf s) (matrixValues s m) b s.slice_prefix_bytes s.rate c (highBytes c)
+  abbrev pub high_slices_of : Three (List Band) → ℕ → List SlicePlan
+  high_slices_of b c = high_slices (grid_of s) (matrix_values s m) b s.slice_prefix_bytes s.rate c (high_bytes c)
 
   -- the final scaler; a component needs at most 16 bytes for each of its numbers
-  unfoldable pub scalerOf : Three (List Band) → ℕ
-  scalerOf b = scalerFrom (highSlicesOf b) (16 * paddedArea s (lumaSize s)) s.slice_size_scaler
+  unfoldable pub scaler_of : Three (List Band) → ℕ
+  scaler_of b = scaler_from (high_slices_of b) (16 * padded_area s (luma_size s)) s.slice_size_scaler
 
   -- the plan of a picture whose coefficients are b
-  abbrev pub planBy : PictureKind → Three (List Band) → Plan
-  planBy LowDelay b =
-      let n = numeratorOf in
-      record { parameters = lowParameters n; slices = lowSlices (gridOf s) (matrixValues s m) b n zeroPlanes 0 (sliceCount (gridOf s)) }
-  planBy HighQuality b = let c = scalerOf b in record { parameters = highParameters c; slices = highSlicesOf b c }
+  abbrev pub plan_by : PictureKind → Three (List Band) → Plan
+  plan_by LowDelay b =
+      let n = numerator_of in
+      record { parameters = low_parameters n; slices = low_slices (grid_of s) (matrix_values s m) b n zero_planes 0 (slice_count (grid_of s)) }
+  plan_by HighQuality b = let c = scaler_of b in record { parameters = high_parameters c; slices = high_slices_of b c }
 
 -- the plan of a call: s are the settings, m the lent matrix, p the planes
 unfoldable pub plan_of : Settings → List ℕ → Three (List ℕ) → Plan
-plan_of s m p = let b = coefficientsOf s p in planBy s m s.kind b
+plan_of s m p = let b = coefficients_of s p in plan_by s m s.kind b
 
 -- the parse code of a picture of this kind
-abbrev pub parseCode : PictureKind → ℕ
-parseCode LowDelay = 0xC8
-parseCode HighQuality = 0xE8
+abbrev pub parse_code : PictureKind → ℕ
+parse_code LowDelay = 0xC8
+parse_code HighQuality = 0xE8
 
 -- the bytes of the slices, one run for each
-abbrev pub sliceRuns : List SlicePlan → List (List ℕ)
-sliceRuns ss = map (λ p. to_bytes p.bits) ss
+abbrev pub slice_runs : List SlicePlan → List (List ℕ)
+slice_runs ss = map (λ p. to_bytes p.bits) ss
 
 -- parse information (the next length is the unit's), picture number and transform parameters
 unfoldable pub head_bits : Settings → ℕ → Parameters → Bits
 head_bits s n t =
-    let b = parameterBits (majorVersion s) t in
-    infoBits (parseCode s.kind) n s.prev_unit_len ++ (lit 32 s.picture_number ++ (b ++ fill (length b)))
+    let b = parameter_bits (major_version s) t in
+    info_bits (parse_code s.kind) n s.prev_unit_len ++ (lit 32 s.picture_number ++ (b ++ fill (length b)))
 
 -- the length of the unit
 unfoldable pub length_of : Settings → Plan → ℕ
-length_of s a = overhead (majorVersion s) a.parameters + length (flatten (sliceRuns a.slices))
+length_of s a = overhead (major_version s) a.parameters + length (flatten (slice_runs a.slices))
 
 -- the unit: its head, and the slices' bytes
 unfoldable pub unit_of : Settings → Plan → List ℕ
-unit_of s a = let rs = flatten (sliceRuns a.slices) in to_bytes (head_bits s (length_of s a) a.parameters) ++ rs
+unit_of s a = let rs = flatten (slice_runs a.slices) in to_bytes (head_bits s (length_of s a) a.parameters) ++ rs

@@ -8,34 +8,34 @@ use mathlib.Core.List.{List, [], ◌∷◌, ◌++◌, map, flatten}
 use Rattle.laws.specs.Wrap.{wrap}
 use Rattle.codewords.specs.Bit.{lit}
 use Rattle.codewords.specs.Bytes.{pack}
-use Rattle.codewords.specs.CodeWord.{log2In, log2, interleaved, codeU, code_s, codes, zeroFilled}
+use Rattle.codewords.specs.CodeWord.{log2_in, log2, interleaved, code_u, code_s, codes, zero_filled}
 use Rattle.quantiser.specs.Standard.{factor}
-use Rattle.quantiser.specs.Quant.{cap, quantFactor, quantOffset, forwardBy, forwardQuant, inverseBy, inverseQuant}
-use Rattle.quantiser.specs.AnnexD.{tableD2, tableD4, tableD7, defaultMatrix}
-use Rattle.wavelet.specs.Depth.{depthLimit}
+use Rattle.quantiser.specs.Quant.{cap, quant_factor, quant_offset, forward_by, forward_quant, inverse_by, inverse_quant}
+use Rattle.quantiser.specs.AnnexD.{table_d2, table_d4, table_d7, default_matrix}
+use Rattle.wavelet.specs.Depth.{depth_limit}
 use Rattle.wavelet.specs.Lifting.{within, dot, delta, lifted, analysis}
-use Rattle.wavelet.specs.Filters.{legall, haar0, fidelity, analysisBy}
-use Rattle.wavelet.specs.Planes.{rows_by, dwtH, dwt}
+use Rattle.wavelet.specs.Filters.{legall, haar0, fidelity, analysis_by}
+use Rattle.wavelet.specs.Planes.{rows_by, dwt_h, dwt}
 use Rattle.wavelet.specs.RowCall.{answer_of}
 use Rattle.unit.specs.declared.Answer.TheVariants.{Accepted, Refused}
 use Rattle.unit.specs.Three.{Three, planes}
-use Rattle.unit.specs.Sizes.{lumaSize, colourSize, intlog2, depthsOf}
-use Rattle.unit.specs.Subbands.{paddedSize, workNeeded}
+use Rattle.unit.specs.Sizes.{luma_size, colour_size, intlog2, depths_of}
+use Rattle.unit.specs.Subbands.{padded_size, work_needed}
 use Rattle.unit.specs.Slices.{region}
-use Rattle.unit.specs.Matrix.{matrixValues, carriedMatrix}
-use Rattle.unit.specs.Refusal.{refusalOf}
-use Rattle.unit.specs.Parameters.{extendedBits, codesU, parameterBits, parameterBytes}
-use Rattle.unit.specs.Predict.{predict, firstRow, restRow, nextRow, nextRows, scanRows, scan}
-use Rattle.unit.specs.Trim.{trimmed, trimmedCost, fitPrefix}
+use Rattle.unit.specs.Matrix.{matrix_values, carried_matrix}
+use Rattle.unit.specs.Refusal.{refusal_of}
+use Rattle.unit.specs.Parameters.{extended_bits, codes_u, parameter_bits, parameter_bytes}
+use Rattle.unit.specs.Predict.{predict, first_row, rest_row, next_row, next_rows, scan_rows, scan}
+use Rattle.unit.specs.Trim.{trimmed, trimmed_cost, fit_prefix}
 use Rattle.unit.specs.Elect.{halve, upward, elect}
-use Rattle.unit.specs.Coefficients.{bandsOf, coefficientsOf}
-use Rattle.unit.specs.Quantised.{numbersFrom, rebuilt, numbersLD, leftLD}
-use Rattle.unit.specs.LowDelay.{sliceBytes, numerator, alternated, evens, odds, low_bits, keptRuns, lowIndex, lowPlan, lowSlices}
-use Rattle.unit.specs.HighQuality.{componentBits, high_bits, sliceSize, share_of, highNumbers, highIndex, index_by, highPlan, largestNeed, scalerFrom}
-use Rattle.unit.specs.Unit.{majorVersion, numeratorOf, scalerOf, plan_of, head_bits, length_of, unit_of}
-use Rattle.unit.specs.Cut.{anyLost, isCut, cutCount}
-use Rattle.unit.specs.Outcome.{Outcome, codingRefusal, codedOf, outcomeOf, tells}
-use Rattle.unit.specs.Words.{settingsOf}
+use Rattle.unit.specs.Coefficients.{bands_of, coefficients_of}
+use Rattle.unit.specs.Quantised.{numbers_from, rebuilt, numbers_ld, left_ld}
+use Rattle.unit.specs.LowDelay.{slice_bytes, numerator, alternated, evens, odds, low_bits, kept_runs, low_index, low_plan, low_slices}
+use Rattle.unit.specs.HighQuality.{component_bits, high_bits, slice_size, share_of, high_numbers, high_index, index_by, high_plan, largest_need, scaler_from}
+use Rattle.unit.specs.Unit.{major_version, numerator_of, scaler_of, plan_of, head_bits, length_of, unit_of}
+use Rattle.unit.specs.Cut.{any_lost, is_cut, cut_count}
+use Rattle.unit.specs.Outcome.{Outcome, coding_refusal, coded_of, outcome_of, tells}
+use Rattle.unit.specs.Words.{settings_of}
 
 -- ---- settings, as the job program's words
 -- document 01's job: high quality, lossless, one sample of each component in one slice, LeGall wavelet, no depth,
@@ -50,8 +50,8 @@ wavelet n ws = set (set ws 1 n) 2 n
 abbrev depth : ℕ → List ℕ → List ℕ
 depth n ws = set ws 3 n
 
-abbrev depthHo : ℕ → List ℕ → List ℕ
-depthHo n ws = set ws 4 n
+abbrev depth_ho : ℕ → List ℕ → List ℕ
+depth_ho n ws = set ws 4 n
 
 abbrev across : ℕ → List ℕ → List ℕ
 across n ws = set ws 5 n
@@ -92,7 +92,7 @@ luma y = let c = replicate {A = ℕ} (length y) 128 in planes y c c
 -- Of settings ws, lent matrix m and planes p; n bytes AA are lent for the output, and for the work slice as many
 -- numbers 5 as it needs.
 abbrev outcome : List ℕ → List ℕ → Three (List ℕ) → ℕ → Outcome
-outcome ws m p n = let s = settingsOf ws in outcomeOf s m p (replicate n 0xAA) (replicate (workNeeded s) (pos 5))
+outcome ws m p n = let s = settings_of ws in outcome_of s m p (replicate n 0xAA) (replicate (work_needed s) (pos 5))
 
 -- parse information with parse code c, next length n and previous length 0, picture number 7, and then bs
 abbrev headed : ℕ → ℕ → List ℕ → List ℕ
@@ -127,7 +127,7 @@ pub record Gives (c : ℕ) (ws m : List ℕ) (p : Three (List ℕ)) (cut scaler 
       ≡ record {
         answer = Accepted (record { written = 17 + length bs; cut_slices = cut; slice_size_scaler = scaler });
         output = unit c bs;
-        work = replicate (workNeeded (settingsOf ws)) (pos 0);
+        work = replicate (work_needed (settings_of ws)) (pos 0);
       }
   pub apart : among (0 ∷ (17 + length bs) ∷ cut ∷ scaler ∷ unit c bs) wrong ≡ false
 
@@ -149,7 +149,7 @@ pub record GivesList (given stated : List ℕ) (wrong : List (List ℕ)) : Type 
 
 -- a row of numbers that are not below 0, by filter i
 pub record Becomes (i : ℕ) (xs ys : List ℕ) (wrong : List (List ℕ)) : Type 0 where
-  pub right : analysisBy wrap i (map pos xs) ≡ map pos ys
+  pub right : analysis_by wrap i (map pos xs) ≡ map pos ys
   pub apart : among ys wrong ≡ false
 
 pub record WrongEncoders : Type 0 where
@@ -247,7 +247,7 @@ pub record WrongEncoders : Type 0 where
       ∷ [])
   -- A longer work slice has room for notes.
   pub longer-work :
-      GivesList (outcomeOf (settingsOf (across 2 (wide 2 job))) [] (planes (130 ∷ 127 ∷ []) (129 ∷ 128 ∷ []) (128 ∷ 126 ∷ [])) (replicate 31 0xAA)
+      GivesList (outcome_of (settings_of (across 2 (wide 2 job))) [] (planes (130 ∷ 127 ∷ []) (129 ∷ 128 ∷ []) (128 ∷ 126 ∷ [])) (replicate 31 0xAA)
       (replicate 26 (pos 5))).output
       (unit 0xE8 (0x36 ∷ 0x64 ∷ 0x00 ∷ 0x01 ∷ 0x6F ∷ 0x01 ∷ 0x2F ∷ 0x00 ∷ 0x00 ∷ 0x01 ∷ 0x3F ∷ 0x00 ∷ 0x01 ∷ 0x7F ∷ []))
       -- first_words_always writes every slice from the first one's words
@@ -360,7 +360,7 @@ pub record WrongEncoders : Type 0 where
       ∷ [])
   -- Two levels both ways, and one horizontal-only.
   pub height-halved :
-      Gives 0xE8 (custom (wide 2 (wavelet 3 (depthHo 1 (depth 2 job))))) (replicate 8 0) (luma (129 ∷ 128 ∷ [])) 0 1
+      Gives 0xE8 (custom (wide 2 (wavelet 3 (depth_ho 1 (depth 2 job))))) (replicate 8 0) (luma (129 ∷ 128 ∷ [])) 0 1
       (0x0B ∷ 0x49 ∷ 0x33 ∷ 0xFF ∷ 0x00 ∷ 0x04 ∷ 0x23 ∷ 0x3F ∷ 0x9F ∷ 0x3F ∷ 0x00 ∷ 0x00 ∷ [])
       -- height_kept takes the next level as high as this one
       (left 29 0 1 0xE8 (0x0B ∷ 0x49 ∷ 0x33 ∷ 0xFF ∷ 0x00 ∷ 0x04 ∷ 0x29 ∷ 0x97 ∷ 0x9F ∷ 0x3F ∷ 0x00 ∷ 0x00 ∷ [])
@@ -368,13 +368,13 @@ pub record WrongEncoders : Type 0 where
   -- ---- refusals
   -- clears_when_refused answers 13 too, and clears the work slice.
   pub short-work :
-      outcomeOf (settingsOf job) [] (luma (128 ∷ [])) (0xAA ∷ []) (replicate 8 (pos 5))
+      outcome_of (settings_of job) [] (luma (128 ∷ [])) (0xAA ∷ []) (replicate 8 (pos 5))
       ≡ record { answer = Refused 13; output = 0xAA ∷ []; work = replicate 8 (pos 5) }
   -- The first rule that each of these calls breaks.
   pub numbers :
       GivesList
       (flatten
-      (map (λ ws. tells (outcomeOf (settingsOf ws) [] (luma (128 ∷ [])) [] (replicate 9 (pos 5))).answer)
+      (map (λ ws. tells (outcome_of (settings_of ws) [] (luma (128 ∷ [])) [] (replicate 9 (pos 5))).answer)
       (wavelet 7 job ∷ depth 9 job ∷ across 0 job ∷ scaler 0 job ∷ set job 0 0 ∷ index 256 job ∷ target 1073741825 job ∷ wide 0 job ∷ custom job
       ∷ depth 5 job ∷ wide 65535 (high 65535 job) ∷ wide 2 job ∷ [])))
       (1 ∷ 2 ∷ 3 ∷ 4 ∷ 5 ∷ 6 ∷ 7 ∷ 8 ∷ 9 ∷ 10 ∷ 11 ∷ 12 ∷ [])
@@ -385,7 +385,7 @@ pub record WrongEncoders : Type 0 where
 -- ---- the number of the first rule that a call breaks
 -- with planes p, and a work slice of n numbers
 abbrev first : ℕ → Three (List ℕ) → List ℕ → List ℕ → ℕ
-first n p m ws = refusalOf (settingsOf ws) m p (replicate n (pos 5))
+first n p m ws = refusal_of (settings_of ws) m p (replicate n (pos 5))
 
 -- without planes, so that a call that breaks no rule before 12 breaks this one; without a matrix
 abbrev firsts : List (List ℕ) → List ℕ
@@ -405,7 +405,7 @@ pub record Numbers : Type 0 where
   -- each limit and one more: both wavelets, the depths, slices across, down and all, scaler, prefix bytes
   pub shape : firsts
       (wavelet 6 job ∷ set job 1 7 ∷ set job 2 7
-      ∷ depth 8 job ∷ depth 9 job ∷ depthHo 8 job ∷ depthHo 9 job
+      ∷ depth 8 job ∷ depth 9 job ∷ depth_ho 8 job ∷ depth_ho 9 job
       ∷ across 65535 job ∷ across 65536 job ∷ across 0 job ∷ set job 6 65535 ∷ set job 6 65536 ∷ set job 6 0
       ∷ set (across 1024 job) 6 1024 ∷ set (across 1025 job) 6 1024
       ∷ scaler 65535 job ∷ scaler 65536 job ∷ scaler 0 job ∷ set job 7 255 ∷ set job 7 256 ∷ [])
@@ -428,7 +428,7 @@ pub record Numbers : Type 0 where
       ∷ first 9 (planes (128 ∷ []) [] (128 ∷ [])) [] job ∷ first 9 (planes (128 ∷ []) (128 ∷ []) []) [] job ∷ []
       ≡ 0 ∷ 13 ∷ 12 ∷ 12 ∷ 12 ∷ []
   -- an output as long as the unit and one byte shorter, the longest unit and one byte more
-  pub coding : codingRefusal 21 21 ∷ codingRefusal 20 21 ∷ codingRefusal 4294967296 4294967295 ∷ codingRefusal 4294967296 4294967296 ∷ []
+  pub coding : coding_refusal 21 21 ∷ coding_refusal 20 21 ∷ coding_refusal 4294967296 4294967295 ∷ coding_refusal 4294967296 4294967296 ∷ []
       ≡ 0 ∷ 14 ∷ 0 ∷ 14 ∷ []
   -- two rules that can be broken together, one behind the other: the first one counts
   pub order : firsts
@@ -451,16 +451,16 @@ pub record WrongRows : Type 0 where
       ((3 ∷ 0 ∷ [])
       ∷ [])
   -- the row call's refusals, and the row of 65,536 numbers, which is not refused
-  pub row-numbers : answer_of 6 [] ∷ answer_of 7 [] ∷ answer_of 1 (replicate 65537 (pos 0)) ∷ answer_of 7 (replicate 65537 (pos 0)) ∷ [] ≡ 0 ∷ 1 ∷ 15 ∷ 1 ∷ []
+  pub row_numbers_lem : answer_of 6 [] ∷ answer_of 7 [] ∷ answer_of 1 (replicate 65537 (pos 0)) ∷ answer_of 7 (replicate 65537 (pos 0)) ∷ [] ≡ 0 ∷ 1 ∷ 15 ∷ 1 ∷ []
   pub longest-row :
       GivesList (answer_of 1 (replicate 65536 (pos 0)) ∷ []) (0 ∷ [])
       -- longest_refused refuses a row of 65,536 numbers
       ((15 ∷ [])
       ∷ [])
 
-pub wrong-encoders : WrongEncoders
-unfolding settingsOf outcomeOf refusalOf workNeeded codedOf anyLost isCut cutCount unit_of head_bits length_of flatten plan_of scalerOf numeratorOf majorVersion matrixValues carriedMatrix extendedBits codesU parameterBits parameterBytes lumaSize colourSize intlog2 depthsOf paddedSize region coefficientsOf bandsOf predict firstRow restRow nextRow nextRows scanRows scan trimmed trimmedCost fitPrefix halve upward elect numbersFrom rebuilt numbersLD leftLD sliceBytes numerator alternated low_bits keptRuns lowIndex lowPlan lowSlices componentBits high_bits sliceSize share_of highNumbers highIndex index_by highPlan largestNeed scalerFrom lit pack log2In log2 interleaved codeU code_s codes zeroFilled factor cap quantFactor quantOffset forwardBy forwardQuant inverseBy inverseQuant tableD2 tableD4 defaultMatrix within dot delta lifted analysis legall rows_by dwtH dwt depthLimit evens odds haar0
-wrong-encoders = record {
+pub wrong_encoders : WrongEncoders
+unfolding settings_of outcome_of refusal_of work_needed coded_of any_lost is_cut cut_count unit_of head_bits length_of flatten plan_of scaler_of numerator_of major_version matrix_values carried_matrix extended_bits codes_u parameter_bits parameter_bytes luma_size colour_size intlog2 depths_of padded_size region coefficients_of bands_of predict first_row rest_row next_row next_rows scan_rows scan trimmed trimmed_cost fit_prefix halve upward elect numbers_from rebuilt numbers_ld left_ld slice_bytes numerator alternated low_bits kept_runs low_index low_plan low_slices component_bits high_bits slice_size share_of high_numbers high_index index_by high_plan largest_need scaler_from lit pack log2_in log2 interleaved code_u code_s codes zero_filled factor cap quant_factor quant_offset forward_by forward_quant inverse_by inverse_quant table_d2 table_d4 default_matrix within dot delta lifted analysis legall rows_by dwt_h dwt depth_limit evens odds haar0
+wrong_encoders = record {
   one-sample = record { right = refl; apart = refl };
   longer-output = record { right = refl; apart = refl };
   short-output = record { right = refl; apart = refl };
@@ -476,7 +476,7 @@ wrong-encoders = record {
   first-cut = record { right = refl; apart = refl };
   last_fits = record { right = refl; apart = refl };
   not-the-least = record { right = refl; apart = refl };
-  numerator-twice = record { right = refl; apart = refl };
+  numerator_twice = record { right = refl; apart = refl };
   mean-floors = record { right = refl; apart = refl };
   colours-alternate = record { right = refl; apart = refl };
   one-shift-low = record { right = refl; apart = refl };
@@ -488,18 +488,18 @@ wrong-encoders = record {
   numbers = record { right = refl; apart = refl };
 }
 
-pub wrong-rows : WrongRows
+pub wrong_rows : WrongRows
 unfolding analysis legall fidelity within dot delta lifted answer_of wrap
-wrong-rows = record {
+wrong_rows = record {
   legall-row = record { right = refl; apart = refl };
   fidelity-row = record { right = refl; apart = refl };
-  row-numbers = refl;
+  row_numbers_lem = refl;
   longest-row = record { right = refl; apart = refl };
 }
 
-pub call-numbers : Numbers
-unfolding settingsOf refusalOf workNeeded depthLimit lumaSize colourSize paddedSize defaultMatrix tableD2 tableD4 tableD7
-call-numbers = record {
+pub call_numbers : Numbers
+unfolding settings_of refusal_of work_needed depth_limit luma_size colour_size padded_size default_matrix table_d2 table_d4 table_d7
+call_numbers = record {
   shape = refl;
   rate = refl;
   frame-kept = refl;

@@ -96,16 +96,16 @@ abbrev pub filters : List Filter
 filters = dd97 ∷ legall ∷ dd137 ∷ haar0 ∷ haar1 ∷ fidelity ∷ daub97 ∷ []
 
 -- the last wavelet index: document 01, refusal 1
-abbrev pub lastWavelet : ℕ
-lastWavelet = 6
+abbrev pub last_wavelet : ℕ
+last_wavelet = 6
 
 -- the filter of a wavelet index up to it
-abbrev pub filterOf : ℕ → Filter
-filterOf i = slice_index_or filters i haar0
+abbrev pub filter_of : ℕ → Filter
+filter_of i = slice_index_or filters i haar0
 
 -- a row by filter i
-abbrev pub analysisBy : (ℤ → ℤ) → ℕ → List ℤ → List ℤ
-analysisBy wr i = analysis wr (filterOf i).stages
+abbrev pub analysis_by : (ℤ → ℤ) → ℕ → List ℤ → List ℤ
+analysis_by wr i = analysis wr (filter_of i).stages
 
-abbrev pub synthesisBy : (ℤ → ℤ) → ℕ → List ℤ → List ℤ
-synthesisBy wr i = synthesis wr (filterOf i).stages
+abbrev pub synthesis_by : (ℤ → ℤ) → ℕ → List ℤ → List ℤ
+synthesis_by wr i = synthesis wr (filter_of i).stages

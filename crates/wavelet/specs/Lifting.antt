@@ -53,11 +53,11 @@ module _ (wr : ℤ → ℤ) where
 
   -- place k of the row xs after its first m updates, each of which reads the row as it was; plus: whether the deltas
   -- are added
-  abbrev pub newAt : Stage → Bool → ℕ → List ℤ → ℕ → ℤ
-  newAt st plus m xs k = cond (k % 2 == st.to && nat_lt (k / 2) m) (change plus (at xs k) (delta st xs (k / 2))) (at xs k)
+  abbrev pub new_at : Stage → Bool → ℕ → List ℤ → ℕ → ℤ
+  new_at st plus m xs k = cond (k % 2 == st.to && nat_lt (k / 2) m) (change plus (at xs k) (delta st xs (k / 2))) (at xs k)
 
   unfoldable pub lifted : Stage → Bool → ℕ → List ℤ → List ℤ
-  lifted st plus m xs = row (length xs) (newAt st plus m xs)
+  lifted st plus m xs = row (length xs) (new_at st plus m xs)
 
   -- the stage, and the stage undone
   abbrev pub lift : Stage → List ℤ → List ℤ

@@ -1,12 +1,12 @@
 // Components from their samples to their coefficients. What is public is for the layer above.
 ghost use Rattle.std.specs.Prelude.{◌≡◌, ◌+◌, ◌*◌, ◌<◌, ◌≤◌, ◌++◌, drop};
 ghost use Rattle.laws.specs.Code.Window.{put};
-ghost use Rattle.laws.specs.Plane.{asList};
+ghost use Rattle.laws.specs.Plane.{as_list};
 ghost use Rattle.laws.specs.Wrap.{wrap};
-ghost use Rattle.wavelet.specs.Planes.{hPass, vhPass};
+ghost use Rattle.wavelet.specs.Planes.{h_pass, vh_pass};
 ghost use Rattle.wavelet.specs.Pad.{padded};
 ghost use Rattle.wavelet.specs.Code.Level.{halves, quarters};
-ghost use Rattle.wavelet.specs.Code.Component.{componentOf, SamplesIn, ComponentIn, ComponentsIn};
+ghost use Rattle.wavelet.specs.Code.Component.{component_of, SamplesIn, ComponentIn, ComponentsIn};
 
 use crate::{arith, lift, pad, plane};
 
@@ -32,7 +32,7 @@ pub struct Transform {
 // The rows of a component's padded plane: analysed, with the filter's shift, into the scratch.
 fn pad_rows(work: &mut [i64], samples: &[u16], c: Component, index: usize)
     requires { SamplesIn samples.now c.w c.h c.pw c.ph work.old × (index ≤ 6) }
-    ensures { work.new ≡ put 0 (c.ph * c.pw) (asList c.ph c.pw (hPass wrap index c.ph c.pw (padded samples.now c.offset c.w c.h))) work.old }
+    ensures { work.new ≡ put 0 (c.ph * c.pw) (as_list c.ph c.pw (h_pass wrap index c.ph c.pw (padded samples.now c.offset c.w c.h))) work.old }
 {
     let w = c.w;
     let pw = c.pw;
@@ -55,7 +55,7 @@ fn pad_rows(work: &mut [i64], samples: &[u16], c: Component, index: usize)
 // The first level of a component from its samples, horizontal-only: its bands L, H.
 fn h_component(work: &mut [i64], n: usize, off: usize, samples: &[u16], c: Component, t: Transform)
     requires { ComponentIn c t samples.now n off work.old × ((t.d ≤ 0) × (0 < t.k)) }
-    ensures { drop n work.new ≡ put off (c.ph * c.pw) (halves c.ph c.pw (hPass wrap t.ih c.ph c.pw (padded samples.now c.offset c.w c.h))) (drop n work.old) }
+    ensures { drop n work.new ≡ put off (c.ph * c.pw) (halves c.ph c.pw (h_pass wrap t.ih c.ph c.pw (padded samples.now c.offset c.w c.h))) (drop n work.old) }
 {
     pad_rows(work, samples, c, t.ih);
     plane::h_bands(work, n, off, c.ph, c.pw);
@@ -64,7 +64,7 @@ fn h_component(work: &mut [i64], n: usize, off: usize, samples: &[u16], c: Compo
 // The first level of a component from its samples, both ways: its bands LL, HL, LH, HH.
 fn vh_component(work: &mut [i64], n: usize, off: usize, samples: &[u16], c: Component, t: Transform)
     requires { ComponentIn c t samples.now n off work.old × (0 < t.d) }
-    ensures { drop n work.new ≡ put off (c.ph * c.pw) (quarters c.ph c.pw (vhPass wrap t.ih t.iv c.ph c.pw (padded samples.now c.offset c.w c.h))) (drop n work.old) }
+    ensures { drop n work.new ≡ put off (c.ph * c.pw) (quarters c.ph c.pw (vh_pass wrap t.ih t.iv c.ph c.pw (padded samples.now c.offset c.w c.h))) (drop n work.old) }
 {
     pad_rows(work, samples, c, t.ih);
     plane::vh_bands(work, n, off, c.ph, c.pw, t.iv);
@@ -81,7 +81,7 @@ pub fn analyse_component(
     t: Transform,
 )
     requires { ComponentIn c t samples.now n off work.old }
-    ensures { drop n work.new ≡ put off (c.ph * c.pw) (componentOf t.ih t.iv t.k t.d samples.now c.offset c.w c.h c.pw c.ph) (drop n work.old) }
+    ensures { drop n work.new ≡ put off (c.ph * c.pw) (component_of t.ih t.iv t.k t.d samples.now c.offset c.w c.h c.pw c.ph) (drop n work.old) }
 {
     let pw = c.pw;
     let ph = c.ph;
@@ -111,9 +111,9 @@ pub fn analyse_components(
     t: Transform,
 )
     requires { ComponentsIn luma colour t y.now c1.now c2.now n work.old }
-    ensures { drop n work.new ≡ componentOf t.ih t.iv t.k t.d y.now luma.offset luma.w luma.h luma.pw luma.ph
-        ++ componentOf t.ih t.iv t.k t.d c1.now colour.offset colour.w colour.h colour.pw colour.ph
-        ++ componentOf t.ih t.iv t.k t.d c2.now colour.offset colour.w colour.h colour.pw colour.ph
+    ensures { drop n work.new ≡ component_of t.ih t.iv t.k t.d y.now luma.offset luma.w luma.h luma.pw luma.ph
+        ++ component_of t.ih t.iv t.k t.d c1.now colour.offset colour.w colour.h colour.pw colour.ph
+        ++ component_of t.ih t.iv t.k t.d c2.now colour.offset colour.w colour.h colour.pw colour.ph
         ++ drop (luma.ph * luma.pw + colour.ph * colour.pw + colour.ph * colour.pw) (drop n work.old) }
 {
     let m = luma.ph * luma.pw;

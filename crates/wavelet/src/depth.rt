@@ -1,17 +1,17 @@
 // How deep a transform may be, by its wavelet indices: document 01, refusal 2; document 02, (iii).
 ghost use Rattle.std.specs.Prelude.{◌≡◌};
-ghost use Rattle.wavelet.specs.Depth.{deepFilter, depthLimit, tooDeep};
+ghost use Rattle.wavelet.specs.Depth.{deep_filter, depth_limit, too_deep};
 
 // LeGall, and Haar without and with a shift.
 fn deep_filter(i: u32) -> bool
-    ensures { result ≡ deepFilter i }
+    ensures { result ≡ deep_filter i }
 {
     (i == 1) | ((i == 3) | (i == 4))
 }
 
 // The most that the two depths may sum to, by the two wavelet indices.
 fn depth_limit(i: u32, j: u32) -> u32
-    ensures { result ≡ depthLimit i j }
+    ensures { result ≡ depth_limit i j }
 {
     if deep_filter(i) & deep_filter(j) {
         8
@@ -27,7 +27,7 @@ pub fn too_deep(
     dwt_depth: u32,
     dwt_depth_ho: u32,
 ) -> bool
-    ensures { result ≡ tooDeep wavelet_index wavelet_index_ho dwt_depth dwt_depth_ho }
+    ensures { result ≡ too_deep wavelet_index wavelet_index_ho dwt_depth dwt_depth_ho }
 {
     dwt_depth as u64 + dwt_depth_ho as u64 > depth_limit(wavelet_index_ho, wavelet_index) as u64
 }

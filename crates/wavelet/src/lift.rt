@@ -3,10 +3,10 @@ ghost use Rattle.std.specs.Prelude.{◌≡◌, ◌+◌, ◌/◌, ◌^◌, ◌<�
 ghost use Rattle.std.specs.Int.Signed.{shr_z};
 ghost use Rattle.laws.specs.Wrap.{wrap};
 ghost use Rattle.wavelet.specs.Lifting.{within, place, change, lifted};
-ghost use Rattle.wavelet.specs.Filters.{filterOf, analysisBy};
-ghost use Rattle.wavelet.specs.Code.Table.{stageOf, Legal, Staged};
-ghost use Rattle.wavelet.specs.Code.Run.{tapsTo, ran, Placed, Moves, TapsIn, TapIn, RunIn, twoTaps, twoPlaces};
-ghost use Rattle.wavelet.specs.RowCall.{rowLimit};
+ghost use Rattle.wavelet.specs.Filters.{filter_of, analysis_by};
+ghost use Rattle.wavelet.specs.Code.Table.{stage_of, Legal, Staged};
+ghost use Rattle.wavelet.specs.Code.Run.{taps_to, ran, Placed, Moves, TapsIn, TapIn, RunIn, two_taps, two_places};
+ghost use Rattle.wavelet.specs.RowCall.{row_limit};
 
 use crate::arith;
 
@@ -199,8 +199,8 @@ fn within(to: usize, len: usize, c: usize) -> usize
 
 // The place that tap k reads for update n of a row of len.
 fn place(s: LiftStage, len: usize, n: usize, k: usize) -> usize
-    requires { Legal s × ((len ≤ rowLimit) × ((n < len / 2) × (k < 8))) }
-    ensures { (result ≡ place (stageOf s) len n k) × (result < len) }
+    requires { Legal s × ((len ≤ row_limit) × ((n < len / 2) × (k < 8))) }
+    ensures { (result ≡ place (stage_of s) len n k) × (result < len) }
 {
     let c = arith::monus(n + k + s.ahead, s.back);
     within(s.to, len, c)
@@ -208,8 +208,8 @@ fn place(s: LiftStage, len: usize, n: usize, k: usize) -> usize
 
 // The places that the taps read for update n, each times w.
 pub(crate) fn places(s: LiftStage, len: usize, n: usize, w: usize) -> [usize; 8]
-    requires { Legal s × ((len ≤ rowLimit) × ((n < len / 2) × (w ≤ rowLimit))) }
-    ensures { Placed (stageOf s) len n w result }
+    requires { Legal s × ((len ≤ row_limit) × ((n < len / 2) × (w ≤ row_limit))) }
+    ensures { Placed (stage_of s) len n w result }
 {
     let mut o = [0usize; 8];
     let mut k = 0;
@@ -224,8 +224,8 @@ pub(crate) fn places(s: LiftStage, len: usize, n: usize, w: usize) -> [usize; 8]
 // How many updates from n on read places that move on by 2 with each: in the middle of a row, where no place is
 // clamped, all up to its end.
 fn run_length(s: LiftStage, len: usize, n: usize) -> usize
-    requires { Legal s × ((len ≤ rowLimit) × (n < len / 2)) }
-    ensures { Moves (stageOf s) len n result }
+    requires { Legal s × ((len ≤ row_limit) × (n < len / 2)) }
+    ensures { Moves (stage_of s) len n result }
 {
     if n + s.ahead <= s.back {
         return 1;
@@ -239,7 +239,7 @@ fn run_length(s: LiftStage, len: usize, n: usize) -> usize
 // a sum has no loop.
 fn one_tap(a: &[i64], s: LiftStage, o: [usize; 8], x: usize, k: usize, sum: i64) -> i64
     requires { TapIn a.now s o x k sum 1 }
-    ensures { result ≡ tapsTo s.taps o x a.now (k + 1) }
+    ensures { result ≡ taps_to s.taps o x a.now (k + 1) }
 {
     let p = o[k] + x;
     let y = a[p];
@@ -249,7 +249,7 @@ fn one_tap(a: &[i64], s: LiftStage, o: [usize; 8], x: usize, k: usize, sum: i64)
 
 fn two_taps(a: &[i64], s: LiftStage, o: [usize; 8], x: usize, k: usize, sum: i64) -> i64
     requires { TapIn a.now s o x k sum 2 }
-    ensures { result ≡ tapsTo s.taps o x a.now (k + 2) }
+    ensures { result ≡ taps_to s.taps o x a.now (k + 2) }
 {
     let r = one_tap(a, s, o, x, k, sum);
     one_tap(a, s, o, x, k + 1, r)
@@ -257,7 +257,7 @@ fn two_taps(a: &[i64], s: LiftStage, o: [usize; 8], x: usize, k: usize, sum: i64
 
 fn four_taps(a: &[i64], s: LiftStage, o: [usize; 8], x: usize, k: usize, sum: i64) -> i64
     requires { TapIn a.now s o x k sum 4 }
-    ensures { result ≡ tapsTo s.taps o x a.now (k + 4) }
+    ensures { result ≡ taps_to s.taps o x a.now (k + 4) }
 {
     let r = two_taps(a, s, o, x, k, sum);
     two_taps(a, s, o, x, k + 2, r)
@@ -266,7 +266,7 @@ fn four_taps(a: &[i64], s: LiftStage, o: [usize; 8], x: usize, k: usize, sum: i6
 // The sum of all taps, their places moved by x.
 fn tap_sum(a: &[i64], s: LiftStage, o: [usize; 8], x: usize) -> i64
     requires { TapsIn a.now s o x }
-    ensures { result ≡ tapsTo s.taps o x a.now s.count }
+    ensures { result ≡ taps_to s.taps o x a.now s.count }
 {
     let count = s.count;
     if count == 1 {
@@ -322,7 +322,7 @@ fn run_taps(
     step: usize,
 )
     requires { RunIn a.old s o p count step }
-    ensures { a.new ≡ ran (stageOf s) plus o p step count a.old }
+    ensures { a.new ≡ ran (stage_of s) plus o p step count a.old }
 {
     let mut i = 0;
     while i < count {
@@ -349,8 +349,8 @@ fn run_two(
     count: usize,
     step: usize,
 )
-    requires { RunIn a.old (twoTaps t shift) (twoPlaces i j) p count step }
-    ensures { a.new ≡ ran (stageOf (twoTaps t shift)) plus (twoPlaces i j) p step count a.old }
+    requires { RunIn a.old (two_taps t shift) (two_places i j) p count step }
+    ensures { a.new ≡ ran (stage_of (two_taps t shift)) plus (two_places i j) p step count a.old }
 {
     let mut n = 0;
     while n < count {
@@ -383,7 +383,7 @@ pub(crate) fn run(
     step: usize,
 )
     requires { RunIn a.old s o p count step }
-    ensures { a.new ≡ ran (stageOf s) plus o p step count a.old }
+    ensures { a.new ≡ ran (stage_of s) plus o p step count a.old }
 {
     let taps = s.count;
     let t = s.taps[0];
@@ -405,8 +405,8 @@ pub(crate) fn run(
 
 // One lifting stage of a row; plus says whether the deltas are added.
 fn lift(a: &mut [i64], s: LiftStage, plus: bool)
-    requires { Legal s × (length a.old ≤ rowLimit) }
-    ensures { a.new ≡ lifted wrap (stageOf s) plus (length a.old / 2) a.old }
+    requires { Legal s × (length a.old ≤ row_limit) }
+    ensures { a.new ≡ lifted wrap (stage_of s) plus (length a.old / 2) a.old }
 {
     let len = a.len();
     let half = len / 2;
@@ -423,15 +423,15 @@ fn lift(a: &mut [i64], s: LiftStage, plus: bool)
 // How many stages a filter has.
 pub(crate) fn stage_count(index: usize) -> usize
     requires { index ≤ 6 }
-    ensures { result ≡ length (filterOf index).stages }
+    ensures { result ≡ length (filter_of index).stages }
 {
     if index < 6 { 2 } else { 4 }
 }
 
 // The analysis of a row: every stage undone, the last one first.
 pub(crate) fn analyse(row: &mut [i64], index: usize)
-    requires { (index ≤ 6) × (length row.old ≤ rowLimit) }
-    ensures { row.new ≡ analysisBy wrap index row.old }
+    requires { (index ≤ 6) × (length row.old ≤ row_limit) }
+    ensures { row.new ≡ analysis_by wrap index row.old }
 {
     let mut k = stage_count(index);
     while k > 0 {

@@ -33,8 +33,8 @@ use denote.Exit.{yes}
 use Rattle.codewords.specs.declared.writer.BitWriter.{BitWriter}
 use Rattle.codewords.specs.contracts.writer.BitWriter as T
 use Rattle.codewords.proofs.writer.BitWriter.TheLaws as T'
-use Rattle.codewords.proofs.Lends.{out, outVal, ref}
-use Rattle.codewords.proofs.Lends.None.{Covered, Lent, covered-clauses, lent-clauses}
+use Rattle.codewords.proofs.Lends.{out, out_val, ref}
+use Rattle.codewords.proofs.Lends.None.{Covered, Lent, covered_clauses, lent_clauses}
 use Rattle.codewords.proofs.Gives.{function, stayed, typed, Takes, Gives, Has, enters, leaves, middle}
 
 abbrev Stayed : Stays Covered.signature.params Covered.kept
@@ -50,7 +50,7 @@ module _ (pre : List ℕ → BitWriter → Type 0) (post : List ℕ → BitWrite
   open 𝓛 use {H}
 
   abbrev pub Put : Contract 𝓤
-  Put = triple_of 𝓛 Lent.signature (closing 𝓛 Lent (lent-clauses pre post 𝓤))
+  Put = triple_of 𝓛 Lent.signature (closing 𝓛 Lent (lent_clauses pre post 𝓤))
 
   module _ where
     module _ (κ : Lft) (q : Share) (b o : ℕ) (γ : GName) (ys : List ℕ) (h : BitWriter) (h-is : Is T.the_row h (T'.lowered h ∷ [])) where
@@ -58,13 +58,13 @@ module _ (pre : List ℕ → BitWriter → Type 0) (post : List ℕ → BitWrite
       a = (out b o γ ys, (h, tt))
 
       abbrev s : Val
-      s = outVal b o ys
+      s = out_val b o ys
 
       abbrev vals : List Val × (List Val × Unit {0})
       vals = (s ∷ [], (T'.lowered h ∷ [], tt))
 
       abbrev Post : Val → SProp 𝓤
-      Post = (walk_of 𝓛 Covered Stayed (covered-clauses pre post 𝓤)).post (((κ, tt), (q, tt), tt, a, vals), tt)
+      Post = (walk_of 𝓛 Covered Stayed (covered_clauses pre post 𝓤)).post (((κ, tt), (q, tt), tt, a, vals), tt)
 
       -- what the callee's triple binds outside: the output's own lifetime, share and value, and the writer lent from
       -- block l for the lifetime α under the name δ
@@ -87,7 +87,7 @@ module _ (pre : List ℕ → BitWriter → Type 0) (post : List ℕ → BitWrite
       exits : (r : BitWriter) (zs : List ℕ) → Is T.the_row r (T'.lowered r ∷ []) → post ys h zs r → length zs ≡ length ys → ent 𝓤 (⋆ 𝓛 (Has 𝓤 κ q b o γ ys h zs)) (Post (T'.lowered r))
       exits r zs is e l =
           qed 𝓛 (Has 𝓤 κ q b o γ ys h zs) ∵
-          suffices ! _ (ends_at 𝓛 Covered Stayed (covered-clauses pre post 𝓤) (((κ, tt), (q, tt), tt, a, vals), tt) (T'.lowered r) r (zs, (tt, tt)) (l, (tt, tt))) $ says ! e $ by ! (leaves 𝓤 κ q b o γ ys h 𝓛 h-is P made r zs is)
+          suffices ! _ (ends_at 𝓛 Covered Stayed (covered_clauses pre post 𝓤) (((κ, tt), (q, tt), tt, a, vals), tt) (T'.lowered r) r (zs, (tt, tt)) (l, (tt, tt))) $ says ! e $ by ! (leaves 𝓤 κ q b o γ ys h 𝓛 h-is P made r zs is)
 
       walk : (f : Name) (C : Calls 𝓤 H) (Λ : Loops 𝓤 H) (fm : FmC 𝓤 H 𝓛.laws C) → Triple 𝓤 (C f) Put → SliceRoom u8 (length ys) → pre ys h
           → ent 𝓤 (on_entry 𝓛 Covered.signature (κ, tt) (q, tt) a vals) (WpFn 𝓤 H C Λ (code f) (s ∷ T'.lowered h ∷ []) Post)
@@ -99,13 +99,13 @@ module _ (pre : List ℕ → BitWriter → Type 0) (post : List ℕ → BitWrite
           (λ i₀ i₁ i₂ i₃ i₄ i₅ i₆ i₇ i₈. no_more !)
           (λ r zs is e l. move ! (10 ∷ 18 ∷ 8 ∷ 17 ∷ 9 ∷ 16 ∷ 3 ∷ 15 ∷ 7 ∷ 14 ∷ 6 ∷ 13 ∷ 5 ∷ 12 ∷ 4 ∷ 11 ∷ []) $ free1 ! $ free1 ! $ free1 ! $ free1 ! $ free1 ! $ free1 ! $ free1 ! $ free1 ! $ free0 ! $ by ! (exits r zs is e l))))))))))
 
-    walks : (f : Name) (C : Calls 𝓤 H) (Λ : Loops 𝓤 H) → FmC 𝓤 H 𝓛.laws C → Triple 𝓤 (C f) Put → Walks 𝓛 Covered Stayed (WpFn 𝓤 H C Λ (code f)) (covered-clauses pre post 𝓤)
-    walks f C Λ fm known = walked 𝓛 Covered Stayed (covered-clauses pre post 𝓤) (WpFn 𝓤 H C Λ (code f))
+    walks : (f : Name) (C : Calls 𝓤 H) (Λ : Loops 𝓤 H) → FmC 𝓤 H 𝓛.laws C → Triple 𝓤 (C f) Put → Walks 𝓛 Covered Stayed (WpFn 𝓤 H C Λ (code f)) (covered_clauses pre post 𝓤)
+    walks f C Λ fm known = walked 𝓛 Covered Stayed (covered_clauses pre post 𝓤) (WpFn 𝓤 H C Λ (code f))
         (λ κs. (mut_slice_vals, (LL.vals T.the_type T'.the_laws, tt))) (λ κs. (mut_slice_Tells (named 0) κs.0 u8, (LL.tells T.the_type T'.the_laws, tt)))
         (λ κs qs bounds a g are. needs 𝓤 (pre a.0.now a.1.0) _
         (walk κs.0 qs.0 a.0.ref_ptr.0 a.0.ref_ptr.1 a.0.ghost_name a.0.now a.1.0 are.1.0 f C Λ fm known are.0.0.1))
 
-    pub meets : (f : Name) (𝓣 : Tables 𝓤 H) → Triple 𝓤 (𝓣.C f) Put → Meets 𝓛 Covered.signature (WpFn 𝓤 H 𝓣.C 𝓣.Λ (code f)) (closing 𝓛 Covered (covered-clauses pre post 𝓤))
+    pub meets : (f : Name) (𝓣 : Tables 𝓤 H) → Triple 𝓤 (𝓣.C f) Put → Meets 𝓛 Covered.signature (WpFn 𝓤 H 𝓣.C 𝓣.Λ (code f)) (closing 𝓛 Covered (covered_clauses pre post 𝓤))
     meets f 𝓣 known =
-        walk_Meets 𝓛 Covered Stayed (Goes-gave_slice 𝓛 1 0 tt (plain (λ _. u8)), (Goes-none 𝓛 1 (λ _. T.the_row) yes (λ κs x f. refl), tt)) (covered-clauses pre post 𝓤)
+        walk_Meets 𝓛 Covered Stayed (Goes-gave_slice 𝓛 1 0 tt (plain (λ _. u8)), (Goes-none 𝓛 1 (λ _. T.the_row) yes (λ κs x f. refl), tt)) (covered_clauses pre post 𝓤)
         (WpFn 𝓤 H 𝓣.C 𝓣.Λ (code f)) (WpFn-mono 𝓤 H 𝓛.laws 𝓣 (code f)) (walks f 𝓣.C 𝓣.Λ (fm_of 𝓤 H 𝓛.laws 𝓣) known)

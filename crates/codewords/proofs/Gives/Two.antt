@@ -34,8 +34,8 @@ use denote.Exit.{yes}
 use Rattle.codewords.specs.declared.writer.BitWriter.{BitWriter}
 use Rattle.codewords.specs.contracts.writer.BitWriter as T
 use Rattle.codewords.proofs.writer.BitWriter.TheLaws as T'
-use Rattle.codewords.proofs.Lends.{Arg, row, out, outVal, ref}
-use Rattle.codewords.proofs.Lends.Two.{Covered, Lent, covered-clauses, lent-clauses}
+use Rattle.codewords.proofs.Lends.{Arg, row, out, out_val, ref}
+use Rattle.codewords.proofs.Lends.Two.{Covered, Lent, covered_clauses, lent_clauses}
 use Rattle.codewords.proofs.Gives.{function, stayed, typed, Takes, Gives, Has, enters, leaves, middle}
 
 module _ (R₁ R₂ : Arg) where
@@ -52,7 +52,7 @@ module _ (R₁ R₂ : Arg) where
     open 𝓛 use {H}
 
     abbrev pub Put : Contract 𝓤
-    Put = triple_of 𝓛 (Lent R₁ R₂).signature (closing 𝓛 (Lent R₁ R₂) (lent-clauses R₁ R₂ pre post 𝓤))
+    Put = triple_of 𝓛 (Lent R₁ R₂).signature (closing 𝓛 (Lent R₁ R₂) (lent_clauses R₁ R₂ pre post 𝓤))
 
     module _ where
       module _ (κ : Lft) (q : Share) (b o : ℕ) (γ : GName) (ys : List ℕ) (h : BitWriter) (u : R₁.X) (v : R₂.X) (h-is : Is T.the_row h (T'.lowered h ∷ [])) (u-is : Is (row R₁) u (R₁.val u ∷ [])) (v-is : Is (row R₂) v (R₂.val v ∷ [])) where
@@ -60,13 +60,13 @@ module _ (R₁ R₂ : Arg) where
         a = (out b o γ ys, (h, (u, (v, tt))))
 
         abbrev s : Val
-        s = outVal b o ys
+        s = out_val b o ys
 
         abbrev vals : List Val × (List Val × (List Val × (List Val × Unit {0})))
         vals = (s ∷ [], (T'.lowered h ∷ [], (R₁.val u ∷ [], (R₂.val v ∷ [], tt))))
 
         abbrev Post : Val → SProp 𝓤
-        Post = (walk_of 𝓛 (Covered R₁ R₂) Stayed (covered-clauses R₁ R₂ pre post 𝓤)).post (((κ, tt), (q, tt), tt, a, vals), tt)
+        Post = (walk_of 𝓛 (Covered R₁ R₂) Stayed (covered_clauses R₁ R₂ pre post 𝓤)).post (((κ, tt), (q, tt), tt, a, vals), tt)
 
         -- what the callee's triple binds outside: the output's own lifetime, share and value, and the writer lent from
         -- block l for the lifetime α under the name δ
@@ -89,7 +89,7 @@ module _ (R₁ R₂ : Arg) where
         exits : (r : BitWriter) (zs : List ℕ) → Is T.the_row r (T'.lowered r ∷ []) → post ys h u v zs r → length zs ≡ length ys → ent 𝓤 (⋆ 𝓛 (Has 𝓤 κ q b o γ ys h zs)) (Post (T'.lowered r))
         exits r zs is e l =
             qed 𝓛 (Has 𝓤 κ q b o γ ys h zs) ∵
-            suffices ! _ (ends_at 𝓛 (Covered R₁ R₂) Stayed (covered-clauses R₁ R₂ pre post 𝓤) (((κ, tt), (q, tt), tt, a, vals), tt) (T'.lowered r) r (zs, (tt, (tt, (tt, tt)))) (l, (tt, (tt, (tt, tt))))) $ says ! e $ by ! (leaves 𝓤 κ q b o γ ys h 𝓛 h-is P made r zs is)
+            suffices ! _ (ends_at 𝓛 (Covered R₁ R₂) Stayed (covered_clauses R₁ R₂ pre post 𝓤) (((κ, tt), (q, tt), tt, a, vals), tt) (T'.lowered r) r (zs, (tt, (tt, (tt, tt)))) (l, (tt, (tt, (tt, tt))))) $ says ! e $ by ! (leaves 𝓤 κ q b o γ ys h 𝓛 h-is P made r zs is)
 
         walk : (f : Name) (C : Calls 𝓤 H) (Λ : Loops 𝓤 H) (fm : FmC 𝓤 H 𝓛.laws C) → Triple 𝓤 (C f) Put → SliceRoom u8 (length ys) → pre ys h u v
             → ent 𝓤 (on_entry 𝓛 (Covered R₁ R₂).signature (κ, tt) (q, tt) a vals) (WpFn 𝓤 H C Λ (code f) (s ∷ T'.lowered h ∷ R₁.val u ∷ R₂.val v ∷ []) Post)
@@ -101,13 +101,13 @@ module _ (R₁ R₂ : Arg) where
             (λ i₀ i₁ i₂ i₃ i₄ i₅ i₆ i₇ i₈. and_then ! (load ! (from ! (stop !)) (look ! 16 refl)) (and_then ! (load ! (from ! (stop !)) (look ! 14 refl)) (no_more !)))
             (λ r zs is e l. move ! (10 ∷ 22 ∷ 8 ∷ 21 ∷ 9 ∷ 20 ∷ 18 ∷ 19 ∷ 16 ∷ 17 ∷ 3 ∷ 15 ∷ 7 ∷ 14 ∷ 6 ∷ 13 ∷ 5 ∷ 12 ∷ 4 ∷ 11 ∷ []) $ forget ! 6 refl $ forget ! 8 refl $ free1 ! $ free1 ! $ free1 ! $ free1 ! $ free1 ! $ free1 ! $ free1 ! $ free1 ! $ free1 ! $ free1 ! $ free0 ! $ by ! (exits r zs is e l))))))))))))
 
-      walks : (f : Name) (C : Calls 𝓤 H) (Λ : Loops 𝓤 H) → FmC 𝓤 H 𝓛.laws C → Triple 𝓤 (C f) Put → Walks 𝓛 (Covered R₁ R₂) Stayed (WpFn 𝓤 H C Λ (code f)) (covered-clauses R₁ R₂ pre post 𝓤)
-      walks f C Λ fm known = walked 𝓛 (Covered R₁ R₂) Stayed (covered-clauses R₁ R₂ pre post 𝓤) (WpFn 𝓤 H C Λ (code f))
+      walks : (f : Name) (C : Calls 𝓤 H) (Λ : Loops 𝓤 H) → FmC 𝓤 H 𝓛.laws C → Triple 𝓤 (C f) Put → Walks 𝓛 (Covered R₁ R₂) Stayed (WpFn 𝓤 H C Λ (code f)) (covered_clauses R₁ R₂ pre post 𝓤)
+      walks f C Λ fm known = walked 𝓛 (Covered R₁ R₂) Stayed (covered_clauses R₁ R₂ pre post 𝓤) (WpFn 𝓤 H C Λ (code f))
           (λ κs. (mut_slice_vals, (LL.vals T.the_type T'.the_laws, ((λ x. R₁.val x ∷ []), ((λ x. R₂.val x ∷ []), tt))))) (λ κs. (mut_slice_Tells (named 0) κs.0 u8, (LL.tells T.the_type T'.the_laws, (R₁.tells, (R₂.tells, tt)))))
           (λ κs qs bounds a g are. needs 𝓤 (pre a.0.now a.1.0 a.1.1.0 a.1.1.1.0) _
           (walk κs.0 qs.0 a.0.ref_ptr.0 a.0.ref_ptr.1 a.0.ghost_name a.0.now a.1.0 a.1.1.0 a.1.1.1.0 are.1.0 are.1.1.0 are.1.1.1.0 f C Λ fm known are.0.0.1))
 
-      pub meets : (f : Name) (𝓣 : Tables 𝓤 H) → Triple 𝓤 (𝓣.C f) Put → Meets 𝓛 (Covered R₁ R₂).signature (WpFn 𝓤 H 𝓣.C 𝓣.Λ (code f)) (closing 𝓛 (Covered R₁ R₂) (covered-clauses R₁ R₂ pre post 𝓤))
+      pub meets : (f : Name) (𝓣 : Tables 𝓤 H) → Triple 𝓤 (𝓣.C f) Put → Meets 𝓛 (Covered R₁ R₂).signature (WpFn 𝓤 H 𝓣.C 𝓣.Λ (code f)) (closing 𝓛 (Covered R₁ R₂) (covered_clauses R₁ R₂ pre post 𝓤))
       meets f 𝓣 known =
-          walk_Meets 𝓛 (Covered R₁ R₂) Stayed (Goes-gave_slice 𝓛 1 0 tt (plain (λ _. u8)), (Goes-none 𝓛 1 (λ _. T.the_row) yes (λ κs x f. refl), (Goes-none 𝓛 1 (λ _. row R₁) yes (λ κs x f. refl), (Goes-none 𝓛 1 (λ _. row R₂) yes (λ κs x f. refl), tt)))) (covered-clauses R₁ R₂ pre post 𝓤)
+          walk_Meets 𝓛 (Covered R₁ R₂) Stayed (Goes-gave_slice 𝓛 1 0 tt (plain (λ _. u8)), (Goes-none 𝓛 1 (λ _. T.the_row) yes (λ κs x f. refl), (Goes-none 𝓛 1 (λ _. row R₁) yes (λ κs x f. refl), (Goes-none 𝓛 1 (λ _. row R₂) yes (λ κs x f. refl), tt)))) (covered_clauses R₁ R₂ pre post 𝓤)
           (WpFn 𝓤 H 𝓣.C 𝓣.Λ (code f)) (WpFn-mono 𝓤 H 𝓛.laws 𝓣 (code f)) (walks f 𝓣.C 𝓣.Λ (fm_of 𝓤 H 𝓛.laws 𝓣) known)

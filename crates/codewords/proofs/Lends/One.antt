@@ -33,7 +33,7 @@ use denote.Exit.{yes}
 use Rattle.codewords.specs.declared.writer.BitWriter.{BitWriter}
 use Rattle.codewords.specs.contracts.writer.BitWriter as T
 use Rattle.codewords.proofs.writer.BitWriter.TheLaws as T'
-use Rattle.codewords.proofs.Lends.{Arg, row, function, covered, lent, stayed, out, outVal, ref, Takes, Gives, Has, enters, leaves, middle}
+use Rattle.codewords.proofs.Lends.{Arg, row, function, covered, lent, stayed, out, out_val, ref, Takes, Gives, Has, enters, leaves, middle}
 
 module _ (R : Arg) where
   abbrev pub Covered : Ended
@@ -51,18 +51,18 @@ module _ (R : Arg) where
   -- pre is what is required of the output, the writer and the arguments, and post what is ensured of those and of the
   -- output and the writer after
   module _ (pre : List ℕ → BitWriter → R.X → Type 0) (post : List ℕ → BitWriter → R.X → List ℕ → BitWriter → Type 0) {M : Type 1} (𝓤 : Ura M) where
-    abbrev pub covered-clauses : Clauses 𝓤 Covered
-    covered-clauses = λ κs a. record { ghost = Unit {0}; requires = λ g. fact 𝓤 (pre a.0.now a.1.0 a.1.1.0); ensures = λ g r e. fact 𝓤 (post a.0.now a.1.0 a.1.1.0 e.0.now r) }
+    abbrev pub covered_clauses : Clauses 𝓤 Covered
+    covered_clauses = λ κs a. record { ghost = Unit {0}; requires = λ g. fact 𝓤 (pre a.0.now a.1.0 a.1.1.0); ensures = λ g r e. fact 𝓤 (post a.0.now a.1.0 a.1.1.0 e.0.now r) }
 
-    abbrev pub lent-clauses : Clauses 𝓤 Lent
-    lent-clauses = λ κs a. record { ghost = Unit {0}; requires = λ g. fact 𝓤 (pre a.0.now a.1.0.now a.1.1.0); ensures = λ g r e. fact 𝓤 (post a.0.now a.1.0.now a.1.1.0 e.0.now e.1.0.now) }
+    abbrev pub lent_clauses : Clauses 𝓤 Lent
+    lent_clauses = λ κs a. record { ghost = Unit {0}; requires = λ g. fact 𝓤 (pre a.0.now a.1.0.now a.1.1.0); ensures = λ g r e. fact 𝓤 (post a.0.now a.1.0.now a.1.1.0 e.0.now e.1.0.now) }
 
     module _ (𝓛 : Logic 𝓤) where
       -- the callee's contract
       open 𝓛 use {H}
 
       abbrev pub Put : Contract 𝓤
-      Put = triple_of 𝓛 Covered.signature (closing 𝓛 Covered covered-clauses)
+      Put = triple_of 𝓛 Covered.signature (closing 𝓛 Covered covered_clauses)
 
       module _ where
         module _ (κ κ' : Lft) (q q' : Share) (b o : ℕ) (γ : GName) (h : BitWriter) (b' o' : ℕ) (γ' : GName) (ys : List ℕ) (v : R.X) (v-is : Is (row R) v (R.val v ∷ [])) where
@@ -70,7 +70,7 @@ module _ (R : Arg) where
           a = (out b' o' γ' ys, (ref b o γ h, (v, tt)))
 
           abbrev s : Val
-          s = outVal b' o' ys
+          s = out_val b' o' ys
 
           abbrev vals : List Val × (List Val × (List Val × Unit {0}))
           vals = (s ∷ [], (vptr b o ∷ [], (R.val v ∷ [], tt)))
@@ -79,7 +79,7 @@ module _ (R : Arg) where
           L = List ℕ × (Unit {0} × (Unit {0} × Unit {0}))
 
           abbrev Post : Val → SProp 𝓤
-          Post = (walk_of 𝓛 Lent Stayed lent-clauses).post (((κ, (κ', tt)), (q, (q', tt)), tt, a, vals), tt)
+          Post = (walk_of 𝓛 Lent Stayed lent_clauses).post (((κ, (κ', tt)), (q, (q', tt)), tt, a, vals), tt)
 
           -- what the callee's triple binds outside: the output's own lifetime, share and value, and the writer by value
           abbrev to : Put.Ghost
@@ -101,7 +101,7 @@ module _ (R : Arg) where
           exits : (r : BitWriter) (zs : List ℕ) → post ys h v zs r → length zs ≡ length ys → ent 𝓤 (⋆ 𝓛 (Has 𝓛 κ κ' q q' b o γ h b' o' γ' ys r zs)) (Post vunit)
           exits r zs e l =
               qed 𝓛 (Has 𝓛 κ κ' q q' b o γ h b' o' γ' ys r zs) ∵
-              suffices ! _ (ends_at 𝓛 Lent Stayed lent-clauses (((κ, (κ', tt)), (q, (q', tt)), tt, a, vals), tt) vunit tt (zs, (r, (tt, tt))) (l, (tt, (tt, tt)))) $ says ! e $ by ! (leaves 𝓛 κ κ' q q' b o γ h b' o' γ' ys P made r zs)
+              suffices ! _ (ends_at 𝓛 Lent Stayed lent_clauses (((κ, (κ', tt)), (q, (q', tt)), tt, a, vals), tt) vunit tt (zs, (r, (tt, tt))) (l, (tt, (tt, tt)))) $ says ! e $ by ! (leaves 𝓛 κ κ' q q' b o γ h b' o' γ' ys P made r zs)
 
           walk : (f : Name) (C : Calls 𝓤 H) (Λ : Loops 𝓤 H) (fm : FmC 𝓤 H 𝓛.laws C) → Triple 𝓤 (C f) Put → SliceRoom u8 (length ys) → pre ys h v
               → ent 𝓤 (on_entry 𝓛 Lent.signature (κ, (κ', tt)) (q, (q', tt)) a vals) (WpFn 𝓤 H C Λ (code f) (s ∷ vptr b o ∷ R.val v ∷ []) Post)
@@ -113,13 +113,13 @@ module _ (R : Arg) where
               (λ i₀ i₁ i₂ i₃ i₄ i₅ i₆ i₇ i₈ i₉ i₁₀ i₁₁ i₁₂. and_then ! (load ! (from ! (stop !)) (look ! 17 refl)) (no_more !))
               (λ r zs e l. move ! (11 ∷ 20 ∷ 9 ∷ 19 ∷ 10 ∷ 18 ∷ 16 ∷ 17 ∷ 8 ∷ 15 ∷ 7 ∷ 14 ∷ 6 ∷ 13 ∷ 5 ∷ 12 ∷ []) $ forget ! 6 refl $ free1 ! $ free1 ! $ free1 ! $ free1 ! $ free1 ! $ free1 ! $ free1 ! $ free1 ! $ free0 ! $ by ! (exits r zs.0 e l))))))))))
 
-        walks : (f : Name) (C : Calls 𝓤 H) (Λ : Loops 𝓤 H) → FmC 𝓤 H 𝓛.laws C → Triple 𝓤 (C f) Put → Walks 𝓛 Lent Stayed (WpFn 𝓤 H C Λ (code f)) lent-clauses
-        walks f C Λ fm known = walked 𝓛 Lent Stayed lent-clauses (WpFn 𝓤 H C Λ (code f))
+        walks : (f : Name) (C : Calls 𝓤 H) (Λ : Loops 𝓤 H) → FmC 𝓤 H 𝓛.laws C → Triple 𝓤 (C f) Put → Walks 𝓛 Lent Stayed (WpFn 𝓤 H C Λ (code f)) lent_clauses
+        walks f C Λ fm known = walked 𝓛 Lent Stayed lent_clauses (WpFn 𝓤 H C Λ (code f))
             (λ κs. (mut_slice_vals, (mut_vals, ((λ x. R.val x ∷ []), tt)))) (λ κs. (mut_slice_Tells (named 0) κs.0 u8, (mut_Tells (named 1) κs.1.0 T.the_row, (R.tells, tt))))
             (λ κs qs bounds a g are. needs 𝓤 (pre a.0.now a.1.0.now a.1.1.0) _
             (walk κs.0 κs.1.0 qs.0 qs.1.0 a.1.0.ref_ptr.0 a.1.0.ref_ptr.1 a.1.0.ghost_name a.1.0.now a.0.ref_ptr.0 a.0.ref_ptr.1 a.0.ghost_name a.0.now a.1.1.0 are.1.1.0 f C Λ fm known are.0.0.1))
 
-        pub meets : (f : Name) (𝓣 : Tables 𝓤 H) → Triple 𝓤 (𝓣.C f) Put → Meets 𝓛 Lent.signature (WpFn 𝓤 H 𝓣.C 𝓣.Λ (code f)) (closing 𝓛 Lent lent-clauses)
+        pub meets : (f : Name) (𝓣 : Tables 𝓤 H) → Triple 𝓤 (𝓣.C f) Put → Meets 𝓛 Lent.signature (WpFn 𝓤 H 𝓣.C 𝓣.Λ (code f)) (closing 𝓛 Lent lent_clauses)
         meets f 𝓣 known =
-            walk_Meets 𝓛 Lent Stayed (Goes-gave_slice 𝓛 2 0 tt (plain (λ _. u8)), (Goes-ref 𝓛 2 1 tt (plain (λ _. T.the_row)), (Goes-none 𝓛 2 (λ _. row R) yes (λ κs x f. refl), tt))) lent-clauses
+            walk_Meets 𝓛 Lent Stayed (Goes-gave_slice 𝓛 2 0 tt (plain (λ _. u8)), (Goes-ref 𝓛 2 1 tt (plain (λ _. T.the_row)), (Goes-none 𝓛 2 (λ _. row R) yes (λ κs x f. refl), tt))) lent_clauses
             (WpFn 𝓤 H 𝓣.C 𝓣.Λ (code f)) (WpFn-mono 𝓤 H 𝓛.laws 𝓣 (code f)) (walks f 𝓣.C 𝓣.Λ (fm_of 𝓤 H 𝓛.laws 𝓣) known)

@@ -6,7 +6,7 @@ use lib.IntN.{nat_abs}
 use mir.Syntax.{w64}
 use mir.Facts.{to_z-of_z}
 use borrow.Author.Rules.{rules}
-use Rattle.codewords.specs.Laws.Code.{leading-log2, length-codeS, length-codeS-zero}
+use Rattle.codewords.specs.Laws.Code.{leading_log2, length-code_s, length-code_s-zero}
 use Rattle.codewords.specs.CodeWord.{log2}
 use Rattle.codewords.proofs.sint_code_len.Statement.{statement}
 use Rattle.codewords.proofs.sint_code_len.Tie as tie
@@ -22,13 +22,13 @@ is-abs : (c : tie.After-unsigned-abs) → c.unsigned_abs.result ≡ nat_abs c.be
 is-abs c = c.unsigned_abs.ensures.0 ∙ ap nat_abs (to_z-of_z {w = w64} c.before.ranges.v)
 
 returns : tie.Need-returns
-returns c = sym (length-codeS-zero c.before.before.args.v (sym (is-abs c.before) ∙ c.if1.true))
+returns c = sym (length-code_s-zero c.before.before.args.v (sym (is-abs c.before) ∙ c.if1.true))
 
 add-result : tie.Need-overflow-add-result
 add-result c = search rules
 
 sub-result : tie.Need-overflow-sub-result
-sub-result c = omega (arith, leading-log2 64 (c.before.unsigned_abs.result + 1) (omega arith) (omega arith))
+sub-result c = omega (arith, leading_log2 64 (c.before.unsigned_abs.result + 1) (omega arith) (omega arith))
 
 mul-result : tie.Need-overflow-mul-result
 mul-result c = search rules
@@ -44,8 +44,8 @@ returns-2 c =
     let p : 0 < m = omega arith in
     omega (
       arith,
-      leading-log2 64 (m + 1) (omega arith) (omega arith),
-      length-codeS v (rw e at p),
+      leading_log2 64 (m + 1) (omega arith) (omega arith),
+      length-code_s v (rw e at p),
       ap (λ (x : ℕ). log2 (x + 1)) e,
     )
 

@@ -2,6 +2,6 @@
 use Rattle.std.specs.Prelude.{ℕ, zero, suc, ◌+◌, ◌*◌, ◌/◌, ◌%◌}
 
 -- the k low bits of b, each at twice its place
-unfoldable pub spreadBits : ℕ → ℕ → ℕ
-spreadBits zero b = 0
-spreadBits (suc k) b = spreadBits k (b / 2) * 4 + b % 2
+unfoldable pub spread_bits : ℕ → ℕ → ℕ
+spread_bits zero b = 0
+spread_bits (suc k) b = spread_bits k (b / 2) * 4 + b % 2

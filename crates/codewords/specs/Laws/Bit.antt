@@ -6,12 +6,12 @@ use Rattle.std.proofs.Math.Arith.{digits_div, mod-mul}
 use Rattle.std.proofs.lemmas.List.{replicate-append-replicate}
 use Rattle.std.proofs.Math.Pow.{pow-lt, high, low}
 use mir.Val.{bool_byte}
-use Rattle.codewords.specs.Bit.{Bits, val, lit, value, oneBits, zeroBits}
+use Rattle.codewords.specs.Bit.{Bits, val, lit, value, one_bits, zero_bits}
 
-pub val-bit : (n : ℕ) → n < 2 → val (eqb n 1) ≡ n
-val-bit zero h = refl
-val-bit (suc zero) h = refl
-val-bit (suc (suc n)) h = absurd (omega arith)
+pub val_bit : (n : ℕ) → n < 2 → val (eqb n 1) ≡ n
+val_bit zero h = refl
+val_bit (suc zero) h = refl
+val_bit (suc (suc n)) h = absurd (omega arith)
 
 pub bit_val : (b : Bool) → eqb (val b) 1 ≡ b
 bit_val true = refl
@@ -22,9 +22,9 @@ val-lt true = omega arith
 val-lt false = omega arith
 
 -- a bool as the machine's byte
-pub byte-val : (b : Bool) → bool_byte b ≡ val b
-byte-val true = refl
-byte-val false = refl
+pub byte_val : (b : Bool) → bool_byte b ≡ val b
+byte_val true = refl
+byte_val false = refl
 
 -- ---- literals
 pub length-lit : (k v : ℕ) → length (lit k v) ≡ k
@@ -36,14 +36,14 @@ pub lit-none : (v : ℕ) → lit 0 v ≡ []
 unfolding lit
 lit-none v = refl
 
-pub half-power : (v k : ℕ) → v / 2 ^ suc k ≡ v / 2 / 2 ^ k
-half-power v k = ap (λ (n : ℕ). v / n) (pow-succ' 2 k) ∙ sym (div-div-eq-div-mul v 2 (2 ^ k))
+pub half_power : (v k : ℕ) → v / 2 ^ suc k ≡ v / 2 / 2 ^ k
+half_power v k = ap (λ (n : ℕ). v / n) (pow-succ' 2 k) ∙ sym (div-div-eq-div-mul v 2 (2 ^ k))
 
 -- k + 1 bits by the k higher ones and the lowest
 pub lit-low : (k v : ℕ) → lit (suc k) v ≡ lit k (v / 2) ++ (eqb (v % 2) 1 ∷ [])
 unfolding lit
 lit-low zero v = ap (λ (n : ℕ). eqb (n % 2) 1 ∷ []) (div-one v)
-lit-low (suc k) v = ap₂ (λ (n : ℕ) (s : Bits). eqb (n % 2) 1 ∷ s) (half-power v k) (lit-low k v)
+lit-low (suc k) v = ap₂ (λ (n : ℕ) (s : Bits). eqb (n % 2) 1 ∷ s) (half_power v k) (lit-low k v)
 
 -- one bit more at the low end
 pub lit-more : (k p : ℕ) (b : Bool) → lit (k + 1) (p * 2 + val b) ≡ lit k p ++ (b ∷ [])
@@ -54,22 +54,22 @@ lit-more k p b =
     rw (add-one k, lit-low k (p * 2 + val b), d, m, bit_val b)
 
 -- a bool as one bit
-pub lit-bit : (b : Bool) → lit 1 (bool_byte b) ≡ b ∷ []
+pub lit_bit : (b : Bool) → lit 1 (bool_byte b) ≡ b ∷ []
 unfolding lit
-lit-bit true = refl
-lit-bit false = refl
+lit_bit true = refl
+lit_bit false = refl
 
 -- the j bits from place k on, and then the k low ones
-pub lit-split : (j k v : ℕ) → lit (j + k) v ≡ lit j (v / 2 ^ k) ++ lit k v
+pub lit_split : (j k v : ℕ) → lit (j + k) v ≡ lit j (v / 2 ^ k) ++ lit k v
 unfolding lit
-lit-split zero k v = ap (λ (n : ℕ). lit n v) (zero-add k)
-lit-split (suc j) k v =
+lit_split zero k v = ap (λ (n : ℕ). lit n v) (zero-add k)
+lit_split (suc j) k v =
     ap (λ (n : ℕ). lit n v) (suc-add j k)
-    ∙ ap₂ (λ (n : ℕ) (s : Bits). eqb (n % 2) 1 ∷ s) (ap (λ (i : ℕ). v / 2 ^ i) (add_comm j k) ∙ sym (shr-shr v k j)) (lit-split j k v)
+    ∙ ap₂ (λ (n : ℕ) (s : Bits). eqb (n % 2) 1 ∷ s) (ap (λ (i : ℕ). v / 2 ^ i) (add_comm j k) ∙ sym (shr-shr v k j)) (lit_split j k v)
 
 -- a byte up from place i - 8
-pub byte-up : (x i : ℕ) → 8 ≤ i → x / 2 ^ (i - 8) / 256 ≡ x / 2 ^ i
-byte-up x i h =
+pub byte_up : (x i : ℕ) → 8 ≤ i → x / 2 ^ (i - 8) / 256 ≡ x / 2 ^ i
+byte_up x i h =
     let e : i - 8 + 8 ≡ i = omega arith in
     shr-shr x (i - 8) 8 ∙ ap (λ (j : ℕ). x / 2 ^ j) e
 
@@ -82,7 +82,7 @@ unfolding lit value
 value-lit zero v a = omega (arith, mod-one v, mul-one a)
 value-lit (suc k) v a =
     value-lit k v (a * 2 + val (eqb (v / 2 ^ k % 2) 1))
-    ∙ rw (val-bit (v / 2 ^ k % 2) (mod-lt (v / 2 ^ k) (zero-lt-suc 1)), mod-pow-suc v k, pow-succ', add-mul, mul_assoc, add_assoc)
+    ∙ rw (val_bit (v / 2 ^ k % 2) (mod-lt (v / 2 ^ k) (zero-lt-suc 1)), mod-pow-suc v k, pow-succ', add-mul, mul_assoc, add_assoc)
 
 pub value-of-lit : (k v : ℕ) → v < 2 ^ k → value 0 (lit k v) ≡ v
 value-of-lit k v h = value-lit k v 0 ∙ omega (arith, zero-mul (2 ^ k), mod-eq_of_lt h)
@@ -101,16 +101,16 @@ unfolding value
 value-lt [] = omega arith
 value-lt (b ∷ w) = rw (value-add w (0 * 2 + val b), pow-succ' 2 (length w)) (top_lt b (2 ^ length w) (value 0 w) (value-lt w))
 
-bit-low : (a : ℕ) (b : Bool) → eqb ((a * 2 + val b) % 2) 1 ≡ b
-bit-low a true = ap (λ (n : ℕ). eqb n 1) (mul-add-mod_self_right a 2 1)
-bit-low a false = ap (λ (n : ℕ). eqb n 1) (mul-add-mod_self_right a 2 0)
+bit_low : (a : ℕ) (b : Bool) → eqb ((a * 2 + val b) % 2) 1 ≡ b
+bit_low a true = ap (λ (n : ℕ). eqb n 1) (mul-add-mod_self_right a 2 1)
+bit_low a false = ap (λ (n : ℕ). eqb n 1) (mul-add-mod_self_right a 2 0)
 
 pub lit-value : (w : Bits) (a : ℕ) → lit (length w) (value a w) ≡ w
 unfolding lit value
 lit-value [] a = refl
 lit-value (b ∷ w) a =
     ap₂ ◌∷◌
-    (ap (λ (x : ℕ). eqb (x % 2) 1) (ap (λ (x : ℕ). x / 2 ^ length w) (value-add w (a * 2 + val b)) ∙ digits_div (a * 2 + val b) (value-lt w)) ∙ bit-low a b)
+    (ap (λ (x : ℕ). eqb (x % 2) 1) (ap (λ (x : ℕ). x / 2 ^ length w) (value-add w (a * 2 + val b)) ∙ digits_div (a * 2 + val b) (value-lt w)) ∙ bit_low a b)
     (lit-value w (a * 2 + val b))
 
 -- bits above the k low ones do not matter
@@ -121,11 +121,11 @@ lit-mod k v =
     ap₂ lit (sym (length-lit k v)) (sym e) ∙ lit-value w 0
 
 -- the n low bits of v behind those of a
-pub lit-join : (p a n v : ℕ) → lit (p + n) (a * 2 ^ n + v % 2 ^ n) ≡ lit p a ++ lit n v
-lit-join p a n v =
+pub lit_join : (p a n v : ℕ) → lit (p + n) (a * 2 ^ n + v % 2 ^ n) ≡ lit p a ++ lit n v
+lit_join p a n v =
     let h = mod-lt v (pow_pos n) in
     let x = a * 2 ^ n + v % 2 ^ n in
-    lit-split p n x ∙ ap₂ (λ (y : ℕ) (s : Bits). lit p y ++ s) (high a n h) (sym (lit-mod n x) ∙ ap (lit n) (low a n h) ∙ lit-mod n v)
+    lit_split p n x ∙ ap₂ (λ (y : ℕ) (s : Bits). lit p y ++ s) (high a n h) (sym (lit-mod n x) ∙ ap (lit n) (low a n h) ∙ lit-mod n v)
 
 -- a number by its leading one and the bits below
 pub value-top : (k m : ℕ) → 2 ^ k ≤ m → m < 2 ^ suc k → value 1 (lit k m) ≡ m
@@ -134,19 +134,19 @@ value-top k m lo hi =
     value-lit k m 1 ∙ rw (one-mul (2 ^ k), mod-eq-sub-mod lo, mod-eq_of_lt lt) (omega arith)
 
 -- ---- runs of one bit
-pub repeat-more : (n : ℕ) (b : Bool) → replicate (n + 1) b ≡ replicate n b ++ (b ∷ [])
-repeat-more n b = sym (replicate-append-replicate n 1 b)
+pub repeat_more : (n : ℕ) (b : Bool) → replicate (n + 1) b ≡ replicate n b ++ (b ∷ [])
+repeat_more n b = sym (replicate-append-replicate n 1 b)
 
-pub lit-ones : (k m : ℕ) → k ≤ m → lit k (2 ^ m - 1) ≡ oneBits k
-lit-ones zero m h = lit-none (2 ^ m - 1)
-lit-ones (suc k) zero h = absurd (omega arith)
-lit-ones (suc k) (suc m) h =
+pub lit_ones : (k m : ℕ) → k ≤ m → lit k (2 ^ m - 1) ≡ one_bits k
+lit_ones zero m h = lit-none (2 ^ m - 1)
+lit_ones (suc k) zero h = absurd (omega arith)
+lit_ones (suc k) (suc m) h =
     let p = pow_pos m in
     let e : 2 ^ suc m - 1 ≡ (2 ^ m - 1) * 2 + val true = omega (arith, pow-suc 2 m) in
     ap (lit (suc k)) e ∙ ap (λ (n : ℕ). lit n ((2 ^ m - 1) * 2 + val true)) (sym (add-one k)) ∙ lit-more k (2 ^ m - 1) true
-    ∙ ap (λ (s : Bits). s ++ (true ∷ [])) (lit-ones k m (omega arith)) ∙ sym (repeat-more k true) ∙ ap oneBits (add-one k)
+    ∙ ap (λ (s : Bits). s ++ (true ∷ [])) (lit_ones k m (omega arith)) ∙ sym (repeat_more k true) ∙ ap one_bits (add-one k)
 
-pub lit-zeros : (k : ℕ) → lit k 0 ≡ zeroBits k
+pub lit-zeros : (k : ℕ) → lit k 0 ≡ zero_bits k
 unfolding lit
 lit-zeros zero = refl
 lit-zeros (suc k) = ap₂ (λ (n : ℕ) (s : Bits). eqb (n % 2) 1 ∷ s) (zero-div (2 ^ k)) (lit-zeros k)

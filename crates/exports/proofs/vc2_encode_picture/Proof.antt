@@ -4,7 +4,7 @@ use mathlib.Core.Bool.{true}
 use borrow.Author.Tests.{not-true, not-false}
 use Rattle.unit.specs.Words.{known}
 use Rattle.unit.specs.Three.{planes}
-use Rattle.exports.specs.Laws.Calls.{picture-unknown, picture-accepted, picture-refused}
+use Rattle.exports.specs.Laws.Calls.{picture_unknown, picture_accepted, picture_refused}
 use borrow.Author.Rules.{rules}
 use Rattle.exports.proofs.vc2_encode_picture.Statement.{statement}
 use Rattle.exports.proofs.vc2_encode_picture.Tie as tie
@@ -54,7 +54,7 @@ known-requires c κs = search rules
 returns : tie.Need-returns
 returns c =
     let a = (begin c.before).args in
-    picture-unknown a.settings.now a.matrix.now (planes a.y.now a.c1.now a.c2.now) a.out.now a.work.now _
+    picture_unknown a.settings.now a.matrix.now (planes a.y.now a.c1.now a.c2.now) a.out.now a.work.now _
     (sym c.before.known.ensures ∙ not-true c.before.known.result c.if1.true)
 
 -- the words are settings
@@ -84,7 +84,7 @@ returns-2 c =
     let a = (begin (after-settings-of c.before).before.before).args in
     let k = (after-settings-of c.before).settings-of in
     let e = (after-encode-picture' c.before).encode-picture in
-    picture-accepted a.settings.now a.matrix.now (planes a.y.now a.c1.now a.c2.now) a.out.now a.work.now _ k.result
+    picture_accepted a.settings.now a.matrix.now (planes a.y.now a.c1.now a.c2.now) a.out.now a.work.now _ k.result
     e.last.1.1.1.1.1.1.0 e.last.1.1.1.1.1.0 e.result (are-known (after-settings-of c.before).before) k.ensures e.ensures _ c.before.r.given.1
 
 same-length-3 : tie.Need-same-length-3
@@ -98,7 +98,7 @@ returns-3 c =
     let a = (begin (after-settings-of' c.before).before.before).args in
     let k = (after-settings-of' c.before).settings-of in
     let e = (after-encode-picture c.before).encode-picture in
-    picture-refused a.settings.now a.matrix.now (planes a.y.now a.c1.now a.c2.now) a.out.now a.work.now _ k.result
+    picture_refused a.settings.now a.matrix.now (planes a.y.now a.c1.now a.c2.now) a.out.now a.work.now _ k.result
     e.last.1.1.1.1.1.1.0 e.last.1.1.1.1.1.0 e.result (are-known (after-settings-of' c.before).before) k.ensures e.ensures _ c.before.r2.given.1
 
 pub vc2-encode-picture-spec : {M : Type 1} → statement M

@@ -3,9 +3,9 @@ use mathlib.Core.Path.{subst}
 use lib.IntN.{ℤ}
 use mir.Syntax.{w64}
 use mir.Facts.{to_z-of_z}
-use Rattle.quantiser.specs.Quant.{inverseQuant}
+use Rattle.quantiser.specs.Quant.{inverse_quant}
 use Rattle.quantiser.specs.Answer.{Answered}
-use Rattle.exports.specs.Laws.Calls.{gives-value, gives-refused}
+use Rattle.exports.specs.Laws.Calls.{gives_value, gives_refused}
 use borrow.Author.Rules.{rules}
 use Rattle.exports.proofs.vc2_inverse_quant.Statement.{statement}
 use Rattle.exports.proofs.vc2_inverse_quant.Tie as tie
@@ -17,10 +17,10 @@ inverse-quant-requires : tie.Need-inverse-quant-requires
 inverse-quant-requires c κs = search rules
 
 -- the number handed on is the one that came
-answered : (c : tie.After-inverse-quant) → let a = c.before.args in Answered a.index (inverseQuant a.number a.index) c.inverse-quant.result
+answered : (c : tie.After-inverse-quant) → let a = c.before.args in Answered a.index (inverse_quant a.number a.index) c.inverse-quant.result
 answered c =
     let a = c.before.args in
-    subst (λ (z : ℤ). Answered a.index (inverseQuant z a.index) c.inverse-quant.result) (to_z-of_z {w = w64} c.before.ranges.number) c.inverse-quant.ensures
+    subst (λ (z : ℤ). Answered a.index (inverse_quant z a.index) c.inverse-quant.result) (to_z-of_z {w = w64} c.before.ranges.number) c.inverse-quant.ensures
 
 enum-known-a : tie.Need-enum-known-a
 enum-known-a c = search rules
@@ -32,13 +32,13 @@ returns : tie.Need-returns
 returns c =
     let t = c.before.before in
     let st = t.before.before in
-    gives-value st.args.index _ st.args.value.now _ t.before.inverse-quant.result (answered t.before) c.before.a.given.1 c.known-told.given.0.1
+    gives_value st.args.index _ st.args.value.now _ t.before.inverse-quant.result (answered t.before) c.before.a.given.1 c.known-told.given.0.1
 
 returns-2 : tie.Need-returns-2
 returns-2 c =
     let t = c.before.before in
     let st = t.before.before in
-    gives-refused st.args.index _ _ st.args.value.now t.before.inverse-quant.result (answered t.before) c.before.a2.given.1
+    gives_refused st.args.index _ _ st.args.value.now t.before.inverse-quant.result (answered t.before) c.before.a2.given.1
 
 pub vc2-inverse-quant-spec : {M : Type 1} → statement M
 vc2-inverse-quant-spec =

@@ -15,15 +15,15 @@ use Rattle.unit.specs.declared.Answer.{Answer}
 use Rattle.unit.specs.declared.Answer.TheVariants.{Accepted, Refused}
 use Rattle.unit.specs.Three.{Three}
 use Rattle.unit.specs.Laws.Test.{no_truth}
-use Rattle.unit.specs.Refusal.{refusalOf}
+use Rattle.unit.specs.Refusal.{refusal_of}
 use Rattle.unit.specs.Plan.{Plan}
 use Rattle.unit.specs.Unit.{plan_of, length_of}
-use Rattle.unit.specs.Words.{known, settingsOf}
-use Rattle.unit.specs.Outcome.{Outcome, number_of, codingRefusal, codedIf, outcomeIf, outcomeOf}
-use Rattle.unit.specs.Laws.Demand.{isAccepted}
+use Rattle.unit.specs.Words.{known, settings_of}
+use Rattle.unit.specs.Outcome.{Outcome, number_of, coding_refusal, coded_if, outcome_if, outcome_of}
+use Rattle.unit.specs.Laws.Demand.{is_accepted}
 use Rattle.unit.specs.Demand.{Undropped, Demand3}
 use Rattle.unit.specs.Encoded.{Encodes}
-use Rattle.exports.specs.Calls.{Gives, Values, values_of, Left, leftIf, left_of, Picture}
+use Rattle.exports.specs.Calls.{Gives, Values, values_of, Left, left_if, left_of, Picture}
 
 -- ---- the four quantiser calls, by the answer a of the call inside
 -- what is behind the reference after an answer
@@ -35,24 +35,24 @@ leaves_by : (b : Bool) (z before : ℤ) → leaves (cond b (quant.Refused 6) (qu
 leaves_by true z before = refl
 leaves_by false z before = refl
 
-leaves-answer : (i : ℕ) (z before : ℤ) → leaves (answer_of i z) before ≡ cond (ltb 255 i) before z
+leaves_answer : (i : ℕ) (z before : ℤ) → leaves (answer_of i z) before ≡ cond (ltb 255 i) before z
 unfolding answer_of
-leaves-answer i z before = leaves_by (ltb 255 i) z before
+leaves_answer i z before = leaves_by (ltb 255 i) z before
 
 gives : (i : ℕ) (z before after : ℤ) (r : ℕ) (a : QuantAnswer) → Answered i z a → r ≡ answer.number_of a → after ≡ leaves a before → Gives i z before after r
 gives i z before after r a h e f = record {
   number = e ∙ h.number;
-  value = f ∙ ap (λ (a : QuantAnswer). leaves a before) h.is ∙ leaves-answer i z before;
+  value = f ∙ ap (λ (a : QuantAnswer). leaves a before) h.is ∙ leaves_answer i z before;
 }
 
 -- a value v goes there, by its bits
-pub gives-value : (i : ℕ) (z before v : ℤ) (a : QuantAnswer) → Answered i z a → a ≡ quant.Value v → mag v < 2 ^ 63 → Gives i z before (to_z w64 (of_z w64 v)) 0
-gives-value i z before v a h e l =
+pub gives_value : (i : ℕ) (z before v : ℤ) (a : QuantAnswer) → Answered i z a → a ≡ quant.Value v → mag v < 2 ^ 63 → Gives i z before (to_z w64 (of_z w64 v)) 0
+gives_value i z before v a h e l =
     gives i z before (to_z w64 (of_z w64 v)) 0 a h (ap answer.number_of (sym e)) (back v l ∙ ap (λ (a : QuantAnswer). leaves a before) (sym e))
 
 -- a refused index leaves what stood there
-pub gives-refused : (i n : ℕ) (z before : ℤ) (a : QuantAnswer) → Answered i z a → a ≡ quant.Refused n → Gives i z before before n
-gives-refused i n z before a h e =
+pub gives_refused : (i n : ℕ) (z before : ℤ) (a : QuantAnswer) → Answered i z a → a ≡ quant.Refused n → Gives i z before before n
+gives_refused i n z before a h e =
     gives i z before before n a h (ap answer.number_of (sym e)) (ap (λ (a : QuantAnswer). leaves a before) (sym e))
 
 -- ---- the picture call
@@ -62,66 +62,66 @@ module _ (s : Settings) (m : List ℕ) (p : Three (List ℕ)) (out : List ℕ) (
   a = plan_of s m p
 
   -- coding that answers 0 is accepted
-  coded-zero : (n : ℕ) → number_of (codedIf s a out work n).answer ≡ 0 → isAccepted (codedIf s a out work n).answer ≡ true
+  coded-zero : (n : ℕ) → number_of (coded_if s a out work n).answer ≡ 0 → is_accepted (coded_if s a out work n).answer ≡ true
   coded-zero zero e = refl
   coded-zero (suc n) e = absurd (omega (arith, e))
 
-  outcome-zero : (n : ℕ) → number_of (outcomeIf s m p out work n).answer ≡ 0 → isAccepted (outcomeIf s m p out work n).answer ≡ true
-  outcome-zero zero e = coded-zero (codingRefusal (length out) (length_of s a)) e
+  outcome-zero : (n : ℕ) → number_of (outcome_if s m p out work n).answer ≡ 0 → is_accepted (outcome_if s m p out work n).answer ≡ true
+  outcome-zero zero e = coded-zero (coding_refusal (length out) (length_of s a)) e
   outcome-zero (suc n) e = absurd (omega (arith, e))
 
-  zero-accepted : number_of (outcomeOf s m p out work).answer ≡ 0 → isAccepted (outcomeOf s m p out work).answer ≡ true
-  unfolding outcomeOf
-  zero-accepted e = outcome-zero (refusalOf s m p work) e
+  zero_accepted : number_of (outcome_of s m p out work).answer ≡ 0 → is_accepted (outcome_of s m p out work).answer ≡ true
+  unfolding outcome_of
+  zero_accepted e = outcome-zero (refusal_of s m p work) e
 
   -- demand 3 and the count of an answer of number 0
   module _ (out' : List ℕ) (work' : List ℤ) (v : Values) where
-    not-refused : {A : Type 0} (n : ℕ) → Encodes s m p out work out' work' (Refused n) → number_of (Refused n) ≡ 0 → A
-    not-refused n h e = no_truth (sym (ap isAccepted h.answer ∙ zero-accepted (sym (ap number_of h.answer) ∙ e)))
+    not_refused : {A : Type 0} (n : ℕ) → Encodes s m p out work out' work' (Refused n) → number_of (Refused n) ≡ 0 → A
+    not_refused n h e = no_truth (sym (ap is_accepted h.answer ∙ zero_accepted (sym (ap number_of h.answer) ∙ e)))
 
-    demand-zero : (r : Answer) → Encodes s m p out work out' work' r → number_of r ≡ 0 → Demand3 s m p (take (values_of r v).written out')
-    demand-zero (Accepted c) h e = h.demand c refl
-    demand-zero (Refused n) h e = not-refused n h e
+    demand_zero : (r : Answer) → Encodes s m p out work out' work' r → number_of r ≡ 0 → Demand3 s m p (take (values_of r v).written out')
+    demand_zero (Accepted c) h e = h.demand c refl
+    demand_zero (Refused n) h e = not_refused n h e
 
-    uncut-zero : (r : Answer) → Encodes s m p out work out' work' r → number_of r ≡ 0 → ((values_of r v).cut ≡ 0) ↔ Undropped (plan_of s m p)
-    uncut-zero (Accepted c) h e = h.uncut c refl
-    uncut-zero (Refused n) h e = not-refused n h e
+    uncut_zero : (r : Answer) → Encodes s m p out work out' work' r → number_of r ≡ 0 → ((values_of r v).cut ≡ 0) ↔ Undropped (plan_of s m p)
+    uncut_zero (Accepted c) h e = h.uncut c refl
+    uncut_zero (Refused n) h e = not_refused n h e
 
 left-same : (n k : ℕ) (o u : List ℕ) (w x : List ℤ) (a b : Values) → n ≡ k → o ≡ u → w ≡ x → a ≡ b
     → ◌≡◌ {A = Left} (record { number = n; output = o; work = w; values = a }) (record { number = k; output = u; work = x; values = b })
 left-same n k o u w x a b e f g h = rw (e, f, g, h)
 
 module _ (ws m : List ℕ) (p : Three (List ℕ)) (out : List ℕ) (work : List ℤ) (v : Values) where
-  left-if : (b : Bool) → known ws ≡ b → left_of ws m p out work v ≡ leftIf ws m p out work v b
+  left-if : (b : Bool) → known ws ≡ b → left_of ws m p out work v ≡ left_if ws m p out work v b
   unfolding left_of
-  left-if b e = ap (leftIf ws m p out work v) e
+  left-if b e = ap (left_if ws m p out work v) e
 
   -- words that are no settings
-  pub picture-unknown : known ws ≡ false → Picture ws m p out work v (record { number = 100; output = out; work = work; values = v })
-  picture-unknown e = record { is = sym (left-if false e); demand = λ n. absurd (omega (arith, n)); uncut = λ n. absurd (omega (arith, n)) }
+  pub picture_unknown : known ws ≡ false → Picture ws m p out work v (record { number = 100; output = out; work = work; values = v })
+  picture_unknown e = record { is = sym (left-if false e); demand = λ n. absurd (omega (arith, n)); uncut = λ n. absurd (omega (arith, n)) }
 
-  encoded : (out' : List ℕ) (work' : List ℤ) (r : Answer) → known ws ≡ true → Encodes (settingsOf ws) m p out work out' work' r
+  encoded : (out' : List ℕ) (work' : List ℤ) (r : Answer) → known ws ≡ true → Encodes (settings_of ws) m p out work out' work' r
       → Picture ws m p out work v (record { number = number_of r; output = out'; work = work'; values = values_of r v })
   encoded out' work' r e h =
-      let o : Outcome = outcomeOf (settingsOf ws) m p out work in
+      let o : Outcome = outcome_of (settings_of ws) m p out work in
       record {
         is =
             left-same (number_of r) (number_of o.answer) out' o.output work' o.work (values_of r v) (values_of o.answer v)
-            (ap number_of h.answer) h.output h.work-left (ap (λ (r : Answer). values_of r v) h.answer) ∙ sym (left-if true e);
-        demand = demand-zero (settingsOf ws) m p out work out' work' v r h;
-        uncut = uncut-zero (settingsOf ws) m p out work out' work' v r h;
+            (ap number_of h.answer) h.output h.work_left (ap (λ (r : Answer). values_of r v) h.answer) ∙ sym (left-if true e);
+        demand = demand_zero (settings_of ws) m p out work out' work' v r h;
+        uncut = uncut_zero (settings_of ws) m p out work out' work' v r h;
       }
 
-  module _ (s : Settings) (out' : List ℕ) (work' : List ℤ) (r : Answer) (e : known ws ≡ true) (f : s ≡ settingsOf ws) (h : Encodes s m p out work out' work' r) where
+  module _ (s : Settings) (out' : List ℕ) (work' : List ℤ) (r : Answer) (e : known ws ≡ true) (f : s ≡ settings_of ws) (h : Encodes s m p out work out' work' r) where
     -- the call's settings and answer, put in their place
-    encodes-as : (r' : Answer) → r ≡ r' → Encodes (settingsOf ws) m p out work out' work' r'
-    encodes-as r' g = rw (← f, ← g) h
+    encodes_as : (r' : Answer) → r ≡ r' → Encodes (settings_of ws) m p out work out' work' r'
+    encodes_as r' g = rw (← f, ← g) h
 
     -- an accepted call
-    pub picture-accepted : (c : Coded) → r ≡ Accepted c
+    pub picture_accepted : (c : Coded) → r ≡ Accepted c
         → Picture ws m p out work v (record { number = 0; output = out'; work = work'; values = record { written = c.written; cut = c.cut_slices; scaler = c.slice_size_scaler } })
-    picture-accepted c g = encoded out' work' (Accepted c) e (encodes-as (Accepted c) g)
+    picture_accepted c g = encoded out' work' (Accepted c) e (encodes_as (Accepted c) g)
 
     -- a refused one
-    pub picture-refused : (n : ℕ) → r ≡ Refused n → Picture ws m p out work v (record { number = n; output = out'; work = work'; values = v })
-    picture-refused n g = encoded out' work' (Refused n) e (encodes-as (Refused n) g)
+    pub picture_refused : (n : ℕ) → r ≡ Refused n → Picture ws m p out work v (record { number = n; output = out'; work = work'; values = v })
+    picture_refused n g = encoded out' work' (Refused n) e (encodes_as (Refused n) g)

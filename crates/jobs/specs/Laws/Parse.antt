@@ -9,25 +9,25 @@ use Rattle.std.proofs.Math.Dec.{eqb}
 use Rattle.std.proofs.Math.ListN.{length, take, get_or-map}
 use Rattle.std.proofs.lemmas.Bool.{not-true}
 use Rattle.laws.specs.Code.Laid.{Lays}
-use Rattle.laws.specs.Laws.Laid.{lays-on}
-use Rattle.unit.specs.Refusal.{anyAbove}
+use Rattle.laws.specs.Laws.Laid.{lays_on}
+use Rattle.unit.specs.Refusal.{any_above}
 use Rattle.unit.specs.Laws.Test.{or-none, all_most, most-at}
 use Rattle.unit.specs.Words.{word_at, known}
 use Rattle.words.specs.Laws.Words.{both_true, known-long}
 use Rattle.jobs.specs.declared.parse.Ends.{Ends}
-use Rattle.jobs.specs.Job.{words_of, kind_of, contentOf, ofKind, behind, parts_of, isEnd, inOrder}
-use Rattle.jobs.specs.Code.Steps.{wordFrom, runEnd, endsOf, counted}
-use Rattle.jobs.specs.Laws.Print.{lays-same, lays_one}
+use Rattle.jobs.specs.Job.{words_of, kind_of, content_of, of_kind, behind, parts_of, is_end, in_order}
+use Rattle.jobs.specs.Code.Steps.{word_from, run_end, ends_of, counted}
+use Rattle.jobs.specs.Laws.Print.{lays_same, lays_one}
 
 -- ---- a slice filled from its front: the first i of vs are laid
 pub fill-next : {b b' : List ℕ} (vs : List ℕ) (i v : ℕ) → i < length vs → v ≡ get_or vs i 0 → Lays b 0 (take i vs) b' i → Lays b 0 (take (i + 1) vs) (set b' i v) (i + 1)
-fill-next {b} {b'} vs i v h e p = lays-same more (lays-on p (lays_one b' i v))
+fill-next {b} {b'} vs i v h e p = lays_same more (lays_on p (lays_one b' i v))
   where
     more : take i vs ++ (v ∷ []) ≡ take (i + 1) vs
     more = rw (e, add-one i) (sym (take-suc vs i 0 h))
 
-pub fill-all : {b b' : List ℕ} (vs : List ℕ) (i n : ℕ) → length vs ≡ n → i ≡ n → Lays b 0 (take i vs) b' i → Lays b 0 vs b' n
-fill-all vs i n h e p = rw e at (lays-same (take_all i vs (omega arith)) p)
+pub fill_all : {b b' : List ℕ} (vs : List ℕ) (i n : ℕ) → length vs ≡ n → i ≡ n → Lays b 0 (take i vs) b' i → Lays b 0 vs b' n
+fill_all vs i n h e p = rw e at (lays_same (take_all i vs (omega arith)) p)
 
 -- ---- words of bytes
 -- how many there are
@@ -40,19 +40,19 @@ words_count (a ∷ b ∷ c ∷ []) = refl
 words_count (a ∷ b ∷ c ∷ d ∷ bytes) = let e = words_count bytes in omega arith
 
 -- the word at place i
-pub words-at : (bytes : List ℕ) (i : ℕ) → i < length bytes / 4 → wordFrom bytes (4 * i) ≡ get_or (words_of bytes) i 0
+pub words_at_lem : (bytes : List ℕ) (i : ℕ) → i < length bytes / 4 → word_from bytes (4 * i) ≡ get_or (words_of bytes) i 0
 unfolding words_of
-words-at [] i h = absurd (omega arith)
-words-at (a ∷ []) i h = absurd (omega arith)
-words-at (a ∷ b ∷ []) i h = absurd (omega arith)
-words-at (a ∷ b ∷ c ∷ []) i h = absurd (omega arith)
-words-at (a ∷ b ∷ c ∷ d ∷ bytes) zero h = refl
-words-at (a ∷ b ∷ c ∷ d ∷ bytes) (suc i) h =
+words_at_lem [] i h = absurd (omega arith)
+words_at_lem (a ∷ []) i h = absurd (omega arith)
+words_at_lem (a ∷ b ∷ []) i h = absurd (omega arith)
+words_at_lem (a ∷ b ∷ c ∷ []) i h = absurd (omega arith)
+words_at_lem (a ∷ b ∷ c ∷ d ∷ bytes) zero h = refl
+words_at_lem (a ∷ b ∷ c ∷ d ∷ bytes) (suc i) h =
     let e : 4 * suc i ≡ suc (suc (suc (suc (4 * i)))) = omega arith in
-    ap (wordFrom (a ∷ b ∷ c ∷ d ∷ bytes)) e ∙ behind-word (4 * i) ∙ words-at bytes i (omega arith)
+    ap (word_from (a ∷ b ∷ c ∷ d ∷ bytes)) e ∙ behind_word (4 * i) ∙ words_at_lem bytes i (omega arith)
   where
-    behind-word : (k : ℕ) → wordFrom (a ∷ b ∷ c ∷ d ∷ bytes) (suc (suc (suc (suc k)))) ≡ wordFrom bytes k
-    behind-word k =
+    behind_word : (k : ℕ) → word_from (a ∷ b ∷ c ∷ d ∷ bytes) (suc (suc (suc (suc k)))) ≡ word_from bytes k
+    behind_word k =
         let e1 : suc (suc (suc (suc k))) + 1 ≡ suc (suc (suc (suc (k + 1)))) = omega arith in
         let e2 : suc (suc (suc (suc k))) + 2 ≡ suc (suc (suc (suc (k + 2)))) = omega arith in
         let e3 : suc (suc (suc (suc k))) + 3 ≡ suc (suc (suc (suc (k + 3)))) = omega arith in
@@ -60,90 +60,90 @@ words-at (a ∷ b ∷ c ∷ d ∷ bytes) (suc i) h =
 
 -- ---- contents
 -- how many there are, and the one at place i
-pub contents-count : (ws : List ℕ) → length (map contentOf ws) ≡ length ws
-contents-count ws = length-map ws contentOf
+pub contents_count : (ws : List ℕ) → length (map content_of ws) ≡ length ws
+contents_count ws = length-map ws content_of
 
-pub content-at : (ws : List ℕ) (i : ℕ) → contentOf (get_or ws i 0) ≡ get_or (map contentOf ws) i 0
-content-at ws i = sym (get_or-map contentOf ws i 0)
+pub content_at : (ws : List ℕ) (i : ℕ) → content_of (get_or ws i 0) ≡ get_or (map content_of ws) i 0
+content_at ws i = sym (get_or-map content_of ws i 0)
 
 -- none is above 65,535
-pub content-small : (ws : List ℕ) (i : ℕ) → anyAbove 65535 (map contentOf ws) ≡ false → contentOf (get_or ws i 0) ≤ 65535
-content-small ws i h = rw (content-at ws i) (most-at 65535 (map contentOf ws) ((all_most 65535 (map contentOf ws)).0 h) i)
+pub content_small : (ws : List ℕ) (i : ℕ) → any_above 65535 (map content_of ws) ≡ false → content_of (get_or ws i 0) ≤ 65535
+content_small ws i h = rw (content_at ws i) (most-at 65535 (map content_of ws) ((all_most 65535 (map content_of ws)).0 h) i)
 
 -- ---- words of a kind
 -- what stands in front, by the first word's kind
 abbrev front : ℕ → ℕ → List ℕ → Bool → List ℕ
-front k w ws b = elim b [ true ↦ w ∷ ofKind k ws | false ↦ [] ]
+front k w ws b = elim b [ true ↦ w ∷ of_kind k ws | false ↦ [] ]
 
 -- one more, and none
-kind-more : (k w : ℕ) (ws : List ℕ) → kind_of w ≡ k → ofKind k (w ∷ ws) ≡ w ∷ ofKind k ws
-unfolding ofKind
-kind-more k w ws e = ap (front k w ws) (eq-eqb (kind_of w) k e)
+kind_more : (k w : ℕ) (ws : List ℕ) → kind_of w ≡ k → of_kind k (w ∷ ws) ≡ w ∷ of_kind k ws
+unfolding of_kind
+kind_more k w ws e = ap (front k w ws) (eq-eqb (kind_of w) k e)
 
-kind-over : (k w : ℕ) (ws : List ℕ) → (kind_of w ≡ k → ⊥) → ofKind k (w ∷ ws) ≡ []
-unfolding ofKind
-kind-over k w ws h = ap (front k w ws) (ne_eqb (kind_of w) k h)
+kind_over : (k w : ℕ) (ws : List ℕ) → (kind_of w ≡ k → ⊥) → of_kind k (w ∷ ws) ≡ []
+unfolding of_kind
+kind_over k w ws h = ap (front k w ws) (ne_eqb (kind_of w) k h)
 
-kind-none : (k : ℕ) → ofKind k [] ≡ []
-unfolding ofKind
-kind-none k = refl
+kind_none : (k : ℕ) → of_kind k [] ≡ []
+unfolding of_kind
+kind_none k = refl
 
 -- the words of a kind stand in front
-kind-front : (k : ℕ) (ws : List ℕ) → ofKind k ws ≡ take (length (ofKind k ws)) ws
-unfolding ofKind
-kind-front k [] = refl
-kind-front k (w ∷ ws) = by (eqb (kind_of w) k) (kind-front k ws)
+kind_front : (k : ℕ) (ws : List ℕ) → of_kind k ws ≡ take (length (of_kind k ws)) ws
+unfolding of_kind
+kind_front k [] = refl
+kind_front k (w ∷ ws) = by (eqb (kind_of w) k) (kind_front k ws)
   where
-    by : (b : Bool) → ofKind k ws ≡ take (length (ofKind k ws)) ws → front k w ws b ≡ take (length (front k w ws b)) (w ∷ ws)
+    by : (b : Bool) → of_kind k ws ≡ take (length (of_kind k ws)) ws → front k w ws b ≡ take (length (front k w ws b)) (w ∷ ws)
     by true e = ap (λ (l : List ℕ). w ∷ l) e
     by false e = refl
 
 -- the words of a kind are no more than all words
-kind-few : (k : ℕ) (ws : List ℕ) → length (ofKind k ws) ≤ length ws
-unfolding ofKind
-kind-few k [] = omega arith
-kind-few k (w ∷ ws) = by (eqb (kind_of w) k) (kind-few k ws)
+kind_few : (k : ℕ) (ws : List ℕ) → length (of_kind k ws) ≤ length ws
+unfolding of_kind
+kind_few k [] = omega arith
+kind_few k (w ∷ ws) = by (eqb (kind_of w) k) (kind_few k ws)
   where
-    by : (b : Bool) → length (ofKind k ws) ≤ length ws → length (front k w ws b) ≤ suc (length ws)
+    by : (b : Bool) → length (of_kind k ws) ≤ length ws → length (front k w ws b) ≤ suc (length ws)
     by true e = omega arith
     by false e = omega arith
 
 -- a word of kind 0 is its content
-content-same : (ws : List ℕ) → map contentOf (ofKind 0 ws) ≡ ofKind 0 ws
-unfolding ofKind
-content-same [] = refl
-content-same (w ∷ ws) = by (eqb (kind_of w) 0) refl (content-same ws)
+content_same : (ws : List ℕ) → map content_of (of_kind 0 ws) ≡ of_kind 0 ws
+unfolding of_kind
+content_same [] = refl
+content_same (w ∷ ws) = by (eqb (kind_of w) 0) refl (content_same ws)
   where
-    by : (b : Bool) → eqb (kind_of w) 0 ≡ b → map contentOf (ofKind 0 ws) ≡ ofKind 0 ws → map contentOf (front 0 w ws b) ≡ front 0 w ws b
+    by : (b : Bool) → eqb (kind_of w) 0 ≡ b → map content_of (of_kind 0 ws) ≡ of_kind 0 ws → map content_of (front 0 w ws b) ≡ front 0 w ws b
     by true e same =
         let h = eqb-true (kind_of w) 0 e in
-        let s : contentOf w ≡ w = omega arith in
+        let s : content_of w ≡ w = omega arith in
         ap₂ ◌∷◌ s same
     by false e same = refl
 
 -- ---- where they end
 -- from place i on: the run is over, goes on, or the words are over; it ends within the words
 module _ (k : ℕ) (ws : List ℕ) (i : ℕ) where
-  pub run-stop : i < length ws → (kind_of (get_or ws i 0) ≡ k → ⊥) → i ≡ runEnd k ws i
-  run-stop h o = let e = ap length (ap (ofKind k) (drop-cons ws i 0 h) ∙ kind-over k (get_or ws i 0) (drop (suc i) ws) o) in omega arith
+  pub run_stop : i < length ws → (kind_of (get_or ws i 0) ≡ k → ⊥) → i ≡ run_end k ws i
+  run_stop h o = let e = ap length (ap (of_kind k) (drop-cons ws i 0 h) ∙ kind_over k (get_or ws i 0) (drop (suc i) ws) o) in omega arith
 
-  pub run-next : i < length ws → kind_of (get_or ws i 0) ≡ k → runEnd k ws (i + 1) ≡ runEnd k ws i
+  pub run-next : i < length ws → kind_of (get_or ws i 0) ≡ k → run_end k ws (i + 1) ≡ run_end k ws i
   run-next h e =
-      let n = ap length (ap (ofKind k) (drop-cons ws i 0 h) ∙ kind-more k (get_or ws i 0) (drop (suc i) ws) e) in
-      let m = ap (λ (j : ℕ). length (ofKind k (drop j ws))) (add-one i) in
+      let n = ap length (ap (of_kind k) (drop-cons ws i 0 h) ∙ kind_more k (get_or ws i 0) (drop (suc i) ws) e) in
+      let m = ap (λ (j : ℕ). length (of_kind k (drop j ws))) (add-one i) in
       omega arith
 
-  pub run-over : length ws ≤ i → i ≡ runEnd k ws i
-  run-over h = let e = ap length (ap (ofKind k) (drop_of_length-le ws {i = i} h) ∙ kind-none k) in omega arith
+  pub run_over : length ws ≤ i → i ≡ run_end k ws i
+  run_over h = let e = ap length (ap (of_kind k) (drop_of_length-le ws {i = i} h) ∙ kind_none k) in omega arith
 
-  pub run-within : i ≤ length ws → runEnd k ws i ≤ length ws
-  run-within h = omega (arith, kind-few k (drop i ws), length-drop i ws)
+  pub run-within : i ≤ length ws → run_end k ws i ≤ length ws
+  run-within h = omega (arith, kind_few k (drop i ws), length-drop i ws)
 
 -- run after run
-pub ends-are : (ws : List ℕ) (s m y c1 c2 : ℕ) → s ≡ runEnd 0 ws 0 → m ≡ runEnd 1 ws s → y ≡ runEnd 2 ws m → c1 ≡ runEnd 3 ws y → c2 ≡ runEnd 4 ws c1
-    → ◌≡◌ {A = Ends} (record { settings = s; matrix = m; y = y; c1 = c1; c2 = c2 }) (endsOf ws)
-unfolding endsOf
-ends-are ws s m y c1 c2 hs hm hy h1 h2 = rw (h2, h1, hy, hm, hs)
+pub ends_are : (ws : List ℕ) (s m y c1 c2 : ℕ) → s ≡ run_end 0 ws 0 → m ≡ run_end 1 ws s → y ≡ run_end 2 ws m → c1 ≡ run_end 3 ws y → c2 ≡ run_end 4 ws c1
+    → ◌≡◌ {A = Ends} (record { settings = s; matrix = m; y = y; c1 = c1; c2 = c2 }) (ends_of ws)
+unfolding ends_of
+ends_are ws s m y c1 c2 hs hm hy h1 h2 = rw (h2, h1, hy, hm, hs)
 
 -- ---- parts
 -- what is lent from place a to place e
@@ -154,8 +154,8 @@ pub length_part : (a e : ℕ) (ws : List ℕ) → a ≤ e → e ≤ length ws �
 length_part a e ws h l = length-take-le (e - a) (drop a ws) (rw (length-drop a ws) (omega arith))
 
 -- the contents of a part
-pub part-long : (vs ws : List ℕ) (a e : ℕ) → vs ≡ map contentOf (part a e ws) → a ≤ e → e ≤ length ws → length vs ≡ e - a
-part-long vs ws a e h l w = ap length h ∙ contents-count (part a e ws) ∙ length_part a e ws l w
+pub part-long : (vs ws : List ℕ) (a e : ℕ) → vs ≡ map content_of (part a e ws) → a ≤ e → e ≤ length ws → length vs ≡ e - a
+part-long vs ws a e h l w = ap length h ∙ contents_count (part a e ws) ∙ length_part a e ws l w
 
 -- a part and the one behind it
 pub part_join : (a b e : ℕ) (ws : List ℕ) → a ≤ b → b ≤ e → part a e ws ≡ part a b ws ++ part b e ws
@@ -166,88 +166,88 @@ part_join a b e ws h l =
     ∙ ap (λ (l : List ℕ). part a b ws ++ take (e - b) l) (drop-drop (b - a) a ws ∙ ap (λ (n : ℕ). drop n ws) t)
 
 -- the words of a kind that stand from a place on, and those behind them
-kind-part : (k : ℕ) (ws : List ℕ) (from : ℕ) → ofKind k (drop from ws) ≡ part from (runEnd k ws from) ws
-kind-part k ws from =
-    kind-front k (drop from ws) ∙ ap (λ (n : ℕ). take n (drop from ws)) (sym (add-sub_cancel_left from (length (ofKind k (drop from ws)))))
+kind_part : (k : ℕ) (ws : List ℕ) (from : ℕ) → of_kind k (drop from ws) ≡ part from (run_end k ws from) ws
+kind_part k ws from =
+    kind_front k (drop from ws) ∙ ap (λ (n : ℕ). take n (drop from ws)) (sym (add-sub_cancel_left from (length (of_kind k (drop from ws)))))
 
-behind-is : (k : ℕ) (ws : List ℕ) (from : ℕ) → behind k (drop from ws) ≡ drop (runEnd k ws from) ws
-behind-is k ws from = drop-drop (length (ofKind k (drop from ws))) from ws
+behind_is : (k : ℕ) (ws : List ℕ) (from : ℕ) → behind k (drop from ws) ≡ drop (run_end k ws from) ws
+behind_is k ws from = drop-drop (length (of_kind k (drop from ws))) from ws
 
 -- the parts of a job, by where they end
 pub record Parted (ws : List ℕ) (e : Ends) : Type 0 where
   pub to-matrix : e.settings ≤ e.matrix
-  pub to-y : e.matrix ≤ e.y
-  pub to-c1 : e.y ≤ e.c1
-  pub to-c2 : e.c1 ≤ e.c2
+  pub to_y : e.matrix ≤ e.y
+  pub to_c1 : e.y ≤ e.c1
+  pub to_c2 : e.c1 ≤ e.c2
   pub within : e.c2 ≤ length ws
-  pub settings-are : (parts_of ws).settings ≡ take e.settings ws
-  pub matrix-is : (parts_of ws).matrix ≡ map contentOf (part e.settings e.matrix ws)
-  pub y-is : (parts_of ws).y ≡ map contentOf (part e.matrix e.y ws)
-  pub c1-is : (parts_of ws).c1 ≡ map contentOf (part e.y e.c1 ws)
-  pub c2-is : (parts_of ws).c2 ≡ map contentOf (part e.c1 e.c2 ws)
-  pub rest-is : (parts_of ws).rest ≡ drop e.c2 ws
+  pub settings_are : (parts_of ws).settings ≡ take e.settings ws
+  pub matrix_is : (parts_of ws).matrix ≡ map content_of (part e.settings e.matrix ws)
+  pub y_is : (parts_of ws).y ≡ map content_of (part e.matrix e.y ws)
+  pub c1_is : (parts_of ws).c1 ≡ map content_of (part e.y e.c1 ws)
+  pub c2_is : (parts_of ws).c2 ≡ map content_of (part e.c1 e.c2 ws)
+  pub rest_is : (parts_of ws).rest ≡ drop e.c2 ws
 
-pub parted : (ws : List ℕ) (e : Ends) → e ≡ endsOf ws → Parted ws e
-unfolding parts_of endsOf
+pub parted : (ws : List ℕ) (e : Ends) → e ≡ ends_of ws → Parted ws e
+unfolding parts_of ends_of
 parted ws e h = rw h is
   where
-    is : Parted ws (endsOf ws)
+    is : Parted ws (ends_of ws)
     is =
-        let s = runEnd 0 ws 0 in
-        let m = runEnd 1 ws s in
-        let y = runEnd 2 ws m in
-        let c1 = runEnd 3 ws y in
-        let b0 : behind 0 ws ≡ drop s ws = behind-is 0 ws 0 in
-        let b1 = ap (behind 1) b0 ∙ behind-is 1 ws s in
-        let b2 = ap (behind 2) b1 ∙ behind-is 2 ws m in
-        let b3 = ap (behind 3) b2 ∙ behind-is 3 ws y in
+        let s = run_end 0 ws 0 in
+        let m = run_end 1 ws s in
+        let y = run_end 2 ws m in
+        let c1 = run_end 3 ws y in
+        let b0 : behind 0 ws ≡ drop s ws = behind_is 0 ws 0 in
+        let b1 = ap (behind 1) b0 ∙ behind_is 1 ws s in
+        let b2 = ap (behind 2) b1 ∙ behind_is 2 ws m in
+        let b3 = ap (behind 3) b2 ∙ behind_is 3 ws y in
         let s-le = run-within 0 ws 0 (omega arith) in
         let m-le = run-within 1 ws s s-le in
         let y-le = run-within 2 ws m m-le in
         let c1-le = run-within 3 ws y y-le in
         record {
           to-matrix = omega arith;
-          to-y = omega arith;
-          to-c1 = omega arith;
-          to-c2 = omega arith;
+          to_y = omega arith;
+          to_c1 = omega arith;
+          to_c2 = omega arith;
           within = run-within 4 ws c1 c1-le;
-          settings-are = content-same ws ∙ kind-front 0 ws ∙ ap (λ (n : ℕ). take n ws) (sym (zero-add (length (ofKind 0 ws))));
-          matrix-is = ap (λ (l : List ℕ). map contentOf (ofKind 1 l)) b0 ∙ ap (map contentOf) (kind-part 1 ws s);
-          y-is = ap (λ (l : List ℕ). map contentOf (ofKind 2 l)) b1 ∙ ap (map contentOf) (kind-part 2 ws m);
-          c1-is = ap (λ (l : List ℕ). map contentOf (ofKind 3 l)) b2 ∙ ap (map contentOf) (kind-part 3 ws y);
-          c2-is = ap (λ (l : List ℕ). map contentOf (ofKind 4 l)) b3 ∙ ap (map contentOf) (kind-part 4 ws c1);
-          rest-is = ap (behind 4) b3 ∙ behind-is 4 ws c1;
+          settings_are = content_same ws ∙ kind_front 0 ws ∙ ap (λ (n : ℕ). take n ws) (sym (zero-add (length (of_kind 0 ws))));
+          matrix_is = ap (λ (l : List ℕ). map content_of (of_kind 1 l)) b0 ∙ ap (map content_of) (kind_part 1 ws s);
+          y_is = ap (λ (l : List ℕ). map content_of (of_kind 2 l)) b1 ∙ ap (map content_of) (kind_part 2 ws m);
+          c1_is = ap (λ (l : List ℕ). map content_of (of_kind 3 l)) b2 ∙ ap (map content_of) (kind_part 3 ws y);
+          c2_is = ap (λ (l : List ℕ). map content_of (of_kind 4 l)) b3 ∙ ap (map content_of) (kind_part 4 ws c1);
+          rest_is = ap (behind 4) b3 ∙ behind_is 4 ws c1;
         }
 
 -- ---- tests
 -- the one last word
-end-not : (ws : List ℕ) → (length ws ≡ 1 → ⊥) → false ≡ isEnd ws
-end-not [] h = refl
-end-not (w ∷ []) h = absurd (h refl)
-end-not (w ∷ v ∷ ws) h = refl
+end_not : (ws : List ℕ) → (length ws ≡ 1 → ⊥) → false ≡ is_end ws
+end_not [] h = refl
+end_not (w ∷ []) h = absurd (h refl)
+end_not (w ∷ v ∷ ws) h = refl
 
-pub end-other : (ws : List ℕ) (at : ℕ) → (length ws ≡ at + 1 → ⊥) → false ≡ isEnd (drop at ws)
-end-other ws at h = end-not (drop at ws) (λ e. h (omega (arith, length-drop at ws)))
+pub end_other : (ws : List ℕ) (at : ℕ) → (length ws ≡ at + 1 → ⊥) → false ≡ is_end (drop at ws)
+end_other ws at h = end_not (drop at ws) (λ e. h (omega (arith, length-drop at ws)))
 
-pub end-one : (ws : List ℕ) (at : ℕ) → length ws ≡ at + 1 → eqb (get_or ws at 0) (15 * 2 ^ 28) ≡ isEnd (drop at ws)
-end-one ws at h = ap isEnd (sym (drop-cons ws at 0 (omega arith) ∙ ap (λ (l : List ℕ). get_or ws at 0 ∷ l) (drop_of_length-le ws {i = suc at} (omega arith))))
+pub end_one : (ws : List ℕ) (at : ℕ) → length ws ≡ at + 1 → eqb (get_or ws at 0) (15 * 2 ^ 28) ≡ is_end (drop at ws)
+end_one ws at h = ap is_end (sym (drop-cons ws at 0 (omega arith) ∙ ap (λ (l : List ℕ). get_or ws at 0 ∷ l) (drop_of_length-le ws {i = suc at} (omega arith))))
 
 -- whether one is above 65,535, joined
-above_join : (most : ℕ) (xs ys : List ℕ) → anyAbove most (xs ++ ys) ≡ anyAbove most xs || anyAbove most ys
+above_join : (most : ℕ) (xs ys : List ℕ) → any_above most (xs ++ ys) ≡ any_above most xs || any_above most ys
 above_join most [] ys = refl
-above_join most (x ∷ xs) ys = ap (λ (b : Bool). ltb most x || b) (above_join most xs ys) ∙ sym (or_assoc (ltb most x) (anyAbove most xs) (anyAbove most ys))
+above_join most (x ∷ xs) ys = ap (λ (b : Bool). ltb most x || b) (above_join most xs ys) ∙ sym (or_assoc (ltb most x) (any_above most xs) (any_above most ys))
 
 -- a test of a part and of the one after it
-pub above-parts : (a b e : ℕ) (ws : List ℕ) → a ≤ b → b ≤ e
-    → anyAbove 65535 (map contentOf (part a e ws)) ≡ anyAbove 65535 (map contentOf (part a b ws)) || anyAbove 65535 (map contentOf (part b e ws))
-above-parts a b e ws h l =
-    ap (λ (l : List ℕ). anyAbove 65535 (map contentOf l)) (part_join a b e ws h l) ∙ ap (anyAbove 65535) (map-append contentOf (part a b ws) (part b e ws))
-    ∙ above_join 65535 (map contentOf (part a b ws)) (map contentOf (part b e ws))
+pub above_parts : (a b e : ℕ) (ws : List ℕ) → a ≤ b → b ≤ e
+    → any_above 65535 (map content_of (part a e ws)) ≡ any_above 65535 (map content_of (part a b ws)) || any_above 65535 (map content_of (part b e ws))
+above_parts a b e ws h l =
+    ap (λ (l : List ℕ). any_above 65535 (map content_of l)) (part_join a b e ws h l) ∙ ap (any_above 65535) (map-append content_of (part a b ws) (part b e ws))
+    ∙ above_join 65535 (map content_of (part a b ws)) (map content_of (part b e ws))
 
--- the tests of inOrder, from the settings and the rest, how many words there are, and whether one is too large
+-- the tests of in_order, from the settings and the rest, how many words there are, and whether one is too large
 abbrev order_by : List ℕ → List ℕ → ℕ → ℕ → Bool → Bool
 order_by settings rest matrix samples large =
-    known settings && (isEnd rest && ((not (eqb (word_at settings 9) 0) || eqb (word_at settings 10) 0)
+    known settings && (is_end rest && ((not (eqb (word_at settings 9) 0) || eqb (word_at settings 10) 0)
     && (leb matrix 64 && ((not (eqb (word_at settings 18) 0) || eqb matrix 0) && (leb samples 4096 && not large)))))
 
 order_same : {s s' r r' : List ℕ} {m m' k k' : ℕ} {x x' : Bool} → s ≡ s' → r ≡ r' → m ≡ m' → k ≡ k' → x ≡ x' → order_by s r m k x ≡ order_by s' r' m' k' x'
@@ -261,96 +261,96 @@ grouped true false c d x = refl
 grouped false b c d x = refl
 
 -- the tests of counts, in the code's order
-abbrev countedIn : List ℕ → Ends → Bool
-countedIn settings e = counted (word_at settings 9) (word_at settings 10) (word_at settings 18) (e.matrix - e.settings) (e.c2 - e.matrix)
+abbrev counted_in : List ℕ → Ends → Bool
+counted_in settings e = counted (word_at settings 9) (word_at settings 10) (word_at settings 18) (e.matrix - e.settings) (e.c2 - e.matrix)
 
-module _ (ws : List ℕ) (e : Ends) (ends : e ≡ endsOf ws) where
+module _ (ws : List ℕ) (e : Ends) (ends : e ≡ ends_of ws) where
   -- a matrix or sample word is too large
   abbrev large : Bool
-  large = anyAbove 65535 (map contentOf (part e.settings e.c2 ws))
+  large = any_above 65535 (map content_of (part e.settings e.c2 ws))
 
-  large_is : let p = parts_of ws in anyAbove 65535 p.matrix || (anyAbove 65535 p.y || (anyAbove 65535 p.c1 || anyAbove 65535 p.c2)) ≡ large
+  large_is : let p = parts_of ws in any_above 65535 p.matrix || (any_above 65535 p.y || (any_above 65535 p.c1 || any_above 65535 p.c2)) ≡ large
   large_is =
       let q = parted ws e ends in
       let s = e.settings in
       let m = e.matrix in
       let c2 = e.c2 in
-      let y-c2 : e.y ≤ c2 = omega (arith, q.to-c1, q.to-c2) in
-      let m-c2 : m ≤ c2 = omega (arith, q.to-y) in
-      rw (q.matrix-is, q.y-is, q.c1-is, q.c2-is, above-parts s m c2 ws q.to-matrix m-c2, above-parts m e.y c2 ws q.to-y y-c2, above-parts e.y e.c1 c2 ws q.to-c1 q.to-c2)
+      let y-c2 : e.y ≤ c2 = omega (arith, q.to_c1, q.to_c2) in
+      let m-c2 : m ≤ c2 = omega (arith, q.to_y) in
+      rw (q.matrix_is, q.y_is, q.c1_is, q.c2_is, above_parts s m c2 ws q.to-matrix m-c2, above_parts m e.y c2 ws q.to_y y-c2, above_parts e.y e.c1 c2 ws q.to_c1 q.to_c2)
 
   -- words in order, by the code's tests
-  order_is : inOrder ws ≡ known (take e.settings ws) && (isEnd (drop e.c2 ws) && (countedIn (take e.settings ws) e && not large))
-  unfolding inOrder
+  order_is : in_order ws ≡ known (take e.settings ws) && (is_end (drop e.c2 ws) && (counted_in (take e.settings ws) e && not large))
+  unfolding in_order
   order_is =
       let q = parted ws e ends in
       let p = parts_of ws in
       let s = take e.settings ws in
       let m = e.matrix - e.settings in
       let k = e.c2 - e.matrix in
-      let m-in : e.matrix ≤ length ws = omega (arith, q.to-y, q.to-c1, q.to-c2, q.within) in
-      let y-in : e.y ≤ length ws = omega (arith, q.to-c1, q.to-c2, q.within) in
-      let c1-in : e.c1 ≤ length ws = omega (arith, q.to-c2, q.within) in
-      let len-m = part-long p.matrix ws e.settings e.matrix q.matrix-is q.to-matrix m-in in
-      let len-y = part-long p.y ws e.matrix e.y q.y-is q.to-y y-in in
-      let len-c1 = part-long p.c1 ws e.y e.c1 q.c1-is q.to-c1 c1-in in
-      let len-c2 = part-long p.c2 ws e.c1 e.c2 q.c2-is q.to-c2 q.within in
-      let len-k : length p.y + length p.c1 + length p.c2 ≡ k = omega (arith, len-y, len-c1, len-c2, q.to-y, q.to-c1, q.to-c2) in
-      order_same q.settings-are q.rest-is len-m len-k large_is
-      ∙ ap (λ (b : Bool). known s && (isEnd (drop e.c2 ws) && b))
+      let m-in : e.matrix ≤ length ws = omega (arith, q.to_y, q.to_c1, q.to_c2, q.within) in
+      let y-in : e.y ≤ length ws = omega (arith, q.to_c1, q.to_c2, q.within) in
+      let c1-in : e.c1 ≤ length ws = omega (arith, q.to_c2, q.within) in
+      let len-m = part-long p.matrix ws e.settings e.matrix q.matrix_is q.to-matrix m-in in
+      let len-y = part-long p.y ws e.matrix e.y q.y_is q.to_y y-in in
+      let len-c1 = part-long p.c1 ws e.y e.c1 q.c1_is q.to_c1 c1-in in
+      let len-c2 = part-long p.c2 ws e.c1 e.c2 q.c2_is q.to_c2 q.within in
+      let len-k : length p.y + length p.c1 + length p.c2 ≡ k = omega (arith, len-y, len-c1, len-c2, q.to_y, q.to_c1, q.to_c2) in
+      order_same q.settings_are q.rest_is len-m len-k large_is
+      ∙ ap (λ (b : Bool). known s && (is_end (drop e.c2 ws) && b))
       (grouped (not (eqb (word_at s 9) 0) || eqb (word_at s 10) 0) (leb m 64) (not (eqb (word_at s 18) 0) || eqb m 0) (leb k 4096) (not large))
 
   -- known settings are 21 words
-  pub settings-long : known (take e.settings ws) ≡ true → e.settings ≡ 21
-  settings-long k =
+  pub settings_long : known (take e.settings ws) ≡ true → e.settings ≡ 21
+  settings_long k =
       let q = parted ws e ends in
-      sym (length-take-le e.settings ws (omega (arith, q.to-matrix, q.to-y, q.to-c1, q.to-c2, q.within))) ∙ known-long (take e.settings ws) k
+      sym (length-take-le e.settings ws (omega (arith, q.to-matrix, q.to_y, q.to_c1, q.to_c2, q.within))) ∙ known-long (take e.settings ws) k
 
   -- the settings stand in front of all words
-  setting-at : known (take e.settings ws) ≡ true → (i : ℕ) → i < 21 → word_at (take e.settings ws) i ≡ get_or ws i 0
-  setting-at k i h = get_or-take e.settings ws i 0 (rw (settings-long k) h)
+  setting_at : known (take e.settings ws) ≡ true → (i : ℕ) → i < 21 → word_at (take e.settings ws) i ≡ get_or ws i 0
+  setting_at k i h = get_or-take e.settings ws i 0 (rw (settings_long k) h)
 
-  counted_is : known (take e.settings ws) ≡ true → countedIn (take e.settings ws) e ≡ counted (get_or ws 9 0) (get_or ws 10 0) (get_or ws 18 0) (e.matrix - e.settings) (e.c2 - e.matrix)
-  counted_is k = rw (setting-at k 9 (omega arith), setting-at k 10 (omega arith), setting-at k 18 (omega arith))
+  counted_is : known (take e.settings ws) ≡ true → counted_in (take e.settings ws) e ≡ counted (get_or ws 9 0) (get_or ws 10 0) (get_or ws 18 0) (e.matrix - e.settings) (e.c2 - e.matrix)
+  counted_is k = rw (setting_at k 9 (omega arith), setting_at k 10 (omega arith), setting_at k 18 (omega arith))
 
   -- the first test that fails, and the last one
-  pub order-unknown : known (take e.settings ws) ≡ false → false ≡ inOrder ws
-  order-unknown k = rw (order_is, k)
+  pub order_unknown : known (take e.settings ws) ≡ false → false ≡ in_order ws
+  order_unknown k = rw (order_is, k)
 
-  pub order-endless : known (take e.settings ws) ≡ true → isEnd (drop e.c2 ws) ≡ false → false ≡ inOrder ws
-  order-endless k h = rw (order_is, k, h)
+  pub order_endless : known (take e.settings ws) ≡ true → is_end (drop e.c2 ws) ≡ false → false ≡ in_order ws
+  order_endless k h = rw (order_is, k, h)
 
-  pub order-uncounted : known (take e.settings ws) ≡ true → isEnd (drop e.c2 ws) ≡ true
-      → counted (get_or ws 9 0) (get_or ws 10 0) (get_or ws 18 0) (e.matrix - e.settings) (e.c2 - e.matrix) ≡ false → false ≡ inOrder ws
-  order-uncounted k h c = rw (order_is, counted_is k, k, h, c)
+  pub order_uncounted : known (take e.settings ws) ≡ true → is_end (drop e.c2 ws) ≡ true
+      → counted (get_or ws 9 0) (get_or ws 10 0) (get_or ws 18 0) (e.matrix - e.settings) (e.c2 - e.matrix) ≡ false → false ≡ in_order ws
+  order_uncounted k h c = rw (order_is, counted_is k, k, h, c)
 
-  pub order-last : known (take e.settings ws) ≡ true → isEnd (drop e.c2 ws) ≡ true
-      → counted (get_or ws 9 0) (get_or ws 10 0) (get_or ws 18 0) (e.matrix - e.settings) (e.c2 - e.matrix) ≡ true → not large ≡ inOrder ws
-  order-last k h c = rw (order_is, counted_is k, k, h, c)
+  pub order_last : known (take e.settings ws) ≡ true → is_end (drop e.c2 ws) ≡ true
+      → counted (get_or ws 9 0) (get_or ws 10 0) (get_or ws 18 0) (e.matrix - e.settings) (e.c2 - e.matrix) ≡ true → not large ≡ in_order ws
+  order_last k h c = rw (order_is, counted_is k, k, h, c)
 
   -- what words in order allow
   pub record Ready : Type 0 where
-    pub settings-known : known (take e.settings ws) ≡ true
-    pub matrix-few : e.matrix - e.settings ≤ 64
-    pub samples-few : e.c2 - e.matrix ≤ 4096
-    pub samples-small : anyAbove 65535 (map contentOf (part e.matrix e.c2 ws)) ≡ false
+    pub settings_known : known (take e.settings ws) ≡ true
+    pub matrix_few : e.matrix - e.settings ≤ 64
+    pub samples_few : e.c2 - e.matrix ≤ 4096
+    pub samples_small : any_above 65535 (map content_of (part e.matrix e.c2 ws)) ≡ false
 
-  pub ready : inOrder ws ≡ true → Ready
+  pub ready : in_order ws ≡ true → Ready
   ready h =
       let q = parted ws e ends in
       let m = e.matrix - e.settings in
       let k = e.c2 - e.matrix in
       let s = take e.settings ws in
       let t1 = both_true (known s) _ (sym order_is ∙ h) in
-      let t2 = both_true (isEnd (drop e.c2 ws)) _ t1.1 in
-      let t3 = both_true (countedIn s e) (not large) t2.1 in
+      let t2 = both_true (is_end (drop e.c2 ws)) _ t1.1 in
+      let t3 = both_true (counted_in s e) (not large) t2.1 in
       let t4 = both_true ((not (eqb (word_at s 9) 0) || eqb (word_at s 10) 0) && leb m 64 && (not (eqb (word_at s 18) 0) || eqb m 0)) (leb k 4096) t3.0 in
       let t5 = both_true ((not (eqb (word_at s 9) 0) || eqb (word_at s 10) 0) && leb m 64) (not (eqb (word_at s 18) 0) || eqb m 0) t4.0 in
       let t6 = both_true (not (eqb (word_at s 9) 0) || eqb (word_at s 10) 0) (leb m 64) t5.0 in
-      let split = above-parts e.settings e.matrix e.c2 ws q.to-matrix (omega (arith, q.to-y, q.to-c1, q.to-c2)) in
+      let split = above_parts e.settings e.matrix e.c2 ws q.to-matrix (omega (arith, q.to_y, q.to_c1, q.to_c2)) in
       record {
-        settings-known = t1.0;
-        matrix-few = leb-true m 64 t6.1;
-        samples-few = leb-true k 4096 t4.1;
-        samples-small = ((or-none (anyAbove 65535 (map contentOf (part e.settings e.matrix ws))) (anyAbove 65535 (map contentOf (part e.matrix e.c2 ws)))).0 (sym split ∙ not-true large t3.1)).1;
+        settings_known = t1.0;
+        matrix_few = leb-true m 64 t6.1;
+        samples_few = leb-true k 4096 t4.1;
+        samples_small = ((or-none (any_above 65535 (map content_of (part e.settings e.matrix ws))) (any_above 65535 (map content_of (part e.matrix e.c2 ws)))).0 (sym split ∙ not-true large t3.1)).1;
       }

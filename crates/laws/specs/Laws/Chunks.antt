@@ -13,10 +13,10 @@ use Rattle.laws.specs.Laws.Rows.{length-span, row_more}
 use Rattle.laws.specs.Code.Chunks.{chunks}
 
 module _ {A : Type 0} where
-  pub chunks-ext : (F G : ℕ → List A) (n : ℕ) → ((k : ℕ) → k < n → F k ≡ G k) → chunks F n ≡ chunks G n
+  pub chunks_ext : (F G : ℕ → List A) (n : ℕ) → ((k : ℕ) → k < n → F k ≡ G k) → chunks F n ≡ chunks G n
   unfolding chunks
-  chunks-ext F G zero e = refl
-  chunks-ext F G (suc n) e = ap₂ ◌++◌ (chunks-ext F G n (λ k l. e k (omega arith))) (e n (omega arith))
+  chunks_ext F G zero e = refl
+  chunks_ext F G (suc n) e = ap₂ ◌++◌ (chunks_ext F G n (λ k l. e k (omega arith))) (e n (omega arith))
 
   pub chunks-none : (F : ℕ → List A) → chunks F 0 ≡ []
   unfolding chunks
@@ -33,10 +33,10 @@ module _ {A : Type 0} where
     length-chunks zero = sym (zero-mul w)
     length-chunks (suc n) = length-append (chunks F n) (F n) ∙ rw (length-chunks n, long n) (sym (suc-mul n w))
 
-    pub getD-chunks : (d : A) (n y x : ℕ) → y < n → x < w → slice_index_or (chunks F n) (y * w + x) d ≡ slice_index_or (F y) x d
+    pub get_d_chunks : (d : A) (n y x : ℕ) → y < n → x < w → slice_index_or (chunks F n) (y * w + x) d ≡ slice_index_or (F y) x d
     unfolding chunks
-    getD-chunks d zero y x hy hx = absurd (omega arith)
-    getD-chunks d (suc n) y x hy hx = by (ℕ_discrete y n) (λ l. getD-chunks d n y x l hx)
+    get_d_chunks d zero y x hy hx = absurd (omega arith)
+    get_d_chunks d (suc n) y x hy hx = by (ℕ_discrete y n) (λ l. get_d_chunks d n y x l hx)
       where
         by : Dec (y ≡ n) → (y < n → slice_index_or (chunks F n) (y * w + x) d ≡ slice_index_or (F y) x d) → slice_index_or (chunks F n ++ F n) (y * w + x) d ≡ slice_index_or (F y) x d
         by (yes e) ih = rw (e, ← length-chunks n) (get_or-append-add (chunks F n) (F n) x d)
@@ -47,10 +47,10 @@ module _ {A : Type 0} where
             get_or-append (chunks F n) (F n) d (y * w + x) b ∙ ih l
 
 pub at-chunks : (F : ℕ → List ℤ) (w : ℕ) → ((k : ℕ) → length (F k) ≡ w) → (n y x : ℕ) → y < n → x < w → at (chunks F n) (y * w + x) ≡ at (F y) x
-at-chunks F w long n y x hy hx = getD-chunks F w long (pos 0) n y x hy hx
+at-chunks F w long n y x hy hx = get_d_chunks F w long (pos 0) n y x hy hx
 
-pub chunk-room : (n count w len : ℕ) → n < count → count * w ≤ len → n * w + w ≤ len
-chunk-room n count w len h room = le_trans (rw (← suc-mul) (mul-le-mul_right w h)) room
+pub chunk_room : (n count w len : ℕ) → n < count → count * w ≤ len → n * w + w ≤ len
+chunk_room n count w len h room = le_trans (rw (← suc-mul) (mul-le-mul_right w h)) room
 
 pub next_place : (n w p : ℕ) → p ≡ n * w → p + w ≡ (n + 1) * w
 next_place n w p e = rw (add-one, suc-mul, e)
@@ -60,5 +60,5 @@ pub fill-turn : (f : ℕ → ℤ) (l xs : List ℤ) (n : ℕ) → n < length l �
 fill-turn f l xs n h e =
     rw (e, drop-cons l n (pos 0) h, set_at (row n f) (at l n) (drop (suc n) l) (f n) n (length-span f 0 n), row_more, add-one n) (sym (append_snoc (row n f) (f n) (drop (suc n) l)))
 
-pub fill-all : (f : ℕ → ℤ) (l : List ℤ) (n : ℕ) → n ≡ length l → row n f ++ drop n l ≡ row (length l) f
-fill-all f l n e = rw (e, drop-length l) (append-nil (row (length l) f))
+pub fill_all : (f : ℕ → ℤ) (l : List ℤ) (n : ℕ) → n ≡ length l → row n f ++ drop n l ≡ row (length l) f
+fill_all f l n e = rw (e, drop-length l) (append-nil (row (length l) f))

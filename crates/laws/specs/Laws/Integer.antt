@@ -39,24 +39,24 @@ sub_by : (a b : ℕ) (c : Bool) → (T c → a < b) → (T (not c) → b ≤ a) 
 sub_by a b true f g = let h : a < b = f tt in omega arith
 sub_by a b false f g = let h : b ≤ a = g tt in omega arith
 
-sub-law : (a b : ℕ) → up (sub_ℕ a b) + b ≡ dn (sub_ℕ a b) + a
-sub-law a b = sub_by a b (nat_lt a b) (ltb→lt a b) (nltb→le a b)
+sub_law : (a b : ℕ) → up (sub_ℕ a b) + b ≡ dn (sub_ℕ a b) + a
+sub_law a b = sub_by a b (nat_lt a b) (ltb→lt a b) (nltb→le a b)
 
-pub add-law : (a b : ℤ) → up (a +ℤ b) + (dn a + dn b) ≡ dn (a +ℤ b) + (up a + up b)
-add-law (pos a) (pos b) = omega arith
-add-law (pos a) (negsuc b) = omega (arith, sub-law a (suc b))
-add-law (negsuc a) (pos b) = omega (arith, sub-law b (suc a))
-add-law (negsuc a) (negsuc b) = omega arith
+pub add_law : (a b : ℤ) → up (a +ℤ b) + (dn a + dn b) ≡ dn (a +ℤ b) + (up a + up b)
+add_law (pos a) (pos b) = omega arith
+add_law (pos a) (negsuc b) = omega (arith, sub_law a (suc b))
+add_law (negsuc a) (pos b) = omega (arith, sub_law b (suc a))
+add_law (negsuc a) (negsuc b) = omega arith
 
-pub neg-law : (a : ℤ) → (up (neg_ℤ a) ≡ dn a) × (dn (neg_ℤ a) ≡ up a)
-neg-law (pos zero) = omega arith
-neg-law (pos (suc n)) = omega arith
-neg-law (negsuc n) = omega arith
+pub neg_law : (a : ℤ) → (up (neg_ℤ a) ≡ dn a) × (dn (neg_ℤ a) ≡ up a)
+neg_law (pos zero) = omega arith
+neg_law (pos (suc n)) = omega arith
+neg_law (negsuc n) = omega arith
 
-pub times-law : (k : ℕ) (a : ℤ) (p n : ℕ) → up a + n ≡ dn a + p → up (pos k *ℤ a) + k * n ≡ dn (pos k *ℤ a) + k * p
-times-law k (pos a) p n h = sym (mul-add k a n) ∙ ap (λ (x : ℕ). k * x) h ∙ mul-add k 0 p ∙ ap (λ (x : ℕ). x + k * p) (mul-zero k)
-times-law k (negsuc a) p n h =
-    let g = neg-law (pos (k * suc a)) in
+pub times_law : (k : ℕ) (a : ℤ) (p n : ℕ) → up a + n ≡ dn a + p → up (pos k *ℤ a) + k * n ≡ dn (pos k *ℤ a) + k * p
+times_law k (pos a) p n h = sym (mul-add k a n) ∙ ap (λ (x : ℕ). k * x) h ∙ mul-add k 0 p ∙ ap (λ (x : ℕ). x + k * p) (mul-zero k)
+times_law k (negsuc a) p n h =
+    let g = neg_law (pos (k * suc a)) in
     let e : k * n ≡ k * suc a + k * p = ap (λ (x : ℕ). k * x) (omega arith) ∙ mul-add k (suc a) p in
     omega arith
 
@@ -64,13 +64,13 @@ abbrev pub var : (z : ℤ) → Lin z
 var z = record { p = up z; n = dn z; law = omega arith }
 
 abbrev pub plus : {a b : ℤ} → Lin a → Lin b → Lin (a +ℤ b)
-plus {a} {b} x y = record { p = x.p + y.p; n = x.n + y.n; law = omega (arith, add-law a b) }
+plus {a} {b} x y = record { p = x.p + y.p; n = x.n + y.n; law = omega (arith, add_law a b) }
 
 abbrev pub minus : {a : ℤ} → Lin a → Lin (neg_ℤ a)
-minus {a} x = record { p = x.n; n = x.p; law = omega (arith, neg-law a) }
+minus {a} x = record { p = x.n; n = x.p; law = omega (arith, neg_law a) }
 
 abbrev pub times : (k : ℕ) {a : ℤ} → Lin a → Lin (pos k *ℤ a)
-times k {a} x = record { p = k * x.p; n = k * x.n; law = times-law k a x.p x.n x.law }
+times k {a} x = record { p = k * x.p; n = k * x.n; law = times_law k a x.p x.n x.law }
 
 infixl 6 ◌⊞◌ ◌⊟◌
 abbrev pub ◌⊞◌ : {a b : ℤ} → Lin a → Lin b → Lin (a +ℤ b)
@@ -104,33 +104,33 @@ lt_no (negsuc m) (negsuc n) h = let g = nltb→le n m (fails h) in omega arith
 
 -- ---- magnitudes
 pub abs_neg : (a : ℤ) → unsigned_abs (neg_ℤ a) ≡ unsigned_abs a
-abs_neg a = omega (arith, parts a, parts (neg_ℤ a), neg-law a)
+abs_neg a = omega (arith, parts a, parts (neg_ℤ a), neg_law a)
 
-pub abs-add : (a b : ℤ) → unsigned_abs (a +ℤ b) ≤ unsigned_abs a + unsigned_abs b
-abs-add a b = let s = var a ⊞ var b in omega (arith, parts a, parts b, parts (a +ℤ b))
+pub abs_add : (a b : ℤ) → unsigned_abs (a +ℤ b) ≤ unsigned_abs a + unsigned_abs b
+abs_add a b = let s = var a ⊞ var b in omega (arith, parts a, parts b, parts (a +ℤ b))
 
-pub abs-sub : (a b : ℤ) → unsigned_abs (a -ℤ b) ≤ unsigned_abs a + unsigned_abs b
-abs-sub a b = let s = var a ⊟ var b in omega (arith, parts a, parts b, parts (a -ℤ b))
+pub abs_sub : (a b : ℤ) → unsigned_abs (a -ℤ b) ≤ unsigned_abs a + unsigned_abs b
+abs_sub a b = let s = var a ⊟ var b in omega (arith, parts a, parts b, parts (a -ℤ b))
 
-pub abs-mul : (a b : ℤ) → unsigned_abs (a *ℤ b) ≡ unsigned_abs a * unsigned_abs b
-abs-mul (pos a) (pos b) = refl
-abs-mul (pos a) (negsuc b) = abs_neg (pos (a * suc b))
-abs-mul (negsuc a) (pos b) = abs_neg (pos (suc a * b))
-abs-mul (negsuc a) (negsuc b) = refl
+pub abs_mul : (a b : ℤ) → unsigned_abs (a *ℤ b) ≡ unsigned_abs a * unsigned_abs b
+abs_mul (pos a) (pos b) = refl
+abs_mul (pos a) (negsuc b) = abs_neg (pos (a * suc b))
+abs_mul (negsuc a) (pos b) = abs_neg (pos (suc a * b))
+abs_mul (negsuc a) (negsuc b) = refl
 
 -- ---- division that rounds down: shr_z z m is the floor of z / m, for any m
 pub record Floor (z q : ℤ) (m : ℕ) : Type 0 where
   pub low : m * up q + dn z ≤ up z + m * dn q
   pub high : up z + m * dn q < m * up q + dn z + m
 
-pub floor-law : (z : ℤ) {m : ℕ} → 0 < m → Floor z (shr_z z m) m
-floor-law (pos a) {m} h = let l = mod-lt a h in omega (arith, div-add-mod a m, mul-zero m)
-floor-law (negsuc a) {m} h = let l = mod-lt a h in omega (arith, div-add-mod a m, mul-zero m, mul-suc m (a / m))
+pub floor_law : (z : ℤ) {m : ℕ} → 0 < m → Floor z (shr_z z m) m
+floor_law (pos a) {m} h = let l = mod-lt a h in omega (arith, div-add-mod a m, mul-zero m)
+floor_law (negsuc a) {m} h = let l = mod-lt a h in omega (arith, div-add-mod a m, mul-zero m, mul-suc m (a / m))
 
 -- m |floor (z / m)| is at most |z| + m
-pub abs-floor : (z : ℤ) (m : ℕ) → m * unsigned_abs (shr_z z m) ≤ unsigned_abs z + m
-abs-floor (pos a) m = omega (arith, div-mul-le_self a m, mul_comm m (a / m))
-abs-floor (negsuc a) m = omega (arith, div-mul-le_self a m, mul_comm m (suc (a / m)), suc-mul (a / m) m)
+pub abs_floor : (z : ℤ) (m : ℕ) → m * unsigned_abs (shr_z z m) ≤ unsigned_abs z + m
+abs_floor (pos a) m = omega (arith, div-mul-le_self a m, mul_comm m (a / m))
+abs_floor (negsuc a) m = omega (arith, div-mul-le_self a m, mul_comm m (suc (a / m)), suc-mul (a / m) m)
 
 -- ---- regrouping
 pub sub-add : (a b : ℤ) → (a -ℤ b) +ℤ b ≡ a

@@ -7,17 +7,17 @@ use Rattle.std.proofs.Math.Seq.{length-sets, take-append_seam}
 use Rattle.laws.specs.Code.Laid.{laid, Lays}
 
 module _ {A : Type 0} where
-  pub laid-sets : (l : List A) (i : ℕ) (vs : List A) → laid l i vs ≡ sets l i vs
+  pub laid_sets : (l : List A) (i : ℕ) (vs : List A) → laid l i vs ≡ sets l i vs
   unfolding laid
-  laid-sets l i [] = refl
-  laid-sets l i (v ∷ vs) = laid-sets (slice_set l i v) (suc i) vs
+  laid_sets l i [] = refl
+  laid_sets l i (v ∷ vs) = laid_sets (slice_set l i v) (suc i) vs
 
   pub laid_nil : (l : List A) (i : ℕ) → laid l i [] ≡ l
   unfolding laid
   laid_nil l i = refl
 
   pub length-laid : (l : List A) (i : ℕ) (vs : List A) → length (laid l i vs) ≡ length l
-  length-laid l i vs = ap length (laid-sets l i vs) ∙ length-sets l i vs
+  length-laid l i vs = ap length (laid_sets l i vs) ∙ length-sets l i vs
 
   pub laid-append : (l : List A) (i : ℕ) (vs ws : List A) → laid l i (vs ++ ws) ≡ laid (laid l i vs) (i + length vs) ws
   unfolding laid
@@ -33,21 +33,21 @@ module _ {A : Type 0} where
   unfolding laid
   laid_one l i j vs v e = laid_then l i j vs (v ∷ []) e
 
-  pub laid-is : (l : List A) (i : ℕ) (vs : List A) → i + length vs ≤ length l → laid l i vs ≡ take i l ++ vs ++ drop (i + length vs) l
-  laid-is l i vs h = laid-sets l i vs ∙ sets-eq vs l i h
+  pub laid_is : (l : List A) (i : ℕ) (vs : List A) → i + length vs ≤ length l → laid l i vs ≡ take i l ++ vs ++ drop (i + length vs) l
+  laid_is l i vs h = laid_sets l i vs ∙ sets-eq vs l i h
 
   pub run-laid : (l : List A) (i : ℕ) (vs : List A) → i + length vs ≤ length l → take (length vs) (drop i (laid l i vs)) ≡ vs
   run-laid l i vs h =
-      rw (laid-is l i vs h, append_assoc, drop_at (take i l) (vs ++ drop (i + length vs) l) i (length-take-le i l (omega arith)), take-append_seam)
+      rw (laid_is l i vs h, append_assoc, drop_at (take i l) (vs ++ drop (i + length vs) l) i (length-take-le i l (omega arith)), take-append_seam)
 
-  pub run-laid0 : (l : List A) (n : ℕ) (vs : List A) → length vs ≡ n → n ≤ length l → take n (laid l 0 vs) ≡ vs
-  run-laid0 l n vs e h = rw (← e) (run-laid l 0 vs (omega arith))
+  pub run_laid0 : (l : List A) (n : ℕ) (vs : List A) → length vs ≡ n → n ≤ length l → take n (laid l 0 vs) ≡ vs
+  run_laid0 l n vs e h = rw (← e) (run-laid l 0 vs (omega arith))
 
-pub lays-start : {A : Type 0} (b : List A) (at : ℕ) → Lays b at [] b at
-lays-start b at = record { is = sym (laid_nil b at); next = omega arith; size = refl }
+pub lays_start : {A : Type 0} (b : List A) (at : ℕ) → Lays b at [] b at
+lays_start b at = record { is = sym (laid_nil b at); next = omega arith; size = refl }
 
-pub lays-on : {A : Type 0} {b b' b'' vs ws : List A} {at r r' : ℕ} → Lays b at vs b' r → Lays b' r ws b'' r' → Lays b at (vs ++ ws) b'' r'
-lays-on {A} {b} {b'} {b''} {vs} {ws} {at} {r} {r'} p q =
+pub lays_on : {A : Type 0} {b b' b'' vs ws : List A} {at r r' : ℕ} → Lays b at vs b' r → Lays b' r ws b'' r' → Lays b at (vs ++ ws) b'' r'
+lays_on {A} {b} {b'} {b''} {vs} {ws} {at} {r} {r'} p q =
     record {
       is = q.is ∙ ap (λ (l : List A). laid l r ws) p.is ∙ laid_then b at r vs ws p.next;
       next = rw length-append (omega arith);
@@ -55,9 +55,9 @@ lays-on {A} {b} {b'} {b''} {vs} {ws} {at} {r} {r'} p q =
     }
 
 -- one element in front of a run
-pub lays-first : {A : Type 0} {b b' ws : List A} {at r : ℕ} (v : A) → Lays (slice_set b at v) (at + 1) ws b' r → Lays b at (v ∷ ws) b' r
+pub lays_first : {A : Type 0} {b b' ws : List A} {at r : ℕ} (v : A) → Lays (slice_set b at v) (at + 1) ws b' r → Lays b at (v ∷ ws) b' r
 unfolding laid
-lays-first {A} {b} {b'} {ws} {at} {r} v q =
+lays_first {A} {b} {b'} {ws} {at} {r} v q =
     record {
       is = q.is ∙ ap (λ (k : ℕ). laid (slice_set b at v) k ws) (add-one at);
       next = omega (arith, q.next);

@@ -4,7 +4,7 @@ use Rattle.std.proofs.Common.{sym, ◌∙◌, arith, mul-le-mul_right, Fits, of_
 use Rattle.std.proofs.Math.Nat.{zero-div, zero-mod}
 use Rattle.std.specs.Int.Signed.{shr_z, non_neg}
 use Rattle.std.specs.Int.{w64}
-use Rattle.laws.specs.Laws.Integer.{up, dn, parts, neg-law, ext, var, ◌⊟◌, lt_yes, lt_no, floor-law}
+use Rattle.laws.specs.Laws.Integer.{up, dn, parts, neg_law, ext, var, ◌⊟◌, lt_yes, lt_no, floor_law}
 
 pub fit : (z : ℤ) → unsigned_abs z < 2 ^ 63 → FitsSigned w64 z
 fit z h = record { sfits = omega (arith, parts z) }
@@ -17,31 +17,31 @@ pub unfit : (z : ℤ) → FitsSigned w64 z → unsigned_abs z ≤ 2 ^ 63
 unfit z h = omega (arith, parts z)
 
 pub record Quot (s : ℤ) (k : ℕ) : Type 0 where
-  pub q-up : up (int_div s (pos k)) ≡ up s / k
-  pub q-dn : dn (int_div s (pos k)) ≡ dn s / k
-  pub r-up : up (int_rem s (pos k)) ≡ up s % k
-  pub r-dn : dn (int_rem s (pos k)) ≡ dn s % k
+  pub q_up : up (int_div s (pos k)) ≡ up s / k
+  pub q_dn : dn (int_div s (pos k)) ≡ dn s / k
+  pub r_up : up (int_rem s (pos k)) ≡ up s % k
+  pub r_dn : dn (int_rem s (pos k)) ≡ dn s % k
 
-pub quot-law : (s : ℤ) (k : ℕ) → Quot s k
-quot-law (pos a) k = record { q-up = refl; q-dn = sym (zero-div k); r-up = refl; r-dn = sym (zero-mod k) }
-quot-law (negsuc a) k =
-    let q = neg-law (pos (suc a / k)) in
-    let r = neg-law (pos (suc a % k)) in
-    record { q-up = q.0 ∙ sym (zero-div k); q-dn = q.1; r-up = r.0 ∙ sym (zero-mod k); r-dn = r.1 }
+pub quot_law : (s : ℤ) (k : ℕ) → Quot s k
+quot_law (pos a) k = record { q_up = refl; q_dn = sym (zero-div k); r_up = refl; r_dn = sym (zero-mod k) }
+quot_law (negsuc a) k =
+    let q = neg_law (pos (suc a / k)) in
+    let r = neg_law (pos (suc a % k)) in
+    record { q_up = q.0 ∙ sym (zero-div k); q_dn = q.1; r_up = r.0 ∙ sym (zero-mod k); r_dn = r.1 }
 
 -- the quotient toward zero, corrected by the remainder's sign, is the floor
-pub floor3-neg : (s : ℤ) → int_lt (int_rem s (pos 3)) (pos 0) ≡ true → int_div s (pos 3) -ℤ pos 1 ≡ shr_z s 3
-floor3-neg s h =
+pub floor3_neg : (s : ℤ) → int_lt (int_rem s (pos 3)) (pos 0) ≡ true → int_div s (pos 3) -ℤ pos 1 ≡ shr_z s 3
+floor3_neg s h =
     let l = lt_yes (int_rem s (pos 3)) (pos 0) h in
-    let f = floor-law s {m = 3} (omega arith) in
+    let f = floor_law s {m = 3} (omega arith) in
     let v = var (int_div s (pos 3)) ⊟ var (pos 1) in
-    ext (omega (arith, quot-law s 3, parts s))
+    ext (omega (arith, quot_law s 3, parts s))
 
-pub floor3-pos : (s : ℤ) → int_lt (int_rem s (pos 3)) (pos 0) ≡ false → int_div s (pos 3) ≡ shr_z s 3
-floor3-pos s h =
+pub floor3_pos : (s : ℤ) → int_lt (int_rem s (pos 3)) (pos 0) ≡ false → int_div s (pos 3) ≡ shr_z s 3
+floor3_pos s h =
     let l = lt_no (int_rem s (pos 3)) (pos 0) h in
-    let f = floor-law s {m = 3} (omega arith) in
-    ext (omega (arith, quot-law s 3, parts s))
+    let f = floor_law s {m = 3} (omega arith) in
+    ext (omega (arith, quot_law s 3, parts s))
 
 -- ---- casts: below zero `!a` is -(a + 1), which a cast to u64 takes; from zero up the cast takes a itself
 pub record Below (a : ℤ) : Type 0 where

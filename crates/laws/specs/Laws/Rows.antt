@@ -9,14 +9,14 @@ module _ {A : Type 0} where
   length-span f i zero = refl
   length-span f i (suc n) = ap suc (length-span f (suc i) n)
 
-  pub getD-span : (f : ℕ → A) (i n k : ℕ) (d : A) → k < n → slice_index_or (span f i n) k d ≡ f (i + k)
-  getD-span f i zero k d h = absurd (not-suc-le-zero h)
-  getD-span f i (suc n) zero d h = ap f (omega arith)
-  getD-span f i (suc n) (suc k) d h = getD-span f (suc i) n k d (le_of_suc-le-suc h) ∙ ap f (omega arith)
+  pub get_d_span : (f : ℕ → A) (i n k : ℕ) (d : A) → k < n → slice_index_or (span f i n) k d ≡ f (i + k)
+  get_d_span f i zero k d h = absurd (not-suc-le-zero h)
+  get_d_span f i (suc n) zero d h = ap f (omega arith)
+  get_d_span f i (suc n) (suc k) d h = get_d_span f (suc i) n k d (le_of_suc-le-suc h) ∙ ap f (omega arith)
 
   -- a table's rule: a list that the checker computes to a function's first values has its value at each place
   pub table : (f : ℕ → A) (n i : ℕ) (d : A) → i < n → slice_index_or (span f 0 n) i d ≡ f i
-  table f n i d h = getD-span f 0 n i d h ∙ ap f (zero-add i)
+  table f n i d h = get_d_span f 0 n i d h ∙ ap f (zero-add i)
 
   pub span_ext : (f g : ℕ → A) (i n : ℕ) → ((k : ℕ) → i ≤ k → k < i + n → f k ≡ g k) → span f i n ≡ span g i n
   span_ext f g i zero e = refl
@@ -59,15 +59,15 @@ total-more f i zero = let e : i + 0 ≡ i = omega arith in rw e (omega arith)
 total-more f i (suc n) = let e : i + suc n ≡ suc i + n = omega arith in rw e (omega (arith, total-more f (suc i) n))
 
 pub at_row : (n : ℕ) (f : ℕ → ℤ) (k : ℕ) → k < n → at (row n f) k ≡ f k
-at_row n f k h = getD-span f 0 n k (pos 0) h ∙ ap f (zero-add k)
+at_row n f k h = get_d_span f 0 n k (pos 0) h ∙ ap f (zero-add k)
 
 pub row_at : (n : ℕ) (xs : List ℤ) → length xs ≡ n → row n (at xs) ≡ xs
 row_at n xs e =
     ext_get_or (pos 0) (row n (at xs)) xs (length-span (at xs) 0 n ∙ sym e)
     (λ i h. at_row n (at xs) i (rw (length-span (at xs) 0 n) at h))
 
-pub row-ext : (n : ℕ) (f g : ℕ → ℤ) → ((k : ℕ) → k < n → f k ≡ g k) → row n f ≡ row n g
-row-ext n f g e = span_ext f g 0 n (λ k a b. e k (omega arith))
+pub row_ext : (n : ℕ) (f g : ℕ → ℤ) → ((k : ℕ) → k < n → f k ≡ g k) → row n f ≡ row n g
+row_ext n f g e = span_ext f g 0 n (λ k a b. e k (omega arith))
 
 pub row_more : (f : ℕ → ℤ) (n : ℕ) → row (n + 1) f ≡ row n f ++ (f n ∷ [])
 row_more f n = span_more f 0 n ∙ ap (λ (k : ℕ). row n f ++ (f k ∷ [])) (zero-add n)

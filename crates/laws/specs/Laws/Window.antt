@@ -12,7 +12,7 @@ use Rattle.std.proofs.lemmas.List.{take-append-le, set_at, take-set-le, drop-set
 use Rattle.laws.specs.Rows.{at, row}
 use Rattle.laws.specs.Laws.Rows.{length-span, row_more}
 use Rattle.laws.specs.Code.Chunks.{chunks}
-use Rattle.laws.specs.Laws.Chunks.{length-chunks, chunk-room, next_place}
+use Rattle.laws.specs.Laws.Chunks.{length-chunks, chunk_room, next_place}
 use Rattle.laws.specs.Code.Window.{piece, put}
 
 pub length-piece : (p n : ℕ) (l : List ℤ) → p + n ≤ length l → length (piece p n l) ≡ n
@@ -76,24 +76,24 @@ module _ (p n : ℕ) (ys l : List ℤ) (fits : p + n ≤ length l) (long : lengt
   unfolding put
   drop-put-at = drop_at (take p l) (ys ++ drop (p + n) l) p head-long
 
-  pub piece-inner : (q : ℕ) → q ≤ n → piece p q (put p n ys l) ≡ take q ys
-  piece-inner q h = ap (take q) drop-put-at ∙ take-append-le q ys (drop (p + n) l) (rw long h)
+  pub piece_inner : (q : ℕ) → q ≤ n → piece p q (put p n ys l) ≡ take q ys
+  piece_inner q h = ap (take q) drop-put-at ∙ take-append-le q ys (drop (p + n) l) (rw long h)
 
   pub piece-put : piece p n (put p n ys l) ≡ ys
   piece-put = ap (take n) drop-put-at ∙ take_at ys (drop (p + n) l) n long
 
   -- the first q of them replaced once more
-  pub put-inner : (q : ℕ) (zs : List ℤ) → q ≤ n → put p q zs (put p n ys l) ≡ put p n (zs ++ drop q ys) l
+  pub put_inner : (q : ℕ) (zs : List ℤ) → q ≤ n → put p q zs (put p n ys l) ≡ put p n (zs ++ drop q ys) l
   unfolding put
-  put-inner q zs h =
+  put_inner q zs h =
       ap₂ (λ (x y : List ℤ). x ++ (zs ++ y)) take_put
       (sym (drop-drop q p (put p n ys l)) ∙ ap (drop q) drop-put-at ∙ drop-append-le q ys (drop (p + n) l) (rw long h))
       ∙ ap (λ (x : List ℤ). take p l ++ x) (sym (append_assoc zs (drop q ys) (drop (p + n) l)))
 
   -- the n places replaced once more
-  pub put-again : (zs : List ℤ) → put p n zs (put p n ys l) ≡ put p n zs l
+  pub put_again : (zs : List ℤ) → put p n zs (put p n ys l) ≡ put p n zs l
   unfolding put
-  put-again zs =
+  put_again zs =
       ap₂ (λ (x y : List ℤ). x ++ (zs ++ y)) take_put (sym (drop-drop n p (put p n ys l)) ∙ ap (drop n) drop-put-at ∙ drop_at ys (drop (p + n) l) n long)
 
   -- the places behind the n replaced too
@@ -168,29 +168,29 @@ pub record Parts (F : ℕ → List ℤ) (l : List ℤ) (to count len : ℕ) (now
   pub n-le : n ≤ count
   pub place_is : p ≡ to + n * len
   pub long : length now ≡ length l
-  pub now-is : now ≡ put to (n * len) (chunks F n) l
+  pub now_is : now ≡ put to (n * len) (chunks F n) l
 
 pub parts_first : (F : ℕ → List ℤ) (l : List ℤ) (to count len : ℕ) → Parts F l to count len l 0 to
-parts_first F l to count len = record { n-le = omega arith; place_is = omega (arith, zero-mul len); long = refl; now-is = parts_none F len l to }
+parts_first F l to count len = record { n-le = omega arith; place_is = omega (arith, zero-mul len); long = refl; now_is = parts_none F len l to }
 
-pub parts-room : (F : ℕ → List ℤ) (l : List ℤ) (to count len : ℕ) (now : List ℤ) (n p : ℕ) → Parts F l to count len now n p → to + count * len ≤ length l → n < count → p + len ≤ to + count * len
-parts-room F l to count len now n p q fits h = omega (arith, q.place_is, chunk-room n count len (count * len) h (omega arith))
+pub parts_room : (F : ℕ → List ℤ) (l : List ℤ) (to count len : ℕ) (now : List ℤ) (n p : ℕ) → Parts F l to count len now n p → to + count * len ≤ length l → n < count → p + len ≤ to + count * len
+parts_room F l to count len now n p q fits h = omega (arith, q.place_is, chunk_room n count len (count * len) h (omega arith))
 
 pub parts_next : (F : ℕ → List ℤ) (l : List ℤ) (to count len : ℕ) (now : List ℤ) (n p : ℕ) → ((k : ℕ) → length (F k) ≡ len) → Parts F l to count len now n p → to + count * len ≤ length l → n < count
     → (ys new : List ℤ) → ys ≡ F n → new ≡ put p len ys now → Parts F l to count len new (n + 1) (p + len)
 parts_next F l to count len now n p long q fits h ys new ey en =
-    let r = parts-room F l to count len now n p q fits h in
+    let r = parts_room F l to count len now n p q fits h in
     record {
       n-le = omega arith;
       place_is = omega (arith, q.place_is, next_place n len (n * len) refl);
       long = ap length en ∙ length-put p len ys now (omega (arith, q.long)) (ap length ey ∙ long n) ∙ q.long;
-      now-is = en ∙ part-turn F len long l now ys to n p (omega (arith, q.place_is)) q.place_is q.now-is ey;
+      now_is = en ∙ part-turn F len long l now ys to n p (omega (arith, q.place_is)) q.place_is q.now_is ey;
     }
 
 pub parts_all : (F : ℕ → List ℤ) (l : List ℤ) (to count len : ℕ) (now : List ℤ) (n p : ℕ) → Parts F l to count len now n p → count ≤ n → now ≡ put to (count * len) (chunks F count) l
 parts_all F l to count len now n p q h =
     let e : n ≡ count = omega (arith, q.n-le) in
-    q.now-is ∙ ap (λ (x : ℕ). put to (x * len) (chunks F x) l) e
+    q.now_is ∙ ap (λ (x : ℕ). put to (x * len) (chunks F x) l) e
 
 -- the next part was lent, and comes back as ys
 pub lent-next : (F : ℕ → List ℤ) (l : List ℤ) (to count len : ℕ) (now : List ℤ) (n p : ℕ) → ((k : ℕ) → length (F k) ≡ len) → Parts F l to count len now n p → to + count * len ≤ length l → n < count
@@ -201,8 +201,8 @@ lent-next F l to count len now n p long q fits h ys e = parts_next F l to count 
 pub parts_same : (F : ℕ → List ℤ) (l : List ℤ) (to count len : ℕ) (now : List ℤ) (n p : ℕ) → ((k : ℕ) → length (F k) ≡ len) → Parts F l to count len now n p → to + count * len ≤ length l → n < count
     → (i : ℕ) → (to ≤ i → p ≤ i) → at now i ≡ at l i
 parts_same F l to count len now n p long q fits h i out =
-    let r = parts-room F l to count len now n p q fits h in
-    ap (λ (z : List ℤ). at z i) q.now-is ∙ put-out to (n * len) (chunks F n) l (omega (arith, q.place_is)) (length-chunks F len long n) i (λ o. omega (arith, out o, q.place_is))
+    let r = parts_room F l to count len now n p q fits h in
+    ap (λ (z : List ℤ). at z i) q.now_is ∙ put-out to (n * len) (chunks F n) l (omega (arith, q.place_is)) (length-chunks F len long n) i (λ o. omega (arith, out o, q.place_is))
 
 -- ---- a part that was lent
 -- a value set in a part of m places that was lent from p on

@@ -9,13 +9,13 @@ use Rattle.unit.specs.declared.Settings.{Settings}
 use Rattle.unit.specs.declared.PictureKind.TheVariants.{HighQuality}
 use Rattle.unit.specs.declared.RateControl.{RateControl}
 use Rattle.unit.specs.declared.RateControl.TheVariants.{Lossless, FixedQuantIndex, PictureBytes}
-use Rattle.unit.specs.Limits.{lastIndex, lowestIndex}
+use Rattle.unit.specs.Limits.{last_index, lowest_index}
 use Rattle.unit.specs.Three.{Three}
 use Rattle.unit.specs.Plan.{SlicePlan}
-use Rattle.unit.specs.Trim.{trimmedCost}
+use Rattle.unit.specs.Trim.{trimmed_cost}
 use Rattle.unit.specs.Code.Valid.{RateFits}
-use Rattle.unit.specs.HighQuality.{need_of, componentBits, share_of, index_by, highPlanOf}
-use Rattle.unit.specs.Unit.{highBytes}
+use Rattle.unit.specs.HighQuality.{need_of, component_bits, share_of, index_by, high_plan_of}
+use Rattle.unit.specs.Unit.{high_bytes}
 use Rattle.picture.specs.declared.slices.layout.Picture.{Picture}
 use Rattle.picture.specs.declared.high.size.Needs.{Needs}
 use Rattle.picture.specs.declared.high.packed.Packed.{Packed}
@@ -24,73 +24,73 @@ use Rattle.picture.specs.declared.high.size.Terms.{Terms}
 use Rattle.picture.specs.Code.Strip.{Small}
 use Rattle.picture.specs.Code.Counts.{count_of}
 use Rattle.picture.specs.Code.Packed.{packed}
-use Rattle.picture.specs.Code.Picture.{slicesIn, numbersIn, Arranged}
+use Rattle.picture.specs.Code.Picture.{slices_in, numbers_in, Arranged}
 
 -- the index of slice k
-unfoldable pub indexIn : List ℤ → Picture → Terms → ℕ → ℕ
-indexIn w p t k = index_by t.lo t.rate t.prefix t.scaler (share_of t.bytes (slicesIn p) k) (numbersIn w p k)
+unfoldable pub index_in : List ℤ → Picture → Terms → ℕ → ℕ
+index_in w p t k = index_by t.lo t.rate t.prefix t.scaler (share_of t.bytes (slices_in p) k) (numbers_in w p k)
 
-unfoldable pub planIn : List ℤ → Picture → Terms → ℕ → SlicePlan
-planIn w p t k = let q = indexIn w p t k in highPlanOf t.prefix t.scaler q (numbersIn w p k q)
+unfoldable pub plan_in : List ℤ → Picture → Terms → ℕ → SlicePlan
+plan_in w p t k = let q = index_in w p t k in high_plan_of t.prefix t.scaler q (numbers_in w p k q)
 
 -- the plans of the first n slices, and their bytes
-abbrev pub plansIn : List ℤ → Picture → Terms → ℕ → List SlicePlan
-plansIn w p t n = span (planIn w p t) 0 n
+abbrev pub plans_in : List ℤ → Picture → Terms → ℕ → List SlicePlan
+plans_in w p t n = span (plan_in w p t) 0 n
 
-abbrev pub highRuns : List ℤ → Picture → Terms → ℕ → List ℕ
-highRuns w p t n = chunks (λ k. to_bytes (planIn w p t k).bits) n
+abbrev pub high_runs : List ℤ → Picture → Terms → ℕ → List ℕ
+high_runs w p t n = chunks (λ k. to_bytes (plan_in w p t k).bits) n
 
 -- the terms of a call with scaler c
-abbrev pub termsOf : Settings → List ℕ → ℕ → Terms
-termsOf s m c = record { rate = s.rate; prefix = s.slice_prefix_bytes; scaler = c; bytes = highBytes s m c; lo = lowestIndex }
+abbrev pub terms_of : Settings → List ℕ → ℕ → Terms
+terms_of s m c = record { rate = s.rate; prefix = s.slice_prefix_bytes; scaler = c; bytes = high_bytes s m c; lo = lowest_index }
 
-abbrev pub slicesBy : List ℤ → Picture → Settings → List ℕ → ℕ → List SlicePlan
-slicesBy w p s m c = plansIn w p (termsOf s m c) (slicesIn p)
+abbrev pub slices_by : List ℤ → Picture → Settings → List ℕ → ℕ → List SlicePlan
+slices_by w p s m c = plans_in w p (terms_of s m c) (slices_in p)
 
 -- the three components' bits
-abbrev pub threeBits : ℕ → Three (List ℤ) → Bits
-threeBits c z = componentBits c z.y ++ (componentBits c z.c1 ++ componentBits c z.c2)
+abbrev pub three_bits : ℕ → Three (List ℤ) → Bits
+three_bits c z = component_bits c z.y ++ (component_bits c z.c1 ++ component_bits c z.c2)
 
 -- a run's words and bits
-abbrev pub packedOf : List ℤ → Packed
-packedOf xs = record { words = length (packed 0 xs); bits = trimmedCost xs }
+abbrev pub packed_of : List ℤ → Packed
+packed_of xs = record { words = length (packed 0 xs); bits = trimmed_cost xs }
 
 -- the choice of index q for a slice whose numbers at an index are z
-abbrev pub choiceBy : (ℕ → Three (List ℤ)) → ℕ → Choice
-choiceBy z q = record { index = q; y = packedOf (z q).y; c1 = packedOf (z q).c1; c2 = packedOf (z q).c2 }
+abbrev pub choice_by : (ℕ → Three (List ℤ)) → ℕ → Choice
+choice_by z q = record { index = q; y = packed_of (z q).y; c1 = packed_of (z q).c1; c2 = packed_of (z q).c2 }
 
 -- the choice of slice k
-abbrev pub choiceIn : List ℤ → Picture → Terms → ℕ → Choice
-choiceIn w p t k = choiceBy (numbersIn w p k) (indexIn w p t k)
+abbrev pub choice_in : List ℤ → Picture → Terms → ℕ → Choice
+choice_in w p t k = choice_by (numbers_in w p k) (index_in w p t k)
 
 -- the words of a slice's numbers
-abbrev pub sliceWords : Three (List ℤ) → List ℤ
-sliceWords z = packed 0 z.y ++ (packed 0 z.c1 ++ packed 0 z.c2)
+abbrev pub slice_words : Three (List ℤ) → List ℤ
+slice_words z = packed 0 z.y ++ (packed 0 z.c1 ++ packed 0 z.c2)
 
 -- the words of slice k, and of the first n slices
 abbrev pub words_in : List ℤ → Picture → Terms → ℕ → List ℤ
-words_in w p t k = sliceWords (numbersIn w p k (indexIn w p t k))
+words_in w p t k = slice_words (numbers_in w p k (index_in w p t k))
 
 abbrev pub words_to : List ℤ → Picture → Terms → ℕ → List ℤ
 words_to w p t n = chunks (words_in w p t) n
 
 -- how many numbers slice k has
-abbrev pub sliceNumberCount : Picture → ℕ → ℕ
-sliceNumberCount p k = count_of p.layout p.y k + (count_of p.layout p.c1 k + count_of p.layout p.c2 k)
+abbrev pub slice_number_count : Picture → ℕ → ℕ
+slice_number_count p k = count_of p.layout p.y k + (count_of p.layout p.c1 k + count_of p.layout p.c2 k)
 
 -- the bytes that the components need, by their bits
-abbrev pub needsBy : ℕ → ℕ → ℕ → Needs
-needsBy y c1 c2 = record { y = ceiling y 8; c1 = ceiling c1 8; c2 = ceiling c2 8 }
+abbrev pub needs_by : ℕ → ℕ → ℕ → Needs
+needs_by y c1 c2 = record { y = ceiling y 8; c1 = ceiling c1 8; c2 = ceiling c2 8 }
 
 -- how many words a choice has
 abbrev pub words_of : Choice → ℕ
 words_of c = c.y.words + (c.c1.words + c.c2.words)
 
 -- whether a rate is a byte target
-unfoldable pub isTarget : RateControl → Bool
-isTarget Lossless = false
-isTarget (FixedQuantIndex q) = false
-isTarget (PictureBytes b) = true
+unfoldable pub is_target : RateControl → Bool
+is_target Lossless = false
+is_target (FixedQuantIndex q) = false
+is_target (PictureBytes b) = true
 
 -- ---- conditions and outcomes
 -- terms by which slices can be planned
@@ -99,7 +99,7 @@ pub record TermsIn (t : Terms) : Type 0 where
   pub prefix : t.prefix ≤ 255
   pub scaler : (1 ≤ t.scaler) × (t.scaler ≤ 2 ^ 24)
   pub bytes : t.bytes ≤ 2 ^ 30
-  pub lo : t.lo ≤ lastIndex HighQuality
+  pub lo : t.lo ≤ last_index HighQuality
 
 -- slices can be planned
 pub record PlanIn (p : Picture) (t : Terms) (w : List ℤ) : Type 0 where

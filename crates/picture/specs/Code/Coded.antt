@@ -8,37 +8,37 @@ use Rattle.unit.specs.declared.Answer.TheVariants.{Accepted, Refused}
 use Rattle.unit.specs.Three.{Three}
 use Rattle.unit.specs.Plan.{Plan}
 use Rattle.unit.specs.Unit.{plan_of, length_of, unit_of}
-use Rattle.unit.specs.Outcome.{codedOf, codingRefusal}
+use Rattle.unit.specs.Outcome.{coded_of, coding_refusal}
 use Rattle.picture.specs.declared.slices.layout.Picture.{Picture}
 use Rattle.picture.specs.Code.Strip.{Small}
-use Rattle.picture.specs.Code.Analysed.{pictureOf, frontOf, Called, Analysed}
+use Rattle.picture.specs.Code.Analysed.{picture_of, front_of, Called, Analysed}
 
 -- the answer and the output of a plan, by the number of the first rule that coding finds broken
-abbrev pub answerBy : Settings → Plan → ℕ → Answer
-answerBy s a zero = Accepted (codedOf s a)
-answerBy s a (suc n) = Refused (suc n)
+abbrev pub answer_by : Settings → Plan → ℕ → Answer
+answer_by s a zero = Accepted (coded_of s a)
+answer_by s a (suc n) = Refused (suc n)
 
-abbrev pub outputBy : Settings → Plan → List ℕ → ℕ → List ℕ
-outputBy s a out zero = unit_of s a ++ drop (length_of s a) out
-outputBy s a out (suc n) = out
+abbrev pub output_by : Settings → Plan → List ℕ → ℕ → List ℕ
+output_by s a out zero = unit_of s a ++ drop (length_of s a) out
+output_by s a out (suc n) = out
 
 -- answer and output after coding, by the plan a
 pub record Codes (s : Settings) (a : Plan) (out out' : List ℕ) (r : Answer) : Type 0 where
-  pub answer : r ≡ answerBy s a (codingRefusal (length out) (length_of s a))
-  pub output : out' ≡ outputBy s a out (codingRefusal (length out) (length_of s a))
+  pub answer : r ≡ answer_by s a (coding_refusal (length out) (length_of s a))
+  pub output : out' ≡ output_by s a out (coding_refusal (length out) (length_of s a))
 
 -- what coding asks: the call's picture, and a work slice with its numbers
 pub record Coding (s : Settings) (m : List ℕ) (kind : PictureKind) (p : Picture) (w : List ℤ) : Type 0 where
   pub called : Called s m
   pub same : s.kind ≡ kind
-  pub picture : p ≡ pictureOf s m
-  pub small : Small (frontOf s) (frontOf s + frontOf s) w
+  pub picture : p ≡ picture_of s m
+  pub small : Small (front_of s) (front_of s + front_of s) w
 
 -- answer and output, whatever planes the work slice has been analysed from
 pub record CodesAny (s : Settings) (m : List ℕ) (w : List ℤ) (out out' : List ℕ) (r : Answer) : Type 0 where
   pub codes : (p : Three (List ℕ)) → Analysed s p w → Codes s (plan_of s m p) out out' r
 
 -- the output after a call that codes: zeros where it is refused
-abbrev pub clearedBy : Answer → List ℕ → List ℕ
-clearedBy (Accepted c) out = out
-clearedBy (Refused n) out = replicate (length out) 0
+abbrev pub cleared_by : Answer → List ℕ → List ℕ
+cleared_by (Accepted c) out = out
+cleared_by (Refused n) out = replicate (length out) 0

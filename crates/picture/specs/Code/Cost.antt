@@ -33,8 +33,8 @@ pub record KeptTo (c : Cost) (none : Bool) (n : ℕ) (r : Cost) : Type 0 where
   pub is : r ≡ kept c none n
 
 -- a cost with one number more, whose code word has n bits: one bit is the number 0
-abbrev pub addLen : Cost → ℕ → Cost
-addLen c n = fitted (kept c (eqb n 1) (c.bits + n))
+abbrev pub add_len : Cost → ℕ → Cost
+add_len c n = fitted (kept c (eqb n 1) (c.bits + n))
 
 abbrev pub add1 : Cost → ℤ → Cost
 add1 c z = fitted (kept c (is_zero z) (c.bits + length (code_s z)))
@@ -45,12 +45,12 @@ module _ {A : Type 0} (step : A → ℤ → A) where
   added c [] = c
   added c (z ∷ zs) = added (step c z) zs
 
-abbrev pub addAll : Cost → List ℤ → Cost
-addAll = added add1
+abbrev pub add_all : Cost → List ℤ → Cost
+add_all = added add1
 
 -- the cost of no number
-abbrev pub noCost : ℕ → Cost
-noCost room = record { room = room; bits = 0; count = 0; kept_bits = 0; keep = 0; fit_bits = 0; fit = 0 }
+abbrev pub no_cost : ℕ → Cost
+no_cost room = record { room = room; bits = 0; count = 0; kept_bits = 0; keep = 0; fit_bits = 0; fit = 0 }
 
 -- n more numbers can be added to so many of so many bits
 pub record Counted (bits-so-far so_far n : ℕ) : Type 0 where

@@ -1,56 +1,56 @@
 -- Where the subbands of a component stand in the work slice, what a slice has of each, and its numbers of all of them.
 use Rattle.std.specs.Prelude.{◌≡◌, Bool, cond, ◌&&◌, List, [], ◌++◌, ℕ, zero, suc, ◌+◌, ◌*◌, ◌-◌, ◌/◌, ◌^◌, ◌≤◌, ◌<◌, eqb, leb, ℤ, length, get_or}
-use Rattle.quantiser.specs.Quant.{quantFactor, quantOffset, bandIndex}
+use Rattle.quantiser.specs.Quant.{quant_factor, quant_offset, band_index}
 use Rattle.wavelet.specs.Depth.{deepest}
-use Rattle.unit.specs.Limits.{sideLimit}
+use Rattle.unit.specs.Limits.{side_limit}
 use Rattle.unit.specs.Sizes.{Size, area}
-use Rattle.unit.specs.Subbands.{levelSize, subbandCount}
-use Rattle.unit.specs.Slices.{Grid, sliceCount, top, bottom, left, right}
+use Rattle.unit.specs.Subbands.{level_size, subband_count}
+use Rattle.unit.specs.Slices.{Grid, slice_count, top, bottom, left, right}
 use Rattle.picture.specs.declared.slices.strip.Strip.{Strip}
 use Rattle.picture.specs.declared.slices.layout.Component.{Component}
 use Rattle.picture.specs.declared.slices.layout.Layout.{Layout}
 use Rattle.picture.specs.declared.slices.layout.Window.{Window}
-use Rattle.picture.specs.Code.Strip.{Small, Bounds, stripNumbers}
-use Rattle.wavelet.specs.RowCall.{rowLimit}
-use Rattle.quantiser.specs.Code.Default.{matrixPlaces}
+use Rattle.picture.specs.Code.Strip.{Small, Bounds, strip_numbers}
+use Rattle.wavelet.specs.RowCall.{row_limit}
+use Rattle.quantiser.specs.Code.Default.{matrix_places}
 
 -- the level of the n-th subband: 0, the horizontal-only levels, then three to a level
-unfoldable pub levelOf : ℕ → ℕ → ℕ
-levelOf k n = cond (leb n k) n (k + 1 + (n - 1 - k) / 3)
+unfoldable pub level_of : ℕ → ℕ → ℕ
+level_of k n = cond (leb n k) n (k + 1 + (n - 1 - k) / 3)
 
-abbrev pub bandCount : Layout → ℕ
-bandCount l = subbandCount l.depth_ho l.depth
+abbrev pub band_count : Layout → ℕ
+band_count l = subband_count l.depth_ho l.depth
 
-abbrev pub gridIn : Layout → Grid
-gridIn l = record { down = l.down; across = l.across }
+abbrev pub grid_in : Layout → Grid
+grid_in l = record { down = l.down; across = l.across }
 
 -- the sides of the n-th subband of a component, whose sides are padded
-unfoldable pub bandSize : Layout → Component → ℕ → Size
-bandSize l c n = levelSize l.depth_ho l.depth (record { width = c.width; height = c.height }) (levelOf l.depth_ho n)
+unfoldable pub band_size : Layout → Component → ℕ → Size
+band_size l c n = level_size l.depth_ho l.depth (record { width = c.width; height = c.height }) (level_of l.depth_ho n)
 
 -- how far behind the component's the coefficients of the n-th subband begin
 unfoldable pub start_of : Layout → Component → ℕ → ℕ
 start_of l c zero = 0
-start_of l c (suc n) = start_of l c n + area (bandSize l c n)
+start_of l c (suc n) = start_of l c n + area (band_size l c n)
 
 -- what slice k has of the n-th subband: its rows and columns
-unfoldable pub windowOf : Layout → Component → ℕ → ℕ → Window
-windowOf l c n k =
-    let z = bandSize l c n in
+unfoldable pub window_of : Layout → Component → ℕ → ℕ → Window
+window_of l c n k =
+    let z = band_size l c n in
     record {
       width = z.width;
       height = z.height;
-      top = top (gridIn l) z k;
-      bottom = bottom (gridIn l) z k;
-      left = left (gridIn l) z k;
-      right = right (gridIn l) z k;
+      top = top (grid_in l) z k;
+      bottom = bottom (grid_in l) z k;
+      left = left (grid_in l) z k;
+      right = right (grid_in l) z k;
     }
 
 -- what slice k has of the n-th subband at index q
-unfoldable pub stripOf : Layout → Component → Component → Bool → ℕ → ℕ → ℕ → ℕ → Strip
-stripOf l c second pair n start k q =
-    let z = bandSize l c n in
-    let i = bandIndex q (get_or l.values n 0) in
+unfoldable pub strip_of : Layout → Component → Component → Bool → ℕ → ℕ → ℕ → ℕ → Strip
+strip_of l c second pair n start k q =
+    let z = band_size l c n in
+    let i = band_index q (get_or l.values n 0) in
     record {
       coefs = c.coefs + start;
       rebuilt = c.rebuilt;
@@ -58,42 +58,42 @@ stripOf l c second pair n start k q =
       rebuilt2 = second.rebuilt;
       width = z.width;
       height = z.height;
-      top = top (gridIn l) z k;
-      bottom = bottom (gridIn l) z k;
-      left = left (gridIn l) z k;
-      right = right (gridIn l) z k;
+      top = top (grid_in l) z k;
+      bottom = bottom (grid_in l) z k;
+      left = left (grid_in l) z k;
+      right = right (grid_in l) z k;
       index = i;
-      factor = quantFactor i;
-      offset = quantOffset i;
+      factor = quant_factor i;
+      offset = quant_offset i;
       predicted = l.predicted && eqb n 0;
       pair = pair;
     }
 
 -- slice k's numbers of the first n subbands
-unfoldable pub runNumbers : List ℤ → Layout → Component → Component → Bool → ℕ → ℕ → ℕ → List ℤ
-runNumbers w l c second pair k q zero = []
-runNumbers w l c second pair k q (suc n) =
-    runNumbers w l c second pair k q n ++ stripNumbers w (stripOf l c second pair n (start_of l c n) k q)
+unfoldable pub run_numbers : List ℤ → Layout → Component → Component → Bool → ℕ → ℕ → ℕ → List ℤ
+run_numbers w l c second pair k q zero = []
+run_numbers w l c second pair k q (suc n) =
+    run_numbers w l c second pair k q n ++ strip_numbers w (strip_of l c second pair n (start_of l c n) k q)
 
 -- a slice's numbers of n subbands behind the first
-unfoldable pub restNumbers : List ℤ → Layout → Component → Component → Bool → ℕ → ℕ → ℕ → List ℤ
-restNumbers w l c second pair k q zero = []
-restNumbers w l c second pair k q (suc n) =
-    restNumbers w l c second pair k q n ++ stripNumbers w (stripOf l c second pair (suc n) (start_of l c (suc n)) k q)
+unfoldable pub rest_numbers : List ℤ → Layout → Component → Component → Bool → ℕ → ℕ → ℕ → List ℤ
+rest_numbers w l c second pair k q zero = []
+rest_numbers w l c second pair k q (suc n) =
+    rest_numbers w l c second pair k q n ++ strip_numbers w (strip_of l c second pair (suc n) (start_of l c (suc n)) k q)
 
 -- ---- conditions
 -- a layout that can be read: few levels, slices and values
 pub record LayoutIn (l : Layout) : Type 0 where
   pub depths : l.depth + l.depth_ho ≤ deepest
-  pub across : (1 ≤ l.across) × (l.across ≤ sideLimit)
-  pub down : (1 ≤ l.down) × (l.down ≤ sideLimit)
+  pub across : (1 ≤ l.across) × (l.across ≤ side_limit)
+  pub down : (1 ≤ l.down) × (l.down ≤ side_limit)
   -- as many as the largest matrix has, 1 + 3 * deepest
-  pub values : length l.values ≡ matrixPlaces
+  pub values : length l.values ≡ matrix_places
 
 -- a component whose sides and places are small
 pub record ComponentIn (c : Component) : Type 0 where
-  pub width : c.width ≤ rowLimit
-  pub height : c.height ≤ rowLimit
+  pub width : c.width ≤ row_limit
+  pub height : c.height ≤ row_limit
   pub coefs : c.coefs < 2 ^ 30
   pub rebuilt : c.rebuilt < 2 ^ 30
 
@@ -101,17 +101,17 @@ pub record ComponentIn (c : Component) : Type 0 where
 pub record WindowIn (l : Layout) (c : Component) (n k : ℕ) : Type 0 where
   pub layout : LayoutIn l
   pub first : ComponentIn c
-  pub band : n < bandCount l
-  pub slice : k < sliceCount (gridIn l)
+  pub band : n < band_count l
+  pub slice : k < slice_count (grid_in l)
 
 -- what is asked of a strip of slice k at index q
 pub record StripIn (l : Layout) (c second : Component) (n from k q : ℕ) : Type 0 where
   pub layout : LayoutIn l
   pub first : ComponentIn c
   pub other : ComponentIn second
-  pub band : n < bandCount l
+  pub band : n < band_count l
   pub start : from ≤ 2 ^ 32
-  pub slice : k < sliceCount (gridIn l)
+  pub slice : k < slice_count (grid_in l)
   pub index : q ≤ 255
 
 -- components whose numbers of slice k at index q can be read from the work slice w: rebuilt planes in its first a
@@ -120,7 +120,7 @@ pub record RunIn (l : Layout) (c second : Component) (a e k q : ℕ) (w : List �
   pub layout : LayoutIn l
   pub first : ComponentIn c
   pub other : ComponentIn second
-  pub slice : k < sliceCount (gridIn l)
+  pub slice : k < slice_count (grid_in l)
   pub index : q ≤ 255
   pub small : Small a e w
   pub coefs : (a ≤ c.coefs) × (c.coefs + c.width * c.height ≤ e)

@@ -1,33 +1,33 @@
 -- The matrix of a call as the code keeps it, and what makes it.
 use Rattle.std.specs.Prelude.{◌≡◌, true, false, List, ℕ, ◌≤◌, length, take}
 use Rattle.std.proofs.Math.Option.{Option, none, some}
-use Rattle.quantiser.specs.Code.Default.{matrixPlaces, places}
+use Rattle.quantiser.specs.Code.Default.{matrix_places, places}
 use Rattle.unit.specs.declared.Settings.{Settings}
-use Rattle.unit.specs.Matrix.{defaultOf, matrixValues, carriedMatrix}
+use Rattle.unit.specs.Matrix.{default_of, matrix_values, carried_matrix}
 use Rattle.unit.specs.Code.Valid.{MatrixFits}
 use Rattle.picture.specs.declared.front.matrix.Carried.{Carried}
 
 -- the values that a unit carries
-abbrev pub lentIn : Carried → List ℕ
-lentIn c = take c.count c.values
+abbrev pub lent_in : Carried → List ℕ
+lent_in c = take c.count c.values
 
 -- the matrix that a unit carries, if any
-unfoldable pub carriedIn : Carried → Option (List ℕ)
-carriedIn c = elim c.carried [ true ↦ some (lentIn c) | false ↦ none ]
+unfoldable pub carried_in : Carried → Option (List ℕ)
+carried_in c = elim c.carried [ true ↦ some (lent_in c) | false ↦ none ]
 
 -- no more values are carried than there are places
 abbrev pub InPlaces : Carried → Type 0
-InPlaces c = (c.count ≤ matrixPlaces) × (matrixPlaces ≤ length c.values)
+InPlaces c = (c.count ≤ matrix_places) × (matrix_places ≤ length c.values)
 
 -- c is the matrix of a call with settings s
 pub record Carries (s : Settings) (c : Carried) : Type 0 where
   pub carried : c.carried ≡ s.custom_matrix
-  pub few : c.count ≤ matrixPlaces
-  pub values : c.values ≡ places (matrixValues s (lentIn c))
+  pub few : c.count ≤ matrix_places
+  pub values : c.values ≡ places (matrix_values s (lent_in c))
 
 -- c is the matrix of a call with settings s and lent matrix m
 pub record CarriedOf (s : Settings) (m : List ℕ) (c : Carried) : Type 0 where
   pub carries : Carries s c
-  pub matrix : carriedMatrix s (lentIn c) ≡ carriedMatrix s m
-  pub values : matrixValues s (lentIn c) ≡ matrixValues s m
-  pub fits : MatrixFits s (lentIn c) s.custom_matrix (defaultOf s)
+  pub matrix : carried_matrix s (lent_in c) ≡ carried_matrix s m
+  pub values : matrix_values s (lent_in c) ≡ matrix_values s m
+  pub fits : MatrixFits s (lent_in c) s.custom_matrix (default_of s)

@@ -17,19 +17,19 @@ abbrev pub mark : ℕ
 mark = 2 ^ 52
 
 -- the word of n zeros, none where n is 0
-unfoldable pub zerosWord : ℕ → List ℤ
-zerosWord zero = []
-zerosWord (suc n) = pos (mark + suc n) ∷ []
+unfoldable pub zeros_word : ℕ → List ℤ
+zeros_word zero = []
+zeros_word (suc n) = pos (mark + suc n) ∷ []
 
 -- the words of xs behind n zeros
 unfoldable pub packed : ℕ → List ℤ → List ℤ
 packed n [] = []
-packed n (x ∷ xs) = elim (is_zero x) [ true ↦ packed (suc n) xs | false ↦ zerosWord n ++ (x ∷ packed 0 xs) ]
+packed n (x ∷ xs) = elim (is_zero x) [ true ↦ packed (suc n) xs | false ↦ zeros_word n ++ (x ∷ packed 0 xs) ]
 
 -- the bits of the numbers that are packed
-unfoldable pub packedBits : ℕ → List ℤ → ℕ
-packedBits n [] = 0
-packedBits n (x ∷ xs) = elim (is_zero x) [ true ↦ packedBits (suc n) xs | false ↦ n + length (code_s x) + packedBits 0 xs ]
+unfoldable pub packed_bits : ℕ → List ℤ → ℕ
+packed_bits n [] = 0
+packed_bits n (x ∷ xs) = elim (is_zero x) [ true ↦ packed_bits (suc n) xs | false ↦ n + length (code_s x) + packed_bits 0 xs ]
 
 -- how many zeros numbers end with, after n zeros
 unfoldable pub waiting : ℕ → List ℤ → ℕ
@@ -37,17 +37,17 @@ waiting n [] = n
 waiting n (x ∷ xs) = elim (is_zero x) [ true ↦ waiting (suc n) xs | false ↦ waiting 0 xs ]
 
 -- the numbers of a word, and of words one after the other
-unfoldable pub wordNumbers : ℤ → List ℤ
-wordNumbers (pos n) = cond (leb mark n) (replicate (n - mark) (pos 0)) (pos n ∷ [])
-wordNumbers (negsuc n) = negsuc n ∷ []
+unfoldable pub word_numbers : ℤ → List ℤ
+word_numbers (pos n) = cond (leb mark n) (replicate (n - mark) (pos 0)) (pos n ∷ [])
+word_numbers (negsuc n) = negsuc n ∷ []
 
 unfoldable pub unpacked : List ℤ → List ℤ
 unpacked [] = []
-unpacked (z ∷ zs) = wordNumbers z ++ unpacked zs
+unpacked (z ∷ zs) = word_numbers z ++ unpacked zs
 
 -- n words of w from place i on
-abbrev pub wordsAt : List ℤ → ℕ → ℕ → List ℤ
-wordsAt w i n = piece i n w
+abbrev pub words_at : List ℤ → ℕ → ℕ → List ℤ
+words_at w i n = piece i n w
 
 -- ---- conditions and outcomes
 -- a strip of one component that is not predicted
@@ -79,4 +79,4 @@ pub record Packs (w : List ℤ) (t : Packing) (xs : List ℤ) (v : List ℤ) (r 
   pub work : v ≡ laid w t.at (packed t.zeros xs)
   pub at : r.at ≡ t.at + length (packed t.zeros xs)
   pub zeros : r.zeros ≡ waiting t.zeros xs
-  pub bits : r.bits ≡ t.bits + packedBits t.zeros xs
+  pub bits : r.bits ≡ t.bits + packed_bits t.zeros xs

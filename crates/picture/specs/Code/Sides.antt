@@ -5,8 +5,8 @@ use Rattle.unit.specs.Code.Valid.{Shaped, Framed}
 use Rattle.unit.specs.declared.Settings.{Settings}
 use Rattle.picture.specs.declared.front.sizes.Sides.{Sides}
 
-abbrev pub sizeIn : Sides → Size
-sizeIn z = record { width = z.width; height = z.height }
+abbrev pub size_in : Sides → Size
+size_in z = record { width = z.width; height = z.height }
 
 -- ---- areas
 -- the depths and the frame are small enough for padded areas to be worked out

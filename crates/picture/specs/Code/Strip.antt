@@ -3,66 +3,66 @@
 use Rattle.std.specs.Prelude.{◌≡◌, false, cond, List, [], ◌∷◌, ◌++◌, ℕ, zero, suc, ◌+◌, ◌*◌, ◌-◌, ◌^◌, ◌≤◌, ◌<◌, ℤ, pos, nat_abs, ◌+ℤ◌, ◌-ℤ◌, length, set}
 use Rattle.laws.specs.Rows.{at}
 use Rattle.laws.specs.Plane.{Plane}
-use Rattle.quantiser.specs.Quant.{quantFactor, quantOffset, forwardBy, inverseBy}
+use Rattle.quantiser.specs.Quant.{quant_factor, quant_offset, forward_by, inverse_by}
 use Rattle.unit.specs.Predict.{predict}
 use Rattle.picture.specs.declared.slices.strip.Strip.{Strip}
 
 -- the numbers of l from base on as a plane w wide
-abbrev pub planeFrom : List ℤ → ℕ → ℕ → Plane
-planeFrom l base w y x = at l (base + (y * w + x))
+abbrev pub plane_from : List ℤ → ℕ → ℕ → Plane
+plane_from l base w y x = at l (base + (y * w + x))
 
 -- a coefficient's prediction; 0 where the strip is not predicted
-abbrev pub predictionIn : List ℤ → Strip → ℕ → ℕ → ℕ → ℤ
-predictionIn l s base y x = cond s.predicted (predict (planeFrom l base s.width) y x) (pos 0)
+abbrev pub prediction_in : List ℤ → Strip → ℕ → ℕ → ℕ → ℤ
+prediction_in l s base y x = cond s.predicted (predict (plane_from l base s.width) y x) (pos 0)
 
 -- a coefficient less its prediction, with the coefficients from coefs on and the rebuilt plane from base on
-abbrev pub residualIn : List ℤ → Strip → ℕ → ℕ → ℕ → ℕ → ℤ
-residualIn l s coefs base y x = planeFrom l coefs s.width y x -ℤ predictionIn l s base y x
+abbrev pub residual_in : List ℤ → Strip → ℕ → ℕ → ℕ → ℕ → ℤ
+residual_in l s coefs base y x = plane_from l coefs s.width y x -ℤ prediction_in l s base y x
 
 -- the number of (y, x)
 abbrev pub number_in : List ℤ → Strip → ℕ → ℕ → ℕ → ℕ → ℤ
-number_in l s coefs base y x = forwardBy s.factor (residualIn l s coefs base y x)
+number_in l s coefs base y x = forward_by s.factor (residual_in l s coefs base y x)
 
 -- the second colour's number of a place, where there is one
-abbrev pub secondNumber : List ℤ → Strip → ℕ → ℕ → List ℤ
-secondNumber l s y x = cond s.pair (number_in l s s.coefs2 s.rebuilt2 y x ∷ []) []
+abbrev pub second_number : List ℤ → Strip → ℕ → ℕ → List ℤ
+second_number l s y x = cond s.pair (number_in l s s.coefs2 s.rebuilt2 y x ∷ []) []
 
 -- the numbers of a place: one, or those of the two colours
-unfoldable pub placeNumbers : List ℤ → Strip → ℕ → ℕ → List ℤ
-placeNumbers l s y x = number_in l s s.coefs s.rebuilt y x ∷ secondNumber l s y x
+unfoldable pub place_numbers : List ℤ → Strip → ℕ → ℕ → List ℤ
+place_numbers l s y x = number_in l s s.coefs s.rebuilt y x ∷ second_number l s y x
 
 -- n places of row y from column x on
-unfoldable pub rowNumbers : List ℤ → Strip → ℕ → ℕ → ℕ → List ℤ
-rowNumbers l s y x zero = []
-rowNumbers l s y x (suc n) = rowNumbers l s y x n ++ placeNumbers l s y (x + n)
+unfoldable pub row_numbers : List ℤ → Strip → ℕ → ℕ → ℕ → List ℤ
+row_numbers l s y x zero = []
+row_numbers l s y x (suc n) = row_numbers l s y x n ++ place_numbers l s y (x + n)
 
 -- n rows from row y on
-unfoldable pub rowsNumbers : List ℤ → Strip → ℕ → ℕ → List ℤ
-rowsNumbers l s y zero = []
-rowsNumbers l s y (suc n) = rowsNumbers l s y n ++ rowNumbers l s (y + n) s.left (s.right - s.left)
+unfoldable pub rows_numbers : List ℤ → Strip → ℕ → ℕ → List ℤ
+rows_numbers l s y zero = []
+rows_numbers l s y (suc n) = rows_numbers l s y n ++ row_numbers l s (y + n) s.left (s.right - s.left)
 
-abbrev pub stripNumbers : List ℤ → Strip → List ℤ
-stripNumbers l s = rowsNumbers l s s.top (s.bottom - s.top)
+abbrev pub strip_numbers : List ℤ → Strip → List ℤ
+strip_numbers l s = rows_numbers l s s.top (s.bottom - s.top)
 
 -- ---- rebuilt values
 -- the rebuilt value of (y, x) of the first component
-abbrev pub valueIn : List ℤ → Strip → ℕ → ℕ → ℤ
-valueIn l s y x =
-    predictionIn l s s.rebuilt y x +ℤ inverseBy s.factor s.offset (number_in l s s.coefs s.rebuilt y x)
+abbrev pub value_in : List ℤ → Strip → ℕ → ℕ → ℤ
+value_in l s y x =
+    prediction_in l s s.rebuilt y x +ℤ inverse_by s.factor s.offset (number_in l s s.coefs s.rebuilt y x)
 
 -- each value is stored before the next one is made
-unfoldable pub rebuiltRow : List ℤ → Strip → ℕ → ℕ → ℕ → List ℤ
-rebuiltRow l s y x zero = l
-rebuiltRow l s y x (suc n) =
-    let m = rebuiltRow l s y x n in
-    set m (s.rebuilt + (y * s.width + (x + n))) (valueIn m s y (x + n))
+unfoldable pub rebuilt_row : List ℤ → Strip → ℕ → ℕ → ℕ → List ℤ
+rebuilt_row l s y x zero = l
+rebuilt_row l s y x (suc n) =
+    let m = rebuilt_row l s y x n in
+    set m (s.rebuilt + (y * s.width + (x + n))) (value_in m s y (x + n))
 
-unfoldable pub rebuiltRows : List ℤ → Strip → ℕ → ℕ → List ℤ
-rebuiltRows l s y zero = l
-rebuiltRows l s y (suc n) = rebuiltRow (rebuiltRows l s y n) s (y + n) s.left (s.right - s.left)
+unfoldable pub rebuilt_rows : List ℤ → Strip → ℕ → ℕ → List ℤ
+rebuilt_rows l s y zero = l
+rebuilt_rows l s y (suc n) = rebuilt_row (rebuilt_rows l s y n) s (y + n) s.left (s.right - s.left)
 
-abbrev pub rebuiltStrip : List ℤ → Strip → List ℤ
-rebuiltStrip l s = rebuiltRows l s s.top (s.bottom - s.top)
+abbrev pub rebuilt_strip : List ℤ → Strip → List ℤ
+rebuilt_strip l s = rebuilt_rows l s s.top (s.bottom - s.top)
 
 -- ---- conditions
 -- the largest coefficient of a picture, and the largest rebuilt value
@@ -106,8 +106,8 @@ pub record Within (a n : ℕ) (s : Strip) : Type 0 where
   pub behind2 : a ≤ s.coefs2
   pub coefs : s.coefs + s.height * s.width ≤ n
   pub coefs2 : s.coefs2 + s.height * s.width ≤ n
-  pub factor : s.factor ≡ quantFactor s.index
-  pub offset : s.offset ≡ quantOffset s.index
+  pub factor : s.factor ≡ quant_factor s.index
+  pub offset : s.offset ≡ quant_offset s.index
   pub index : s.index ≤ 255
 
 -- a strip that is not predicted, in the work slice

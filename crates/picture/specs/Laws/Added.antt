@@ -7,8 +7,8 @@ use Prim.Native.Nat.{ℕ, suc, ◌+◌, ◌-◌, ◌≤◌}
 use native.Mathlib.Omega.{arith}
 use Rattle.laws.specs.Code.Chunks.{chunks}
 use Rattle.picture.specs.declared.slices.strip.Strip.{Strip}
-use Rattle.picture.specs.Code.Strip.{number_in, secondNumber, placeNumbers}
-use Rattle.picture.specs.Laws.Strip.{second-one, second_none, place_is}
+use Rattle.picture.specs.Code.Strip.{number_in, second_number, place_numbers}
+use Rattle.picture.specs.Laws.Strip.{second_one, second_none, place_is}
 use Rattle.picture.specs.Code.Cost.{added}
 
 module _ {A : Type 0} (step : A → ℤ → A) where
@@ -28,16 +28,16 @@ module _ {A : Type 0} (step : A → ℤ → A) where
 
   -- ---- the numbers of a place
   module _ (l : List ℤ) (s : Strip) (y x : ℕ) (c : A) where
-    pub second-yes : {r : A} (z : ℤ) → s.pair ≡ true → z ≡ number_in l s s.coefs2 s.rebuilt2 y x → r ≡ step c z → r ≡ added step c (secondNumber l s y x)
-    second-yes z t e h = h ∙ sym (added-one c z) ∙ ap (added step c) (sym (second-one l s y x z t e))
+    pub second_yes : {r : A} (z : ℤ) → s.pair ≡ true → z ≡ number_in l s s.coefs2 s.rebuilt2 y x → r ≡ step c z → r ≡ added step c (second_number l s y x)
+    second_yes z t e h = h ∙ sym (added-one c z) ∙ ap (added step c) (sym (second_one l s y x z t e))
 
-    pub second-no : s.pair ≡ false → c ≡ added step c (secondNumber l s y x)
-    second-no t = sym (added_none c) ∙ ap (added step c) (sym (second_none l s y x t))
+    pub second_no : s.pair ≡ false → c ≡ added step c (second_number l s y x)
+    second_no t = sym (added_none c) ∙ ap (added step c) (sym (second_none l s y x t))
 
-    pub place-added : (d r : A) (z : ℤ) → z ≡ number_in l s s.coefs s.rebuilt y x → d ≡ step c z → r ≡ added step d (secondNumber l s y x) → r ≡ added step c (placeNumbers l s y x)
+    pub place-added : (d r : A) (z : ℤ) → z ≡ number_in l s s.coefs s.rebuilt y x → d ≡ step c z → r ≡ added step d (second_number l s y x) → r ≡ added step c (place_numbers l s y x)
     place-added d r z e h f =
-        f ∙ ap (λ (d : A). added step d (secondNumber l s y x)) (h ∙ sym (added-one c z))
-        ∙ sym (added-append c (z ∷ []) (secondNumber l s y x)) ∙ ap (added step c) (sym (place_is l s y x z e))
+        f ∙ ap (λ (d : A). added step d (second_number l s y x)) (h ∙ sym (added-one c z))
+        ∙ sym (added-append c (z ∷ []) (second_number l s y x)) ∙ ap (added step c) (sym (place_is l s y x z e))
 
   -- ---- part after part
   pub added-turn : (F : ℕ → List ℤ) (c t u : A) (from x : ℕ) → from ≤ x → t ≡ added step c (chunks F (x - from)) → u ≡ added step t (F (x - from)) → u ≡ added step c (chunks F (x + 1 - from))
@@ -51,5 +51,5 @@ module _ {A : Type 0} (step : A → ℤ → A) where
   unfolding added chunks
   added-chunks-none F c x = let e : x - x ≡ 0 = omega arith in ap (λ (n : ℕ). added step c (chunks F n)) (sym e)
 
-  pub added-all : (F : ℕ → List ℤ) (c t : A) (xs : List ℤ) (from x to : ℕ) → x ≡ to → t ≡ added step c (chunks F (x - from)) → xs ≡ chunks F (to - from) → t ≡ added step c xs
-  added-all F c t xs from x to e h f = h ∙ ap (λ (k : ℕ). added step c (chunks F (k - from))) e ∙ ap (added step c) (sym f)
+  pub added_all : (F : ℕ → List ℤ) (c t : A) (xs : List ℤ) (from x to : ℕ) → x ≡ to → t ≡ added step c (chunks F (x - from)) → xs ≡ chunks F (to - from) → t ≡ added step c xs
+  added_all F c t xs from x to e h f = h ∙ ap (λ (k : ℕ). added step c (chunks F (k - from))) e ∙ ap (added step c) (sym f)

@@ -11,26 +11,26 @@ use Rattle.std.proofs.Math.Decide.{dec_le}
 use Rattle.std.proofs.Math.Arith.{digits_div, digits_mod}
 use Rattle.std.proofs.Math.ListN.{length, length-append}
 use Rattle.unit.specs.Sizes.{Size, area}
-use Rattle.unit.specs.Slices.{bound, sliceCount, partSize}
-use Rattle.unit.specs.Laws.Slice.{bound-rises, bound-most}
+use Rattle.unit.specs.Slices.{bound, slice_count, part_size}
+use Rattle.unit.specs.Laws.Slice.{bound_rises, bound-most}
 use Rattle.picture.specs.declared.slices.layout.Component.{Component}
 use Rattle.picture.specs.declared.slices.layout.Layout.{Layout}
-use Rattle.picture.specs.Code.Layout.{bandCount, gridIn, bandSize, start_of, runNumbers, LayoutIn}
-use Rattle.picture.specs.Code.Counts.{bandNumbersOf, count_of}
-use Rattle.picture.specs.Laws.Layout.{start-next, band-fits, row_of, bandNumbers, run_none, run-next}
-use Rattle.picture.specs.Laws.HighIndex.{band-many}
+use Rattle.picture.specs.Code.Layout.{band_count, grid_in, band_size, start_of, run_numbers, LayoutIn}
+use Rattle.picture.specs.Code.Counts.{band_numbers_of, count_of}
+use Rattle.picture.specs.Laws.Layout.{start-next, band-fits, row_of, band_numbers, run_none, run-next}
+use Rattle.picture.specs.Laws.HighIndex.{band_many}
 
 -- ---- as many as a slice's run
 module _ (w : List ℤ) (l : Layout) (c : Component) (k q : ℕ) where
-  bands-count : (n : ℕ) → length (runNumbers w l c c false k q n) ≡ bandNumbersOf l c k n
-  unfolding bandNumbersOf
-  bands-count zero = ap length (run_none w l c c false k q)
-  bands-count (suc n) =
-      ap length (run-next w l c c false k q n) ∙ length-append (runNumbers w l c c false k q n) (bandNumbers w l c c false k q n)
-      ∙ ap₂ ◌+◌ (bands-count n) (band-many w l c k q n)
+  bands_count : (n : ℕ) → length (run_numbers w l c c false k q n) ≡ band_numbers_of l c k n
+  unfolding band_numbers_of
+  bands_count zero = ap length (run_none w l c c false k q)
+  bands_count (suc n) =
+      ap length (run-next w l c c false k q n) ∙ length-append (run_numbers w l c c false k q n) (band_numbers w l c c false k q n)
+      ∙ ap₂ ◌+◌ (bands_count n) (band_many w l c k q n)
 
-  pub run-count : length (runNumbers w l c c false k q (bandCount l)) ≡ count_of l c k
-  run-count = bands-count (bandCount l)
+  pub run_count : length (run_numbers w l c c false k q (band_count l)) ≡ count_of l c k
+  run_count = bands_count (band_count l)
 
 -- ---- of one subband
 module _ {l : Layout} (h : LayoutIn l) (z : Size) where
@@ -50,19 +50,19 @@ module _ {l : Layout} (h : LayoutIn l) (z : Size) where
   column-next : (i j : ℕ) → up_to i j + (row (suc i) - row i) * (column (suc j) - column j) ≡ up_to i (suc j)
   column-next i j =
       let y : ℕ = row (suc i) - row i in
-      omega (arith, mul-sub y (column (suc j)) (column j), mul-le-mul_left y (bound-rises l.across z.width {i = j} {j = suc j} (omega arith)))
+      omega (arith, mul-sub y (column (suc j)) (column j), mul-le-mul_left y (bound_rises l.across z.width {i = j} {j = suc j} (omega arith)))
 
   row-most : (i j : ℕ) → j ≤ l.across → up_to i j ≤ row (suc i) * z.width
   row-most i j b =
       let y : ℕ = row (suc i) - row i in
-      let e : row i + y ≡ row (suc i) = add-sub_of_le (bound-rises l.down z.height {i = i} {j = suc i} (omega arith)) in
+      let e : row i + y ≡ row (suc i) = add-sub_of_le (bound_rises l.down z.height {i = i} {j = suc i} (omega arith)) in
       omega (arith, mul-le-mul_left y (bound-most l.across z.width j b), add-mul (row i) y z.width, ap (λ (y : ℕ). y * z.width) e)
 
-  before-is : (k i j : ℕ) → j < l.across → k ≡ i * l.across + j → before k ≡ up_to i j
-  before-is k i j b e = ap₂ up_to (ap (λ (k : ℕ). k / l.across) e ∙ digits_div i b) (ap (λ (k : ℕ). k % l.across) e ∙ digits_mod i b)
+  before_is : (k i j : ℕ) → j < l.across → k ≡ i * l.across + j → before k ≡ up_to i j
+  before_is k i j b e = ap₂ up_to (ap (λ (k : ℕ). k / l.across) e ∙ digits_div i b) (ap (λ (k : ℕ). k % l.across) e ∙ digits_mod i b)
 
   -- a slice stands before the next
-  part-next : (k : ℕ) → before k + partSize (gridIn l) z k ≤ before (suc k)
+  part-next : (k : ℕ) → before k + part_size (grid_in l) z k ≤ before (suc k)
   part-next k = by (dec_le (suc (suc j)) l.across)
     where
       i : ℕ
@@ -71,14 +71,14 @@ module _ {l : Layout} (h : LayoutIn l) (z : Size) where
       j : ℕ
       j = k % l.across
 
-      by : Dec (suc j < l.across) → before k + partSize (gridIn l) z k ≤ before (suc k)
-      by (yes b) = omega (arith, column-next i j, before-is (suc k) i (suc j) b (omega (arith, div-add-mod' k l.across)))
+      by : Dec (suc j < l.across) → before k + part_size (grid_in l) z k ≤ before (suc k)
+      by (yes b) = omega (arith, column-next i j, before_is (suc k) i (suc j) b (omega (arith, div-add-mod' k l.across)))
       by (no b) =
           let m = mod-lt k h.across.0 in
-          omega (arith, column-next i j, row-most i (suc j) m, before-is (suc k) (suc i) 0 h.across.0 (omega (arith, div-add-mod' k l.across, m, suc-mul i l.across)))
+          omega (arith, column-next i j, row-most i (suc j) m, before_is (suc k) (suc i) 0 h.across.0 (omega (arith, div-add-mod' k l.across, m, suc-mul i l.across)))
 
   -- a slice's part lies within the subband
-  part-within : (k : ℕ) → k < sliceCount (gridIn l) → before k + partSize (gridIn l) z k ≤ area z
+  part-within : (k : ℕ) → k < slice_count (grid_in l) → before k + part_size (grid_in l) z k ≤ area z
   part-within k b =
       let i : ℕ = k / l.across in
       let m = mul-le-mul_right z.width (bound-most l.down z.height (suc i) (row_of h b)) in
@@ -94,26 +94,26 @@ module _ {l : Layout} (h : LayoutIn l) (c : Component) where
   -- what stands before slice k in the first n subbands
   unfoldable ahead : ℕ → ℕ → ℕ
   ahead k zero = 0
-  ahead k (suc n) = ahead k n + before h (bandSize l c n) k
+  ahead k (suc n) = ahead k n + before h (band_size l c n) k
 
-  ahead-next : (k n : ℕ) → ahead k n + bandNumbersOf l c k n ≤ ahead (suc k) n
-  unfolding ahead bandNumbersOf
+  ahead-next : (k n : ℕ) → ahead k n + band_numbers_of l c k n ≤ ahead (suc k) n
+  unfolding ahead band_numbers_of
   ahead-next k zero = omega arith
-  ahead-next k (suc n) = omega (arith, ahead-next k n, part-next h (bandSize l c n) k)
+  ahead-next k (suc n) = omega (arith, ahead-next k n, part-next h (band_size l c n) k)
 
-  ahead_within : (k n : ℕ) → k < sliceCount (gridIn l) → ahead k n + bandNumbersOf l c k n ≤ start_of l c n
-  unfolding ahead bandNumbersOf
+  ahead_within : (k n : ℕ) → k < slice_count (grid_in l) → ahead k n + band_numbers_of l c k n ≤ start_of l c n
+  unfolding ahead band_numbers_of
   ahead_within k zero b = omega arith
-  ahead_within k (suc n) b = omega (arith, ahead_within k n b, part-within h (bandSize l c n) k b, start-next l c n)
+  ahead_within k (suc n) b = omega (arith, ahead_within k n b, part-within h (band_size l c n) k b, start-next l c n)
 
-  count-ahead : (k : ℕ) → count_to l c k ≤ ahead k (bandCount l)
+  count_ahead : (k : ℕ) → count_to l c k ≤ ahead k (band_count l)
   unfolding count_to
-  count-ahead zero = omega arith
-  count-ahead (suc k) = omega (arith, count-ahead k, ahead-next k (bandCount l))
+  count_ahead zero = omega arith
+  count_ahead (suc k) = omega (arith, count_ahead k, ahead-next k (band_count l))
 
 -- the numbers of a component up to slice k's are no more than its coefficients
-pub count-within : (l : Layout) (c : Component) (k : ℕ) → LayoutIn l → k < sliceCount (gridIn l) → count_to l c k + count_of l c k ≤ c.width * c.height
-count-within l c k h b =
+pub count_within : (l : Layout) (c : Component) (k : ℕ) → LayoutIn l → k < slice_count (grid_in l) → count_to l c k + count_of l c k ≤ c.width * c.height
+count_within l c k h b =
     let n : ℕ = l.depth_ho + 3 * l.depth in
-    let e : bandCount l ≡ suc n = omega arith in
-    omega (arith, count-ahead h c k, ahead_within h c k (bandCount l) b, ap (start_of l c) e, start-next l c n, band-fits l c n (omega arith))
+    let e : band_count l ≡ suc n = omega arith in
+    omega (arith, count_ahead h c k, ahead_within h c k (band_count l) b, ap (start_of l c) e, start-next l c n, band-fits l c n (omega arith))

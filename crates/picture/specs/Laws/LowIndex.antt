@@ -4,75 +4,75 @@ use Rattle.std.specs.Prelude.{◌≡◌, refl, false, List, ℤ}
 use Rattle.std.proofs.Common.{ap, ◌∙◌, add-one, arith}
 use Prim.Native.Nat.{ℕ, suc, ◌+◌, ◌*◌, ◌-◌, ◌/◌, ◌^◌, ◌≤◌}
 use Rattle.std.proofs.Math.Nat.{suc-mul, mul-le-mul_left, mul-one, add-mul-div_right}
-use Rattle.unit.specs.Limits.{areaLimit}
-use Rattle.unit.specs.Laws.Slice.{div-rises}
+use Rattle.unit.specs.Limits.{area_limit}
+use Rattle.unit.specs.Laws.Slice.{div_rises}
 use Rattle.unit.specs.Laws.Intlog2.{intlog2-least, intlog2-most}
-use Rattle.unit.specs.LowDelay.{sliceBytes, lengthBits}
-use Rattle.unit.specs.Laws.LowDelay.{bytes-some}
+use Rattle.unit.specs.LowDelay.{slice_bytes, length_bits}
+use Rattle.unit.specs.Laws.LowDelay.{bytes_some}
 use Rattle.picture.specs.declared.slices.layout.Component.{Component}
 use Rattle.picture.specs.declared.slices.layout.Picture.{Picture}
-use Rattle.picture.specs.Code.Strip.{rebuiltStrip}
-use Rattle.picture.specs.Laws.Strip.{rows-keep}
-use Rattle.picture.specs.Code.Cost.{noCost, Countable}
+use Rattle.picture.specs.Code.Strip.{rebuilt_strip}
+use Rattle.picture.specs.Laws.Strip.{rows_keep}
+use Rattle.picture.specs.Code.Cost.{no_cost, Countable}
 use Rattle.picture.specs.Code.Layout.{RunIn, RunLies}
 use Rattle.picture.specs.Laws.Layout.{run_lies, first-within}
 use Rattle.picture.specs.Code.Picture.{SliceIn}
-use Rattle.picture.specs.Laws.Picture.{run-y, run-pair}
-use Rattle.picture.specs.Code.Low.{strip0, rebuiltIn}
+use Rattle.picture.specs.Laws.Picture.{run_y, run_pair}
+use Rattle.picture.specs.Code.Low.{strip0, rebuilt_in}
 
 -- ---- bytes
 module _ (n d k : ℕ) where
-  pub bytes-rise : k * n / d ≤ (k + 1) * n / d
-  bytes-rise = rw (add-one k) (div-rises d (omega (arith, suc-mul k n)))
+  pub bytes_rise : k * n / d ≤ (k + 1) * n / d
+  bytes_rise = rw (add-one k) (div_rises d (omega (arith, suc-mul k n)))
 
   -- a slice has at most all of them
-  bytes_most : 1 ≤ d → sliceBytes n d k ≤ n
-  unfolding sliceBytes
+  bytes_most : 1 ≤ d → slice_bytes n d k ≤ n
+  unfolding slice_bytes
   bytes_most h =
       let g : suc k * n ≤ k * n + n * d = omega (arith, suc-mul k n, mul-le-mul_left n h, mul-one n) in
-      omega (arith, div-rises d g, add-mul-div_right (k * n) n h)
+      omega (arith, div_rises d g, add-mul-div_right (k * n) n h)
 
-  bytes-by : (k + 1) * n / d - k * n / d ≡ sliceBytes n d k
-  unfolding sliceBytes
-  bytes-by = rw (add-one k)
+  bytes_by : (k + 1) * n / d - k * n / d ≡ slice_bytes n d k
+  unfolding slice_bytes
+  bytes_by = rw (add-one k)
 
-  pub bytes-are : 1 ≤ d → d ≤ n → let r = (k + 1) * n / d - k * n / d in (r ≡ sliceBytes n d k) × ((1 ≤ r) × (r ≤ n))
-  bytes-are h g = (bytes-by, (omega (arith, bytes-by, bytes-some n d k h g), omega (arith, bytes-by, bytes_most h)))
+  pub bytes_are : 1 ≤ d → d ≤ n → let r = (k + 1) * n / d - k * n / d in (r ≡ slice_bytes n d k) × ((1 ≤ r) × (r ≤ n))
+  bytes_are h g = (bytes_by, (omega (arith, bytes_by, bytes_some n d k h g), omega (arith, bytes_by, bytes_most h)))
 
 -- ---- bits
-pub length-few : (n : ℕ) → n ≤ 2 ^ 30 → lengthBits n ≤ 33
-length-few n h = (intlog2-least (8 * n - 7)).least 33 (omega arith)
+pub length_few : (n : ℕ) → n ≤ 2 ^ 30 → length_bits n ≤ 33
+length_few n h = (intlog2-least (8 * n - 7)).least 33 (omega arith)
 
 -- the length field leaves the rest as room
-pub length_most : (n : ℕ) → lengthBits n ≤ 8 * n - 7
+pub length_most : (n : ℕ) → length_bits n ≤ 8 * n - 7
 length_most n = intlog2-most (8 * n - 7)
 
 -- ---- rebuilt planes
 -- one component after the other
-pub planes-rebuilt : (w a b r : List ℤ) (p : Picture) (k q : ℕ) → a ≡ rebuiltStrip w (strip0 p p.y k q) → b ≡ rebuiltStrip a (strip0 p p.c1 k q)
-    → r ≡ rebuiltStrip b (strip0 p p.c2 k q) → r ≡ rebuiltIn w p k q
-unfolding rebuiltIn
+pub planes-rebuilt : (w a b r : List ℤ) (p : Picture) (k q : ℕ) → a ≡ rebuilt_strip w (strip0 p p.y k q) → b ≡ rebuilt_strip a (strip0 p p.c1 k q)
+    → r ≡ rebuilt_strip b (strip0 p p.c2 k q) → r ≡ rebuilt_in w p k q
+unfolding rebuilt_in
 planes-rebuilt w a b r p k q e f g =
-    g ∙ ap (λ (b : List ℤ). rebuiltStrip b (strip0 p p.c2 k q)) (f ∙ ap (λ (a : List ℤ). rebuiltStrip a (strip0 p p.c1 k q)) e)
+    g ∙ ap (λ (b : List ℤ). rebuilt_strip b (strip0 p p.c2 k q)) (f ∙ ap (λ (a : List ℤ). rebuilt_strip a (strip0 p p.c1 k q)) e)
 
 -- a slice can be read behind the rebuilding of a component
-pub slice-rebuilt : {p : Picture} {w v : List ℤ} {k q : ℕ} (c : Component) → SliceIn p w k q → RunIn p.layout c c p.front p.end k q w
-    → v ≡ rebuiltStrip w (strip0 p c k q) → SliceIn p v k q
-slice-rebuilt c s h e = record {
+pub slice_rebuilt : {p : Picture} {w v : List ℤ} {k q : ℕ} (c : Component) → SliceIn p w k q → RunIn p.layout c c p.front p.end k q w
+    → v ≡ rebuilt_strip w (strip0 p c k q) → SliceIn p v k q
+slice_rebuilt c s h e = record {
   arranged = s.arranged;
-  small = rw e (rows-keep h.small (first-within h false _ refl) _ (omega arith));
+  small = rw e (rows_keep h.small (first-within h false _ refl) _ (omega arith));
   slice = s.slice;
   index = s.index;
 }
 
 -- ---- costs
-none-countable : (room n : ℕ) → n ≤ areaLimit → Countable (noCost room) (2 * n)
-none-countable room n h = record { bits = omega arith; count = omega arith }
+none_countable : (room n : ℕ) → n ≤ area_limit → Countable (no_cost room) (2 * n)
+none_countable room n h = record { bits = omega arith; count = omega arith }
 
-pub luma-ready : {p : Picture} {w : List ℤ} {k q : ℕ} (room : ℕ) → SliceIn p w k q
-    → RunLies p.layout p.y p.y k q w × Countable (noCost room) (2 * (p.y.width * p.y.height))
-luma-ready {p = p} room s = (run_lies (run-y s), none-countable room (p.y.width * p.y.height) s.arranged.y.area)
+pub luma_ready : {p : Picture} {w : List ℤ} {k q : ℕ} (room : ℕ) → SliceIn p w k q
+    → RunLies p.layout p.y p.y k q w × Countable (no_cost room) (2 * (p.y.width * p.y.height))
+luma_ready {p = p} room s = (run_lies (run_y s), none_countable room (p.y.width * p.y.height) s.arranged.y.area)
 
-pub colour-ready : {p : Picture} {w : List ℤ} {k q : ℕ} (room : ℕ) → SliceIn p w k q
-    → RunLies p.layout p.c1 p.c2 k q w × Countable (noCost room) (2 * (p.c1.width * p.c1.height))
-colour-ready {p = p} room s = (run_lies (run-pair s), none-countable room (p.c1.width * p.c1.height) s.arranged.c1.area)
+pub colour_ready : {p : Picture} {w : List ℤ} {k q : ℕ} (room : ℕ) → SliceIn p w k q
+    → RunLies p.layout p.c1 p.c2 k q w × Countable (no_cost room) (2 * (p.c1.width * p.c1.height))
+colour_ready {p = p} room s = (run_lies (run_pair s), none_countable room (p.c1.width * p.c1.height) s.arranged.c1.area)

@@ -15,100 +15,100 @@ use Rattle.picture.specs.declared.high.packed.Packed.{Packed}
 use Rattle.picture.specs.Code.Strip.{Small}
 use Rattle.picture.specs.Code.Layout.{RunIn}
 use Rattle.picture.specs.Code.Counts.{count_of}
-use Rattle.picture.specs.Code.Packed.{packed, packedBits, PackRunIn, Packs}
-use Rattle.picture.specs.Laws.Packed.{laid-behind, run-alike, packingAt, run-packable, packs-small}
-use Rattle.picture.specs.Laws.Counts.{run-count}
-use Rattle.picture.specs.Laws.Unpacked.{packed-cost, run-below}
-use Rattle.picture.specs.Code.Picture.{run_of, numbersIn, SliceIn}
-use Rattle.picture.specs.Laws.Picture.{run-y, run-c1, run-c2}
-use Rattle.picture.specs.Code.Choice.{packedOf, choiceBy, sliceWords, sliceNumberCount}
-use Rattle.picture.specs.Laws.HighIndex.{choice-is}
-use Rattle.picture.specs.Laws.Noted.{run-words}
+use Rattle.picture.specs.Code.Packed.{packed, packed_bits, PackRunIn, Packs}
+use Rattle.picture.specs.Laws.Packed.{laid-behind, run_alike, packing_at, run_packable, packs_small}
+use Rattle.picture.specs.Laws.Counts.{run_count}
+use Rattle.picture.specs.Laws.Unpacked.{packed-cost, run_below}
+use Rattle.picture.specs.Code.Picture.{run_of, numbers_in, SliceIn}
+use Rattle.picture.specs.Laws.Picture.{run_y, run_c1, run_c2}
+use Rattle.picture.specs.Code.Choice.{packed_of, choice_by, slice_words, slice_number_count}
+use Rattle.picture.specs.Laws.HighIndex.{choice_is}
+use Rattle.picture.specs.Laws.Noted.{run_words}
 
 -- a run packed from place i on
-module _ {w v : List ℤ} {i : ℕ} {r : Packing} {xs : List ℤ} (h : Packs w (packingAt i) xs v r) where
-  run-packed : ◌≡◌ {A = Packed} (record { words = r.at - i; bits = r.bits }) (packedOf xs)
-  run-packed = ap₂ (λ (m n : ℕ). record { words = m; bits = n }) (omega (arith, h.at)) (h.bits ∙ zero_bits ∙ packed-cost xs)
+module _ {w v : List ℤ} {i : ℕ} {r : Packing} {xs : List ℤ} (h : Packs w (packing_at i) xs v r) where
+  run-packed : ◌≡◌ {A = Packed} (record { words = r.at - i; bits = r.bits }) (packed_of xs)
+  run-packed = ap₂ (λ (m n : ℕ). record { words = m; bits = n }) (omega (arith, h.at)) (h.bits ∙ zero_bits_lem ∙ packed-cost xs)
     where
-      zero_bits : 0 + packedBits 0 xs ≡ packedBits 0 xs
-      zero_bits = omega arith
+      zero_bits_lem : 0 + packed_bits 0 xs ≡ packed_bits 0 xs
+      zero_bits_lem = omega arith
 
   pub run-after : i ≤ r.at
   run-after = omega (arith, h.at)
 
 -- packing a run leaves the work slice small
 run-kept : (p : Picture) (k q : ℕ) {w v : List ℤ} {r : Packing} (c : Component) (i : ℕ) → RunIn p.layout c c p.front p.end k q w → p.layout.predicted ≡ false
-    → i + count_of p.layout c k ≤ p.front → Packs w (packingAt i) (run_of w p c k q) v r → Small p.front p.end v
+    → i + count_of p.layout c k ≤ p.front → Packs w (packing_at i) (run_of w p c k q) v r → Small p.front p.end v
 run-kept p k q {w} c i h plain room a =
-    packs-small (run-below p.layout c p.front p.end k q w h plain _ (omega arith)) (omega (arith, run-count w p.layout c k q))
-    (run-packable i (count_of p.layout c k) h.small room) h.small a
+    packs_small (run_below p.layout c p.front p.end k q w h plain _ (omega arith)) (omega (arith, run_count w p.layout c k q))
+    (run_packable i (count_of p.layout c k) h.small room) h.small a
 
-module _ (p : Picture) (k q from : ℕ) {w : List ℤ} (s : SliceIn p w k q) (plain : p.layout.predicted ≡ false) (room : from + sliceNumberCount p k ≤ p.front) where
+module _ (p : Picture) (k q from : ℕ) {w : List ℤ} (s : SliceIn p w k q) (plain : p.layout.predicted ≡ false) (room : from + slice_number_count p k ≤ p.front) where
   slice_of : {v : List ℤ} → Small p.front p.end v → SliceIn p v k q
   slice_of t = record { arranged = s.arranged; small = t; slice = s.slice; index = s.index }
 
   -- the runs of a list with the same coefficients
   run-same : (v : List ℤ) → ((i : ℕ) → p.front ≤ i → at v i ≡ at w i) → (c : Component) → RunIn p.layout c c p.front p.end k q w → run_of v p c k q ≡ run_of w p c k q
-  run-same v same c h = run-alike p.front p.end w v (λ i a b. same i a) p.layout c c false k q q w h plain
+  run-same v same c h = run_alike p.front p.end w v (λ i a b. same i a) p.layout c c false k q q w h plain
 
   -- luma's run can be packed
-  pub y-ready : PackRunIn p.layout p.y from k q w
-  y-ready = record { front = p.front; end = p.end; holds = (run-y s, (plain, omega (arith, room))) }
+  pub y_ready : PackRunIn p.layout p.y from k q w
+  y_ready = record { front = p.front; end = p.end; holds = (run_y s, (plain, omega (arith, room))) }
 
-  module _ {v₁ : List ℤ} {r₁ : Packing} (a : Packs w (packingAt from) (run_of w p p.y k q) v₁ r₁) where
+  module _ {v₁ : List ℤ} {r₁ : Packing} (a : Packs w (packing_at from) (run_of w p p.y k q) v₁ r₁) where
     same₁ : (i : ℕ) → p.front ≤ i → at v₁ i ≡ at w i
     same₁ i b =
         ap (λ (v : List ℤ). at v i) a.work
-        ∙ laid-behind w from (packed 0 (run_of w p p.y k q)) i (omega (arith, b, room, run-words w p p.y k q))
+        ∙ laid-behind w from (packed 0 (run_of w p p.y k q)) i (omega (arith, b, room, run_words w p p.y k q))
 
     slice₁ : SliceIn p v₁ k q
-    slice₁ = slice_of (run-kept p k q p.y from (run-y s) plain (omega (arith, room)) a)
+    slice₁ = slice_of (run-kept p k q p.y from (run_y s) plain (omega (arith, room)) a)
 
     room₁ : r₁.at + count_of p.layout p.c1 k ≤ p.front
-    room₁ = omega (arith, room, a.at, run-words w p p.y k q)
+    room₁ = omega (arith, room, a.at, run_words w p p.y k q)
 
     -- the first colour's run can be packed
-    pub c1-ready : PackRunIn p.layout p.c1 r₁.at k q v₁
-    c1-ready = record { front = p.front; end = p.end; holds = (run-c1 slice₁, (plain, room₁)) }
+    pub c1_ready : PackRunIn p.layout p.c1 r₁.at k q v₁
+    c1_ready = record { front = p.front; end = p.end; holds = (run_c1 slice₁, (plain, room₁)) }
 
-    module _ {v₂ : List ℤ} {r₂ : Packing} (b : Packs v₁ (packingAt r₁.at) (run_of v₁ p p.c1 k q) v₂ r₂) where
+    module _ {v₂ : List ℤ} {r₂ : Packing} (b : Packs v₁ (packing_at r₁.at) (run_of v₁ p p.c1 k q) v₂ r₂) where
       same₂ : (i : ℕ) → p.front ≤ i → at v₂ i ≡ at w i
       same₂ i h =
           ap (λ (v : List ℤ). at v i) b.work
-          ∙ laid-behind v₁ r₁.at (packed 0 (run_of v₁ p p.c1 k q)) i (omega (arith, h, room, a.at, run-words w p p.y k q, run-words v₁ p p.c1 k q))
+          ∙ laid-behind v₁ r₁.at (packed 0 (run_of v₁ p p.c1 k q)) i (omega (arith, h, room, a.at, run_words w p p.y k q, run_words v₁ p p.c1 k q))
           ∙ same₁ i h
 
       slice₂ : SliceIn p v₂ k q
-      slice₂ = slice_of (run-kept p k q p.c1 r₁.at (run-c1 slice₁) plain room₁ b)
+      slice₂ = slice_of (run-kept p k q p.c1 r₁.at (run_c1 slice₁) plain room₁ b)
 
       room₂ : r₂.at + count_of p.layout p.c2 k ≤ p.front
-      room₂ = omega (arith, room, a.at, b.at, run-words w p p.y k q, run-words v₁ p p.c1 k q)
+      room₂ = omega (arith, room, a.at, b.at, run_words w p p.y k q, run_words v₁ p p.c1 k q)
 
       -- the second colour's run can be packed
-      pub c2-ready : PackRunIn p.layout p.c2 r₂.at k q v₂
-      c2-ready = record { front = p.front; end = p.end; holds = (run-c2 slice₂, (plain, room₂)) }
+      pub c2_ready : PackRunIn p.layout p.c2 r₂.at k q v₂
+      c2_ready = record { front = p.front; end = p.end; holds = (run_c2 slice₂, (plain, room₂)) }
 
-      module _ {v₃ : List ℤ} {r₃ : Packing} (d : Packs v₂ (packingAt r₂.at) (run_of v₂ p p.c2 k q) v₃ r₃) where
+      module _ {v₃ : List ℤ} {r₃ : Packing} (d : Packs v₂ (packing_at r₂.at) (run_of v₂ p p.c2 k q) v₃ r₃) where
         first : run_of v₁ p p.c1 k q ≡ run_of w p p.c1 k q
-        first = run-same v₁ same₁ p.c1 (run-c1 s)
+        first = run-same v₁ same₁ p.c1 (run_c1 s)
 
         second : run_of v₂ p p.c2 k q ≡ run_of w p p.c2 k q
-        second = run-same v₂ same₂ p.c2 (run-c2 s)
+        second = run-same v₂ same₂ p.c2 (run_c2 s)
 
         pub slice_kept : Small p.front p.end v₃
-        slice_kept = run-kept p k q p.c2 r₂.at (run-c2 slice₂) plain room₂ d
+        slice_kept = run-kept p k q p.c2 r₂.at (run_c2 slice₂) plain room₂ d
 
-        pub slice-chosen : ◌≡◌ {A = Choice} (record {
+        pub slice_chosen : ◌≡◌ {A = Choice} (record {
           index = q;
           y = record { words = r₁.at - from; bits = r₁.bits };
           c1 = record { words = r₂.at - r₁.at; bits = r₂.bits };
           c2 = record { words = r₃.at - r₂.at; bits = r₃.bits };
-        }) (choiceBy (numbersIn w p k) q)
-        slice-chosen = choice-is w p k q _ _ _ (run-packed a) (run-packed b ∙ ap packedOf first) (run-packed d ∙ ap packedOf second)
+        }) (choice_by (numbers_in w p k) q)
+        slice_chosen = choice_is w p k q _ _ _ (run-packed a) (run-packed b ∙ ap packed_of first) (run-packed d ∙ ap packed_of second)
 
-        pub slice-packed : v₃ ≡ laid w from (sliceWords (numbersIn w p k q))
-        unfolding numbersIn
-        slice-packed =
+        pub slice_packed : v₃ ≡ laid w from (slice_words (numbers_in w p k q))
+        unfolding numbers_in
+        slice_packed =
             let y = packed 0 (run_of w p p.y k q) in
             let c1 = packed 0 (run_of w p p.c1 k q) in
             let c2 = packed 0 (run_of w p p.c2 k q) in

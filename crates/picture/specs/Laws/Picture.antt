@@ -8,8 +8,8 @@ use Rattle.picture.specs.Code.Picture.{Placed, SliceIn}
 
 -- the runs of single components
 module _ {p : Picture} {w : List ℤ} {k q : ℕ} (h : SliceIn p w k q) where
-  run-placed : (c : Component) → Placed p c → RunIn p.layout c c p.front p.end k q w
-  run-placed c d = record {
+  run_placed : (c : Component) → Placed p c → RunIn p.layout c c p.front p.end k q w
+  run_placed c d = record {
     layout = h.arranged.layout;
     first = d.fits;
     other = d.fits;
@@ -22,18 +22,18 @@ module _ {p : Picture} {w : List ℤ} {k q : ℕ} (h : SliceIn p w k q) where
     rebuilt2 = d.rebuilt;
   }
 
-  pub run-y : RunIn p.layout p.y p.y p.front p.end k q w
-  run-y = run-placed p.y h.arranged.y
+  pub run_y : RunIn p.layout p.y p.y p.front p.end k q w
+  run_y = run_placed p.y h.arranged.y
 
-  pub run-c1 : RunIn p.layout p.c1 p.c1 p.front p.end k q w
-  run-c1 = run-placed p.c1 h.arranged.c1
+  pub run_c1 : RunIn p.layout p.c1 p.c1 p.front p.end k q w
+  run_c1 = run_placed p.c1 h.arranged.c1
 
-  pub run-c2 : RunIn p.layout p.c2 p.c2 p.front p.end k q w
-  run-c2 = run-placed p.c2 h.arranged.c2
+  pub run_c2 : RunIn p.layout p.c2 p.c2 p.front p.end k q w
+  run_c2 = run_placed p.c2 h.arranged.c2
 
 -- the two colours together
-pub run-pair : {p : Picture} {w : List ℤ} {k q : ℕ} → SliceIn p w k q → RunIn p.layout p.c1 p.c2 p.front p.end k q w
-run-pair {p = p} s =
+pub run_pair : {p : Picture} {w : List ℤ} {k q : ℕ} → SliceIn p w k q → RunIn p.layout p.c1 p.c2 p.front p.end k q w
+run_pair {p = p} s =
     let a = s.arranged in
     let e : p.c2.width * p.c2.height ≡ p.c1.width * p.c1.height = ap₂ ◌*◌ a.wide a.high in
     record {

@@ -8,12 +8,12 @@ use native.Mathlib.Omega.{arith}
 use Rattle.std.specs.Int.Signed.{lt_z}
 use Rattle.std.proofs.Math.Seq.{take-nil}
 use Rattle.laws.specs.Code.Chunks.{chunks}
-use Rattle.codewords.specs.CodeWord.{code_s, codeM, codes}
+use Rattle.codewords.specs.CodeWord.{code_s, code_m, codes}
 use Rattle.codewords.specs.Laws.Code.{codes-one, codes-append}
 use Rattle.codewords.specs.Code.Writer.{Sound, Room, Wrote}
 use Rattle.codewords.specs.Laws.Writer.{wrote_none, wrote_then, room_after}
 use Rattle.codewords.specs.declared.writer.BitWriter.{BitWriter}
-use Rattle.quantiser.specs.Quant.{forwardBy}
+use Rattle.quantiser.specs.Quant.{forward_by}
 use Rattle.quantiser.specs.Laws.Sign.{forward-code}
 use Rattle.picture.specs.declared.low.put.Put.{Put}
 use Rattle.picture.specs.Code.Put.{RoomFor, Puts}
@@ -45,23 +45,23 @@ unfolding codes
 zero-kept n xs e = ap (λ (k : ℕ). codes (take k xs)) e
 
 -- the code word by the size of the number and the sign of the coefficient x, as the code reads c
-pub forward-word : (f m : ℕ) (c x : ℤ) → x ≡ c → m ≡ nat_abs (forwardBy f x) → codeM m (lt_z x (pos 0)) ≡ code_s (forwardBy f c)
-forward-word f m c x e d = ap (λ (k : ℕ). codeM k (lt_z x (pos 0))) d ∙ sym (forward-code f x) ∙ ap (λ (z : ℤ). code_s (forwardBy f z)) e
+pub forward_word : (f m : ℕ) (c x : ℤ) → x ≡ c → m ≡ nat_abs (forward_by f x) → code_m m (lt_z x (pos 0)) ≡ code_s (forward_by f c)
+forward_word f m c x e d = ap (λ (k : ℕ). code_m k (lt_z x (pos 0))) d ∙ sym (forward-code f x) ∙ ap (λ (z : ℤ). code_s (forward_by f z)) e
 
 -- ---- what has been written
 pub puts_none : {o : List ℕ} {p : Put} {n : ℕ} → Room o p.writer n → Puts o p [] o p
 puts_none {o} {p} r = record { wrote = rw (none_kept p.left) (wrote_none r); left = omega arith }
 
 -- nothing is to be kept
-pub puts-past : {o : List ℕ} {p : Put} {n : ℕ} (xs : List ℤ) → Room o p.writer n → p.left ≡ 0 → Puts o p xs o p
-puts-past {o} {p} xs r e = record { wrote = rw (zero-kept p.left xs e) (wrote_none r); left = omega arith }
+pub puts_past : {o : List ℕ} {p : Put} {n : ℕ} (xs : List ℤ) → Room o p.writer n → p.left ≡ 0 → Puts o p xs o p
+puts_past {o} {p} xs r e = record { wrote = rw (zero-kept p.left xs e) (wrote_none r); left = omega arith }
 
 pub puts_one : {o o' : List ℕ} {p : Put} {w : BitWriter} (z : ℤ) → 0 < p.left → Wrote o p.writer (code_s z) o' w
     → Puts o p (z ∷ []) o' (record { writer = w; left = p.left - 1 })
 puts_one {o} {o'} {p} z h q = record { wrote = rw (kept-one p.left z h) q; left = refl }
 
-pub puts-same : {o o' : List ℕ} {p p' : Put} {xs ys : List ℤ} → xs ≡ ys → Puts o p xs o' p' → Puts o p ys o' p'
-puts-same e q = rw e at q
+pub puts_same : {o o' : List ℕ} {p p' : Put} {xs ys : List ℤ} → xs ≡ ys → Puts o p xs o' p' → Puts o p ys o' p'
+puts_same e q = rw e at q
 
 pub puts_then : {o o' o'' : List ℕ} {p p' p'' : Put} {xs ys : List ℤ} → Sound p.writer → Puts o p xs o' p' → Puts o' p' ys o'' p'' → Puts o p (xs ++ ys) o'' p''
 puts_then {o} {o'} {o''} {p} {p'} {p''} {xs} {ys} s a b = record {
@@ -70,14 +70,14 @@ puts_then {o} {o'} {o''} {p} {p'} {p''} {xs} {ys} s a b = record {
 }
 
 -- ---- room
-pub room-same : {o : List ℕ} (p : Put) (xs ys : List ℤ) → xs ≡ ys → RoomFor o p xs → RoomFor o p ys
-room-same {o} p xs ys e r = rw (← e) r
+pub room_same : {o : List ℕ} (p : Put) (xs ys : List ℤ) → xs ≡ ys → RoomFor o p xs → RoomFor o p ys
+room_same {o} p xs ys e r = rw (← e) r
 
-pub room-one : {o : List ℕ} (p : Put) (z : ℤ) → 0 < p.left → RoomFor o p (z ∷ []) → Room o p.writer (length (code_s z))
-room-one {o} p z h r = rw (← kept-one p.left z h) r
+pub room_one : {o : List ℕ} (p : Put) (z : ℤ) → 0 < p.left → RoomFor o p (z ∷ []) → Room o p.writer (length (code_s z))
+room_one {o} p z h r = rw (← kept-one p.left z h) r
 
-pub room-first : {o : List ℕ} (p : Put) (xs ys : List ℤ) → RoomFor o p (xs ++ ys) → RoomFor o p xs
-room-first {o} p xs ys r = record { sound = r.sound; room = omega (arith, r.room, kept-length p.left xs ys) }
+pub room_first : {o : List ℕ} (p : Put) (xs ys : List ℤ) → RoomFor o p (xs ++ ys) → RoomFor o p xs
+room_first {o} p xs ys r = record { sound = r.sound; room = omega (arith, r.room, kept-length p.left xs ys) }
 
 pub room_next : {o o' : List ℕ} {p p' : Put} (xs ys : List ℤ) → RoomFor o p (xs ++ ys) → Puts o p xs o' p' → RoomFor o' p' ys
 room_next {o} {o'} {p} {p'} xs ys r a =
@@ -85,13 +85,13 @@ room_next {o} {o'} {p} {p'} xs ys r a =
 
 -- ---- part after part
 module _ (F : ℕ → List ℤ) where
-  pub chunks-split : (k m : ℕ) → chunks F (m + k) ≡ chunks F k ++ chunks (λ j. F (j + k)) m
+  pub chunks_split : (k m : ℕ) → chunks F (m + k) ≡ chunks F k ++ chunks (λ j. F (j + k)) m
   unfolding chunks
-  chunks-split k zero = let e : 0 + k ≡ k = omega arith in ap (chunks F) e ∙ sym (append-nil (chunks F k))
-  chunks-split k (suc m) =
+  chunks_split k zero = let e : 0 + k ≡ k = omega arith in ap (chunks F) e ∙ sym (append-nil (chunks F k))
+  chunks_split k (suc m) =
       let e : suc m + k ≡ suc (m + k) = omega arith in
       ap (chunks F) e
-      ∙ ap (λ (r : List ℤ). r ++ F (m + k)) (chunks-split k m)
+      ∙ ap (λ (r : List ℤ). r ++ F (m + k)) (chunks_split k m)
       ∙ append_assoc (chunks F k) (chunks (λ j. F (j + k)) m) (F (m + k))
 
   -- room for the next part
@@ -100,8 +100,8 @@ module _ (F : ℕ → List ℤ) where
   part_room {o} {o'} {p} {p'} n k h r a =
       let m : ℕ = n - suc k in
       let d : n ≡ m + suc k = omega arith in
-      let e : chunks F n ≡ chunks F (suc k) ++ chunks (λ j. F (j + suc k)) m = ap (chunks F) d ∙ chunks-split (suc k) m in
-      room_next (chunks F k) (F k) (room-first p (chunks F k ++ F k) (chunks (λ j. F (j + suc k)) m) (rw e at r)) a
+      let e : chunks F n ≡ chunks F (suc k) ++ chunks (λ j. F (j + suc k)) m = ap (chunks F) d ∙ chunks_split (suc k) m in
+      room_next (chunks F k) (F k) (room_first p (chunks F k ++ F k) (chunks (λ j. F (j + suc k)) m) (rw e at r)) a
 
   pub part-turn : {o o' o'' : List ℕ} {p p' p'' : Put} (from x : ℕ) → from ≤ x → Sound p.writer → Puts o p (chunks F (x - from)) o' p' → Puts o' p' (F (x - from)) o'' p''
       → Puts o p (chunks F (x + 1 - from)) o'' p''

@@ -5,48 +5,48 @@ use Rattle.std.proofs.Common.{◌∙◌, add-one, drop_of_length-le, drop-cons, 
 use Rattle.unit.specs.declared.Settings.{Settings}
 use Rattle.unit.specs.Three.{Three}
 use Rattle.unit.specs.Rules.{first, or_else}
-use Rattle.unit.specs.Refusal.{anyAbove, shapeRules, rateRules, frameRules, matrixRules, memoryRules, refusalOf}
+use Rattle.unit.specs.Refusal.{any_above, shape_rules, rate_rules, frame_rules, matrix_rules, memory_rules, refusal_of}
 use Rattle.unit.specs.Laws.Rules.{first-append, none_of}
 use Rattle.unit.specs.Laws.Valid.{shape-kept, frame-kept}
 use Rattle.picture.specs.Code.Sides.{Measured}
 
 -- ---- values from place i on
 module _ (most : ℕ) (vs : List ℕ) (i : ℕ) where
-  pub above-here : i < length vs → most < get_or vs i 0 → true ≡ anyAbove most (drop i vs)
-  above-here h l = rw (drop-cons vs i 0 h, lt-ltb most (get_or vs i 0) l) refl
+  pub above_here : i < length vs → most < get_or vs i 0 → true ≡ any_above most (drop i vs)
+  above_here h l = rw (drop-cons vs i 0 h, lt-ltb most (get_or vs i 0) l) refl
 
-  pub above-next : i < length vs → get_or vs i 0 ≤ most → anyAbove most (drop (i + 1) vs) ≡ anyAbove most (drop i vs)
-  above-next h l = rw (drop-cons vs i 0 h, le-ltb most (get_or vs i 0) l, add-one i) refl
+  pub above_next : i < length vs → get_or vs i 0 ≤ most → any_above most (drop (i + 1) vs) ≡ any_above most (drop i vs)
+  above_next h l = rw (drop-cons vs i 0 h, le-ltb most (get_or vs i 0) l, add-one i) refl
 
-  pub above-none : length vs ≤ i → false ≡ anyAbove most (drop i vs)
-  above-none h = rw (drop_of_length-le vs {i = i} h) refl
+  pub above_none : length vs ≤ i → false ≡ any_above most (drop i vs)
+  above_none h = rw (drop_of_length-le vs {i = i} h) refl
 
 -- ---- what rules 11 and 13 rest on: rules 2 and 8 bound the depths and the frame
-pub measured : (s : Settings) → first (shapeRules s) ≡ 0 → first (frameRules s) ≡ 0 → Measured s
+pub measured : (s : Settings) → first (shape_rules s) ≡ 0 → first (frame_rules s) ≡ 0 → Measured s
 measured s d f = record {
-  shape = (shape-kept s).0 ((none_of (shapeRules s) (tt, (tt, (tt, (tt, tt))))).0 d);
-  frame = (frame-kept s).0 ((none_of (frameRules s) (tt, tt)).0 f);
+  shape = (shape-kept s).0 ((none_of (shape_rules s) (tt, (tt, (tt, (tt, tt))))).0 d);
+  frame = (frame-kept s).0 ((none_of (frame_rules s) (tt, tt)).0 f);
 }
 
 -- ---- the groups, one after the other
 module _ (s : Settings) (m : List ℕ) (p : Three (List ℕ)) (work : List ℤ) where
   -- the first broken rule from a group on
-  abbrev pub fromMatrix : ℕ
-  fromMatrix = or_else (first (matrixRules s m)) (first (memoryRules s p work))
+  abbrev pub from_matrix : ℕ
+  from_matrix = or_else (first (matrix_rules s m)) (first (memory_rules s p work))
 
-  abbrev pub fromFrame : ℕ
-  fromFrame = or_else (first (frameRules s)) fromMatrix
+  abbrev pub from_frame : ℕ
+  from_frame = or_else (first (frame_rules s)) from_matrix
 
-  abbrev pub fromRate : ℕ
-  fromRate = or_else (first (rateRules s.kind s.rate)) fromFrame
+  abbrev pub from_rate : ℕ
+  from_rate = or_else (first (rate_rules s.kind s.rate)) from_frame
 
-  pub by-groups : or_else (first (shapeRules s)) fromRate ≡ refusalOf s m p work
-  unfolding refusalOf
-  by-groups =
-      let lent = first-append (matrixRules s m) (memoryRules s p work) (tt, (tt, tt)) in
-      let framed = first-append (frameRules s) (matrixRules s m ++ memoryRules s p work) (tt, tt) ∙ ap (or_else (first (frameRules s))) lent in
+  pub by_groups : or_else (first (shape_rules s)) from_rate ≡ refusal_of s m p work
+  unfolding refusal_of
+  by_groups =
+      let lent = first-append (matrix_rules s m) (memory_rules s p work) (tt, (tt, tt)) in
+      let framed = first-append (frame_rules s) (matrix_rules s m ++ memory_rules s p work) (tt, tt) ∙ ap (or_else (first (frame_rules s))) lent in
       let rated =
-      first-append (rateRules s.kind s.rate) (frameRules s ++ (matrixRules s m ++ memoryRules s p work)) (tt, (tt, (tt, tt)))
-      ∙ ap (or_else (first (rateRules s.kind s.rate))) framed in
-      sym (first-append (shapeRules s) (rateRules s.kind s.rate ++ (frameRules s ++ (matrixRules s m ++ memoryRules s p work))) (tt, (tt, (tt, (tt, tt))))
-      ∙ ap (or_else (first (shapeRules s))) rated)
+      first-append (rate_rules s.kind s.rate) (frame_rules s ++ (matrix_rules s m ++ memory_rules s p work)) (tt, (tt, (tt, tt)))
+      ∙ ap (or_else (first (rate_rules s.kind s.rate))) framed in
+      sym (first-append (shape_rules s) (rate_rules s.kind s.rate ++ (frame_rules s ++ (matrix_rules s m ++ memory_rules s p work))) (tt, (tt, (tt, (tt, tt))))
+      ∙ ap (or_else (first (shape_rules s))) rated)

@@ -16,8 +16,8 @@ pub record Searches (f : ℕ → Bool) (first last : ℕ) (r : Range) : Type 0 w
   pub fit : r.hi < last → f r.hi ≡ true
 
 module _ (f : ℕ → Bool) (first last : ℕ) where
-  pub search-start : first ≤ last → Searches f first last (record { lo = first; hi = last })
-  search-start h = record { least = omega arith; order = h; most = omega arith; below = λ h. absurd (omega arith); fit = λ h. absurd (omega arith) }
+  pub search_start : first ≤ last → Searches f first last (record { lo = first; hi = last })
+  search_start h = record { least = omega arith; order = h; most = omega arith; below = λ h. absurd (omega arith); fit = λ h. absurd (omega arith) }
 
   -- a turn at index q
   module _ (r : Range) (v : Searches f first last r) (q : ℕ) (low : r.lo ≤ q) (high : q < r.hi) where
@@ -33,13 +33,13 @@ module _ (f : ℕ → Bool) (first last : ℕ) where
         )
 
     module _ (d : Bool) (n : Range) (e : d ≡ f q) (h : n ≡ half_of r q d) where
-      pub search-turn : Searches f first last n
-      search-turn = rw h (turn d e).0
+      pub search_turn : Searches f first last n
+      search_turn = rw h (turn d e).0
 
-      pub search-less : n.hi - n.lo < r.hi - r.lo
-      search-less = rw h (turn d e).1
+      pub search_less : n.hi - n.lo < r.hi - r.lo
+      search_less = rw h (turn d e).1
 
-  pub search-end : (r : Range) → Searches f first last r → r.hi ≤ r.lo → ((i j : ℕ) → i ≤ j → j ≤ last → f i ≡ true → f j ≡ true) → r.hi ≡ elect first last f
-  search-end r v h rises =
+  pub search_end : (r : Range) → Searches f first last r → r.hi ≤ r.lo → ((i j : ℕ) → i ≤ j → j ≤ last → f i ≡ true → f j ≡ true) → r.hi ≡ elect first last f
+  search_end r v h rises =
       let e : r.lo ≡ r.hi = le_antisymm v.order h in
       sym (elect-least f first last r.hi rises (omega (arith, v.least, e)) v.most (λ l. ap (λ (n : ℕ). f (n - 1)) (sym e) ∙ v.below (omega (arith, e, l))) v.fit)

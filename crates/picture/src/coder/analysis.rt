@@ -1,11 +1,11 @@
 // The picture in its work slice, from samples to coefficients.
 ghost use Rattle.std.specs.Prelude.{◌≡◌, ◌+◌, ◌≤◌, ◌^◌, pos, length, replicate};
-ghost use Rattle.unit.specs.Limits.{sideLimit};
+ghost use Rattle.unit.specs.Limits.{side_limit};
 ghost use Rattle.unit.specs.Sizes.{area, offset_of, intlog2};
-ghost use Rattle.picture.specs.Code.Sides.{sizeIn};
+ghost use Rattle.picture.specs.Code.Sides.{size_in};
 ghost use Rattle.unit.specs.Three.{planes};
-ghost use Rattle.picture.specs.Code.Matrix.{lentIn, Carries};
-ghost use Rattle.picture.specs.Code.Analysed.{isLow, layout_of, pictureOf, Called, Ready, Analysed};
+ghost use Rattle.picture.specs.Code.Matrix.{lent_in, Carries};
+ghost use Rattle.picture.specs.Code.Analysed.{is_low, layout_of, picture_of, Called, Ready, Analysed};
 
 use crate::front::matrix::Carried;
 use crate::front::sizes::Sides;
@@ -15,7 +15,7 @@ use wavelet::component::Transform;
 
 // Whether level 0 is predicted.
 fn is_low(kind: PictureKind) -> bool
-    ensures { result ≡ isLow kind }
+    ensures { result ≡ is_low kind }
 {
     match kind {
         PictureKind::LowDelay => true,
@@ -26,7 +26,7 @@ fn is_low(kind: PictureKind) -> bool
 // The layout of a picture: what all slices share.
 fn layout_of(s: Settings, m: Carried) -> Layout
     requires { Carries s m }
-    ensures { result ≡ layout_of s (lentIn m) }
+    ensures { result ≡ layout_of s (lent_in m) }
 {
     let kind = s.kind;
     let values = m.values;
@@ -42,7 +42,7 @@ fn layout_of(s: Settings, m: Carried) -> Layout
 
 // How many numbers a padded component has.
 fn count_of(z: Sides) -> usize
-    ensures { result ≡ area (sizeIn z) }
+    ensures { result ≡ area (size_in z) }
 {
     z.width as usize * z.height as usize
 }
@@ -62,8 +62,8 @@ fn component_at(z: Sides, coefs: usize, rebuilt: usize) -> Component
 // Where a picture stands in the work slice: luma and the two colours one after the other, rebuilt planes as well as
 // coefficients.
 pub(crate) fn picture_of(s: Settings, m: Carried) -> Picture
-    requires { Carries s m × Called s (lentIn m) }
-    ensures { result ≡ pictureOf s (lentIn m) }
+    requires { Carries s m × Called s (lent_in m) }
+    ensures { result ≡ picture_of s (lent_in m) }
 {
     let z = crate::front::sizes::padded_size(s, crate::front::sizes::luma_size(s));
     let c = crate::front::sizes::padded_size(s, crate::front::sizes::colour_size(s));
@@ -86,7 +86,7 @@ pub(crate) fn picture_of(s: Settings, m: Carried) -> Picture
 
 // The offset of samples of an excursion.
 fn offset_of(excursion: u32) -> u16
-    requires { (1 ≤ excursion) × (excursion ≤ sideLimit) }
+    requires { (1 ≤ excursion) × (excursion ≤ side_limit) }
     ensures { (result ≡ offset_of (intlog2 (excursion + 1))) × (result ≤ 2 ^ 15) }
 {
     let d = crate::front::sizes::intlog2(excursion as u64 + 1);
@@ -96,7 +96,7 @@ fn offset_of(excursion: u32) -> u16
 
 // A component of sides z, padded sides q and an excursion, as the layer below takes it.
 fn component_of(z: Sides, q: Sides, excursion: u32) -> wavelet::component::Component
-    requires { (1 ≤ excursion) × (excursion ≤ sideLimit) }
+    requires { (1 ≤ excursion) × (excursion ≤ side_limit) }
     ensures { (result.w ≡ z.width) × ((result.h ≡ z.height) × ((result.pw ≡ q.width) × ((result.ph ≡ q.height)
         × ((result.offset ≡ offset_of (intlog2 (excursion + 1))) × (result.offset ≤ 2 ^ 15))))) }
 {

@@ -1,11 +1,11 @@
 // The passes over a picture's slices: planned, planned by the choices noted, and written, of either kind.
 ghost use Rattle.std.specs.Prelude.{◌≡◌, ◌+◌, ◌^◌, ◌≤◌, ◌<◌, length};
 ghost use Rattle.laws.specs.Code.Laid.{Lays};
-ghost use Rattle.picture.specs.Code.Picture.{slicesIn};
-ghost use Rattle.picture.specs.Code.Choice.{PlanIn, highRuns};
+ghost use Rattle.picture.specs.Code.Picture.{slices_in};
+ghost use Rattle.picture.specs.Code.Choice.{PlanIn, high_runs};
 ghost use Rattle.picture.specs.Code.Passes.{PlansTo};
 ghost use Rattle.picture.specs.Code.Notes.{Notes};
-ghost use Rattle.picture.specs.Code.Low.{lowRuns, workAt, cutsIn, LowIn};
+ghost use Rattle.picture.specs.Code.Low.{low_runs, work_at, cuts_in, LowIn};
 
 use crate::coder::slice_coder::SliceCoder;
 use crate::high::size::Terms;
@@ -14,7 +14,7 @@ use crate::slices::layout::Picture;
 // Plans all slices from place at on, packs their words and notes their choices.
 pub(crate) fn plan_slices(work: &mut [i64], p: Picture, t: Terms, at: usize) -> SliceCoder
     requires { PlanIn p t work.old × (at < 2 ^ 16) }
-    ensures { PlansTo work.old p t at (slicesIn p) result × Notes work.old p t (slicesIn p) work.new }
+    ensures { PlansTo work.old p t at (slices_in p) result × Notes work.old p t (slices_in p) work.new }
 {
     let slices = crate::slices::layout::slice_count(p);
     let mut c = SliceCoder::new(at);
@@ -28,8 +28,8 @@ pub(crate) fn plan_slices(work: &mut [i64], p: Picture, t: Terms, at: usize) -> 
 
 // Plans all slices from place at on by the choices noted.
 pub(crate) fn plan_noted_slices(work: &mut [i64], p: Picture, t: Terms, at: usize) -> SliceCoder
-    requires { PlanIn p t work.old × (Notes work.old p t (slicesIn p) work.old × (at < 2 ^ 16)) }
-    ensures { PlansTo work.old p t at (slicesIn p) result × (work.new ≡ work.old) }
+    requires { PlanIn p t work.old × (Notes work.old p t (slices_in p) work.old × (at < 2 ^ 16)) }
+    ensures { PlansTo work.old p t at (slices_in p) result × (work.new ≡ work.old) }
 {
     let slices = crate::slices::layout::slice_count(p);
     let mut c = SliceCoder::new(at);
@@ -49,9 +49,9 @@ pub(crate) fn put_hq_slices(
     p: Picture,
     t: Terms,
 ) -> SliceCoder
-    requires { PlanIn p t work.old × (Notes work.old p t (slicesIn p) work.old
-        × (at + length (highRuns work.old p t (slicesIn p)) ≤ length out.old)) }
-    ensures { Lays out.old at (highRuns work.old p t (slicesIn p)) out.new result.at × ((result.cut_slices ≡ 0)
+    requires { PlanIn p t work.old × (Notes work.old p t (slices_in p) work.old
+        × (at + length (high_runs work.old p t (slices_in p)) ≤ length out.old)) }
+    ensures { Lays out.old at (high_runs work.old p t (slices_in p)) out.new result.at × ((result.cut_slices ≡ 0)
         × (work.new ≡ work.old)) }
 {
     let slices = crate::slices::layout::slice_count(p);
@@ -73,8 +73,8 @@ pub(crate) fn put_ld_slices(
     n: u32,
 ) -> SliceCoder
     requires { LowIn p n work.old × (at + n ≤ length out.old) }
-    ensures { Lays out.old at (lowRuns p n work.old (slicesIn p)) out.new result.at
-        × ((result.cut_slices ≡ cutsIn p n work.old (slicesIn p)) × (work.new ≡ workAt p n work.old (slicesIn p))) }
+    ensures { Lays out.old at (low_runs p n work.old (slices_in p)) out.new result.at
+        × ((result.cut_slices ≡ cuts_in p n work.old (slices_in p)) × (work.new ≡ work_at p n work.old (slices_in p))) }
 {
     let slices = crate::slices::layout::slice_count(p);
     let mut c = SliceCoder::new(at);

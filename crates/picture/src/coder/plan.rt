@@ -1,11 +1,11 @@
 // The planning pass of high quality, and the scaler that it ends with.
 ghost use Rattle.std.specs.Prelude.{◌≡◌, ◌^◌, ◌≤◌};
 ghost use Rattle.unit.specs.Parameters.{overhead};
-ghost use Rattle.unit.specs.Unit.{majorVersion, highParameters};
-ghost use Rattle.picture.specs.Code.Matrix.{lentIn};
+ghost use Rattle.unit.specs.Unit.{major_version, high_parameters};
+ghost use Rattle.picture.specs.Code.Matrix.{lent_in};
 ghost use Rattle.picture.specs.Code.Head.{CanCarry};
-ghost use Rattle.picture.specs.Code.Picture.{slicesIn};
-ghost use Rattle.picture.specs.Code.Choice.{termsOf, isTarget};
+ghost use Rattle.picture.specs.Code.Picture.{slices_in};
+ghost use Rattle.picture.specs.Code.Choice.{terms_of, is_target};
 ghost use Rattle.picture.specs.Code.Passes.{PlansTo, HighIn, Settles};
 ghost use Rattle.picture.specs.Code.Notes.{Notes, Standing};
 
@@ -26,7 +26,7 @@ pub(crate) struct Settled {
 // The terms of a call with scaler c: the bytes for all slices are the target less overhead, or 0 below that.
 pub(crate) fn terms_of(s: Settings, m: Carried, c: u32) -> Terms
     requires { CanCarry s m }
-    ensures { result ≡ termsOf s (lentIn m) c }
+    ensures { result ≡ terms_of s (lent_in m) c }
 {
     let rate = s.rate;
     let taken = crate::front::header::overhead(
@@ -47,9 +47,9 @@ pub(crate) fn terms_of(s: Settings, m: Carried, c: u32) -> Terms
 // The planning pass with scaler c.
 fn plan_picture(s: Settings, m: Carried, work: &mut [i64], p: Picture, c: u32) -> SliceCoder
     requires { HighIn s p work.old × (CanCarry s m × ((1 ≤ c) × (c ≤ 2 ^ 24))) }
-    ensures { PlansTo work.old p (termsOf s (lentIn m) c)
-        (overhead (majorVersion s) (highParameters s (lentIn m) c)) (slicesIn p) result
-        × Notes work.old p (termsOf s (lentIn m) c) (slicesIn p) work.new }
+    ensures { PlansTo work.old p (terms_of s (lent_in m) c)
+        (overhead (major_version s) (high_parameters s (lent_in m) c)) (slices_in p) result
+        × Notes work.old p (terms_of s (lent_in m) c) (slices_in p) work.new }
 {
     let t = terms_of(s, m, c);
     let at = crate::front::header::overhead(
@@ -62,7 +62,7 @@ fn plan_picture(s: Settings, m: Carried, work: &mut [i64], p: Picture, c: u32) -
 
 // Whether there is a byte target.
 fn is_target(r: RateControl) -> bool
-    ensures { result ≡ isTarget r }
+    ensures { result ≡ is_target r }
 {
     match r {
         RateControl::Lossless => false,
@@ -76,9 +76,9 @@ fn is_target(r: RateControl) -> bool
 fn plan_again(s: Settings, m: Carried, work: &mut [i64], p: Picture, c: u32) -> SliceCoder
     requires { HighIn s p work.old × (CanCarry s m × (((1 ≤ c) × (c ≤ 2 ^ 24))
         × Standing s p work.old)) }
-    ensures { PlansTo work.old p (termsOf s (lentIn m) c)
-        (overhead (majorVersion s) (highParameters s (lentIn m) c)) (slicesIn p) result
-        × Notes work.old p (termsOf s (lentIn m) c) (slicesIn p) work.new }
+    ensures { PlansTo work.old p (terms_of s (lent_in m) c)
+        (overhead (major_version s) (high_parameters s (lent_in m) c)) (slices_in p) result
+        × Notes work.old p (terms_of s (lent_in m) c) (slices_in p) work.new }
 {
     let rate = s.rate;
     if is_target(rate) {
@@ -97,8 +97,8 @@ fn plan_again(s: Settings, m: Carried, work: &mut [i64], p: Picture, c: u32) -> 
 // need over 255, rounded up. The words of the last pass are packed, and its choices noted.
 pub(crate) fn settle(s: Settings, m: Carried, work: &mut [i64], p: Picture) -> Settled
     requires { HighIn s p work.old × CanCarry s m }
-    ensures { Settles work.old p s (lentIn m) result
-        × Notes work.old p (termsOf s (lentIn m) result.scaler) (slicesIn p) work.new }
+    ensures { Settles work.old p s (lent_in m) result
+        × Notes work.old p (terms_of s (lent_in m) result.scaler) (slices_in p) work.new }
 {
     let mut c = s.slice_size_scaler;
     let mut r = plan_picture(s, m, work, p, c);

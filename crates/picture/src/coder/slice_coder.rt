@@ -3,11 +3,11 @@ ghost use Rattle.std.specs.Prelude.{◌≡◌, ◌+◌, ◌*◌, ◌^◌, ◌≤
 ghost use Rattle.laws.specs.Code.Laid.{laid, Lays};
 ghost use Rattle.codewords.specs.Bytes.{to_bytes};
 ghost use Rattle.picture.specs.Code.Strip.{Small};
-ghost use Rattle.picture.specs.Code.Picture.{slicesIn};
-ghost use Rattle.picture.specs.Code.Choice.{planIn, choiceIn, words_in, words_to, sliceNumberCount, FewBits, TermsIn, PlanIn};
-ghost use Rattle.picture.specs.Code.Notes.{noteIn, Notes};
-ghost use Rattle.picture.specs.Code.Passes.{plannedBy, PlansOn};
-ghost use Rattle.picture.specs.Code.Low.{lowBitsIn, lowCutIn, lowWorkIn, LowIn};
+ghost use Rattle.picture.specs.Code.Picture.{slices_in};
+ghost use Rattle.picture.specs.Code.Choice.{plan_in, choice_in, words_in, words_to, slice_number_count, FewBits, TermsIn, PlanIn};
+ghost use Rattle.picture.specs.Code.Notes.{note_in, Notes};
+ghost use Rattle.picture.specs.Code.Passes.{planned_by, PlansOn};
+ghost use Rattle.picture.specs.Code.Low.{low_bits_in, low_cut_in, low_work_in, LowIn};
 
 use crate::high::choice::Choice;
 use crate::high::size::Terms;
@@ -42,7 +42,7 @@ impl SliceCoder {
     // Plans a high-quality slice of choice c.
     fn plan_choice(self, t: Terms, c: Choice) -> SliceCoder
         requires { TermsIn t × (FewBits c × ((self.at < 2 ^ 60) × (self.words < 2 ^ 60))) }
-        ensures { (result ≡ plannedBy t c self) × (result.at ≤ self.at + 2 ^ 34) }
+        ensures { (result ≡ planned_by t c self) × (result.at ≤ self.at + 2 ^ 34) }
     {
         let y = c.y;
         let c1 = c.c1;
@@ -59,9 +59,9 @@ impl SliceCoder {
 
     // Plans high-quality slice k, packs its words and notes its choice.
     pub(crate) fn plan_hq_slice(self, work: &mut [i64], p: Picture, t: Terms, k: u32) -> SliceCoder
-        requires { PlanIn p t work.old × ((k < slicesIn p) × ((self.at < 2 ^ 60) × (self.words + sliceNumberCount p k ≤ p.front))) }
-        ensures { PlansOn (planIn work.old p t k) self result
-            × ((work.new ≡ noteIn (laid work.old self.words (words_in work.old p t k)) (p.end + 7 * k) (choiceIn work.old p t k))
+        requires { PlanIn p t work.old × ((k < slices_in p) × ((self.at < 2 ^ 60) × (self.words + slice_number_count p k ≤ p.front))) }
+        ensures { PlansOn (plan_in work.old p t k) self result
+            × ((work.new ≡ note_in (laid work.old self.words (words_in work.old p t k)) (p.end + 7 * k) (choice_in work.old p t k))
             × Small p.front p.end work.new) }
     {
         let c = crate::high::choice::choice_of(work, p, t, k, self.index, self.words);
@@ -77,9 +77,9 @@ impl SliceCoder {
         t: Terms,
         k: u32,
     ) -> SliceCoder
-        requires { PlanIn p t work.old × ((k < slicesIn p) × (Notes work.old p t (slicesIn p) work.old
+        requires { PlanIn p t work.old × ((k < slices_in p) × (Notes work.old p t (slices_in p) work.old
             × ((self.at < 2 ^ 60) × (self.words ≡ length (words_to work.old p t k))))) }
-        ensures { PlansOn (planIn work.old p t k) self result × (work.new ≡ work.old) }
+        ensures { PlansOn (plan_in work.old p t k) self result × (work.new ≡ work.old) }
     {
         let c = crate::high::notes::noted_choice(work, p, t, k, self.words);
         self.plan_choice(t, c)
@@ -94,9 +94,9 @@ impl SliceCoder {
         t: Terms,
         k: u32,
     ) -> SliceCoder
-        requires { PlanIn p t work.old × ((k < slicesIn p) × (Notes work.old p t (slicesIn p) work.old × ((self.words ≡ length (words_to work.old p t k))
-            × (self.at + length (to_bytes (planIn work.old p t k).bits) ≤ length out.old)))) }
-        ensures { Lays out.old self.at (to_bytes (planIn work.old p t k).bits) out.new result.at
+        requires { PlanIn p t work.old × ((k < slices_in p) × (Notes work.old p t (slices_in p) work.old × ((self.words ≡ length (words_to work.old p t k))
+            × (self.at + length (to_bytes (plan_in work.old p t k).bits) ≤ length out.old)))) }
+        ensures { Lays out.old self.at (to_bytes (plan_in work.old p t k).bits) out.new result.at
             × ((result.cut_slices ≡ self.cut_slices) × ((result.largest ≡ self.largest)
             × ((result.words ≡ self.words + length (words_in work.old p t k)) × (work.new ≡ work.old)))) }
     {
@@ -120,11 +120,11 @@ impl SliceCoder {
         n: u32,
         k: u32,
     ) -> SliceCoder
-        requires { LowIn p n work.old × ((k < slicesIn p) × ((self.cut_slices ≤ k)
-            × (self.at + length (to_bytes (lowBitsIn p n work.old k)) ≤ length out.old))) }
-        ensures { Lays out.old self.at (to_bytes (lowBitsIn p n work.old k)) out.new result.at
-            × ((work.new ≡ lowWorkIn p n work.old k) × (Small p.front p.end work.new
-            × ((result.cut_slices ≡ self.cut_slices + lowCutIn p n work.old k) × (result.largest ≡ self.largest)))) }
+        requires { LowIn p n work.old × ((k < slices_in p) × ((self.cut_slices ≤ k)
+            × (self.at + length (to_bytes (low_bits_in p n work.old k)) ≤ length out.old))) }
+        ensures { Lays out.old self.at (to_bytes (low_bits_in p n work.old k)) out.new result.at
+            × ((work.new ≡ low_work_in p n work.old k) × (Small p.front p.end work.new
+            × ((result.cut_slices ≡ self.cut_slices + low_cut_in p n work.old k) × (result.largest ≡ self.largest)))) }
     {
         let bytes = crate::low::size::slice_bytes(n, crate::slices::layout::slice_count(p), k);
         let room = crate::low::size::room_of(bytes);

@@ -1,11 +1,11 @@
 // Which rule turns a call away: document 01, "Answers that turn a call away"; document 02, (iii).
 ghost use Rattle.std.specs.Prelude.{◌≡◌, ◌*◌, ◌≤◌};
 ghost use Rattle.unit.specs.Sizes.{area};
-ghost use Rattle.unit.specs.Subbands.{subbandCount, paddedArea};
+ghost use Rattle.unit.specs.Subbands.{subband_count, padded_area};
 ghost use Rattle.unit.specs.Rules.{first};
-ghost use Rattle.unit.specs.Refusal.{outside, anyAbove, badWavelets, badDepths, badSlices, badSizes, noTarget, badIndex, badTarget, badFrame, badMatrix, noMatrix, badArea, badPlanes, shortWork, shapeRules, rateRules, frameRules, matrixRules, memoryRules, refusalOf};
-ghost use Rattle.unit.specs.Outcome.{codingRefusal};
-ghost use Rattle.picture.specs.Code.Sides.{sizeIn, Measured, InFrame};
+ghost use Rattle.unit.specs.Refusal.{outside, any_above, bad_wavelets, bad_depths, bad_slices, bad_sizes, no_target, bad_index, bad_target, bad_frame, bad_matrix, no_matrix, bad_area, bad_planes, short_work, shape_rules, rate_rules, frame_rules, matrix_rules, memory_rules, refusal_of};
+ghost use Rattle.unit.specs.Outcome.{coding_refusal};
+ghost use Rattle.picture.specs.Code.Sides.{size_in, Measured, InFrame};
 ghost use Rattle.unit.specs.Three.{planes};
 
 use crate::front::sizes::{Sides, colour_size, luma_size, padded_size};
@@ -23,7 +23,7 @@ pub(crate) fn refusal(
     c2: &[u16],
     work: &[i64],
 ) -> u32
-    ensures { result ≡ refusalOf s matrix.now (planes y.now c1.now c2.now) work.now }
+    ensures { result ≡ refusal_of s matrix.now (planes y.now c1.now c2.now) work.now }
 {
     let shape = shape_refusal(s);
     if shape != 0 {
@@ -49,7 +49,7 @@ pub(crate) fn refusal(
 // The number of the first rule that is decided while coding, and is broken by a unit of n bytes for an output of len
 // bytes, 0 where none is: 14, the unit is longer than the output, or than 4,294,967,295 bytes.
 pub(crate) fn coding_refusal(len: usize, n: u64) -> u32
-    ensures { result ≡ codingRefusal len n }
+    ensures { result ≡ coding_refusal len n }
 {
     if ((len as u64) < n) | (n > 4294967295) {
         14
@@ -60,7 +60,7 @@ pub(crate) fn coding_refusal(len: usize, n: u64) -> u32
 
 // Wavelets, depths and slices: rules 1 to 4.
 fn shape_refusal(s: Settings) -> u32
-    ensures { result ≡ first (shapeRules s) }
+    ensures { result ≡ first (shape_rules s) }
 {
     if bad_wavelets(s) {
         return 1;
@@ -79,7 +79,7 @@ fn shape_refusal(s: Settings) -> u32
 
 // Kind and rate: rules 5 to 7.
 fn rate_refusal(kind: PictureKind, rate: RateControl) -> u32
-    ensures { result ≡ first (rateRules kind rate) }
+    ensures { result ≡ first (rate_rules kind rate) }
 {
     if no_target(kind, rate) {
         return 5;
@@ -95,14 +95,14 @@ fn rate_refusal(kind: PictureKind, rate: RateControl) -> u32
 
 // The frame and its samples: rule 8.
 fn frame_refusal(s: Settings) -> u32
-    ensures { result ≡ first (frameRules s) }
+    ensures { result ≡ first (frame_rules s) }
 {
     if bad_frame(s) { 8 } else { 0 }
 }
 
 // The matrix: rules 9 and 10.
 fn matrix_refusal(s: Settings, matrix: &[u32]) -> u32
-    ensures { result ≡ first (matrixRules s matrix.now) }
+    ensures { result ≡ first (matrix_rules s matrix.now) }
 {
     if bad_matrix(s, matrix) {
         return 9;
@@ -116,7 +116,7 @@ fn matrix_refusal(s: Settings, matrix: &[u32]) -> u32
 // The padded area and what is lent: rules 11 to 13.
 fn memory_refusal(s: Settings, y: &[u16], c1: &[u16], c2: &[u16], work: &[i64]) -> u32
     requires { Measured s }
-    ensures { result ≡ first (memoryRules s (planes y.now c1.now c2.now) work.now) }
+    ensures { result ≡ first (memory_rules s (planes y.now c1.now c2.now) work.now) }
 {
     if bad_area(s) {
         return 11;
@@ -146,21 +146,21 @@ fn product(a: u32, b: u32) -> u64
 
 // The area of a component.
 fn area(z: Sides) -> u64
-    ensures { result ≡ area (sizeIn z) }
+    ensures { result ≡ area (size_in z) }
 {
     product(z.width, z.height)
 }
 
 // Whether rule 1 is broken.
 fn bad_wavelets(s: Settings) -> bool
-    ensures { result ≡ badWavelets s }
+    ensures { result ≡ bad_wavelets s }
 {
     (s.wavelet_index > 6) | (s.wavelet_index_ho > 6)
 }
 
 // Whether rule 2 is broken.
 fn bad_depths(s: Settings) -> bool
-    ensures { result ≡ badDepths s }
+    ensures { result ≡ bad_depths s }
 {
     too_deep(
         s.wavelet_index,
@@ -172,7 +172,7 @@ fn bad_depths(s: Settings) -> bool
 
 // Whether rule 3 is broken.
 fn bad_slices(s: Settings) -> bool
-    ensures { result ≡ badSlices s }
+    ensures { result ≡ bad_slices s }
 {
     outside(65535, s.slices_x)
         | outside(65535, s.slices_y)
@@ -181,14 +181,14 @@ fn bad_slices(s: Settings) -> bool
 
 // Whether rule 4 is broken.
 fn bad_sizes(s: Settings) -> bool
-    ensures { result ≡ badSizes s }
+    ensures { result ≡ bad_sizes s }
 {
     outside(65535, s.slice_size_scaler) | (s.slice_prefix_bytes > 255)
 }
 
 // Whether rule 5 is broken.
 fn no_target(kind: PictureKind, rate: RateControl) -> bool
-    ensures { result ≡ noTarget kind rate }
+    ensures { result ≡ no_target kind rate }
 {
     match kind {
         PictureKind::HighQuality => false,
@@ -202,7 +202,7 @@ fn no_target(kind: PictureKind, rate: RateControl) -> bool
 
 // Whether rule 6 is broken.
 fn bad_index(rate: RateControl) -> bool
-    ensures { result ≡ badIndex rate }
+    ensures { result ≡ bad_index rate }
 {
     match rate {
         RateControl::Lossless => false,
@@ -213,7 +213,7 @@ fn bad_index(rate: RateControl) -> bool
 
 // Whether rule 7 is broken.
 fn bad_target(rate: RateControl) -> bool
-    ensures { result ≡ badTarget rate }
+    ensures { result ≡ bad_target rate }
 {
     match rate {
         RateControl::Lossless => false,
@@ -224,7 +224,7 @@ fn bad_target(rate: RateControl) -> bool
 
 // Whether rule 8 is broken.
 fn bad_frame(s: Settings) -> bool
-    ensures { result ≡ badFrame s }
+    ensures { result ≡ bad_frame s }
 {
     (s.color_diff_format > 2)
         | (s.picture_coding_mode > 1)
@@ -238,7 +238,7 @@ fn bad_frame(s: Settings) -> bool
 
 // Whether a value is above most.
 fn any_above(most: u32, values: &[u32]) -> bool
-    ensures { result ≡ anyAbove most values.now }
+    ensures { result ≡ any_above most values.now }
 {
     let n = values.len();
     let mut i = 0;
@@ -253,14 +253,14 @@ fn any_above(most: u32, values: &[u32]) -> bool
 
 // How many subbands a component has.
 fn subband_count(s: Settings) -> u64
-    ensures { result ≡ subbandCount s.dwt_depth_ho s.dwt_depth }
+    ensures { result ≡ subband_count s.dwt_depth_ho s.dwt_depth }
 {
     1 + s.dwt_depth_ho as u64 + 3 * s.dwt_depth as u64
 }
 
 // Whether rule 9 is broken: the matrix is looked at only where a custom one is asked for.
 fn bad_matrix(s: Settings, matrix: &[u32]) -> bool
-    ensures { result ≡ badMatrix s matrix.now }
+    ensures { result ≡ bad_matrix s matrix.now }
 {
     if !s.custom_matrix {
         return false;
@@ -273,7 +273,7 @@ fn bad_matrix(s: Settings, matrix: &[u32]) -> bool
 
 // Whether rule 10 is broken.
 fn no_matrix(s: Settings) -> bool
-    ensures { result ≡ noMatrix s }
+    ensures { result ≡ no_matrix s }
 {
     if s.custom_matrix {
         return false;
@@ -289,8 +289,8 @@ fn no_matrix(s: Settings) -> bool
 
 // The area of a padded component; rules 2 and 8 bound the depths and the frame.
 fn padded_area(s: Settings, z: Sides) -> u64
-    requires { Measured s × InFrame s (sizeIn z) }
-    ensures { (result ≡ paddedArea s (sizeIn z)) × (result ≤ 17179869184) }
+    requires { Measured s × InFrame s (size_in z) }
+    ensures { (result ≡ padded_area s (size_in z)) × (result ≤ 17179869184) }
 {
     area(padded_size(s, z))
 }
@@ -298,14 +298,14 @@ fn padded_area(s: Settings, z: Sides) -> u64
 // Whether rule 11 is broken.
 fn bad_area(s: Settings) -> bool
     requires { Measured s }
-    ensures { result ≡ badArea s }
+    ensures { result ≡ bad_area s }
 {
     padded_area(s, luma_size(s)) > 67108864
 }
 
 // Whether rule 12 is broken.
 fn bad_planes(s: Settings, y: &[u16], c1: &[u16], c2: &[u16]) -> bool
-    ensures { result ≡ badPlanes s (planes y.now c1.now c2.now) }
+    ensures { result ≡ bad_planes s (planes y.now c1.now c2.now) }
 {
     let luma = area(luma_size(s));
     let colour = area(colour_size(s));
@@ -315,7 +315,7 @@ fn bad_planes(s: Settings, y: &[u16], c1: &[u16], c2: &[u16]) -> bool
 // Whether rule 13 is broken.
 fn short_work(s: Settings, work: &[i64]) -> bool
     requires { Measured s }
-    ensures { result ≡ shortWork s work.now }
+    ensures { result ≡ short_work s work.now }
 {
     let luma = padded_area(s, luma_size(s));
     let colour = padded_area(s, colour_size(s));

@@ -2,8 +2,8 @@
 ghost use Rattle.std.specs.Prelude.{◌≡◌, false, ◌+◌, ◌^◌, ◌≤◌, ◌<◌};
 ghost use Rattle.laws.specs.Code.Laid.{laid};
 ghost use Rattle.picture.specs.Code.Strip.{Small};
-ghost use Rattle.picture.specs.Code.Picture.{slicesIn, numbersIn, SliceIn};
-ghost use Rattle.picture.specs.Code.Choice.{choiceBy, choiceIn, sliceWords, words_in, sliceNumberCount, words_of, FewBits, PlanIn};
+ghost use Rattle.picture.specs.Code.Picture.{slices_in, numbers_in, SliceIn};
+ghost use Rattle.picture.specs.Code.Choice.{choice_by, choice_in, slice_words, words_in, slice_number_count, words_of, FewBits, PlanIn};
 
 use crate::high::packed::Packed;
 use crate::high::size::Terms;
@@ -31,9 +31,9 @@ pub(crate) fn words_of(c: Choice) -> usize
 
 // Slice k's choice of index q, its runs packed from place from on.
 fn pack_slice(work: &mut [i64], p: Picture, k: u32, q: u32, from: usize) -> Choice
-    requires { SliceIn p work.old k q × ((p.layout.predicted ≡ false) × (from + sliceNumberCount p k ≤ p.front)) }
-    ensures { (result ≡ choiceBy (numbersIn work.old p k) q)
-        × ((work.new ≡ laid work.old from (sliceWords (numbersIn work.old p k q))) × Small p.front p.end work.new) }
+    requires { SliceIn p work.old k q × ((p.layout.predicted ≡ false) × (from + slice_number_count p k ≤ p.front)) }
+    ensures { (result ≡ choice_by (numbers_in work.old p k) q)
+        × ((work.new ≡ laid work.old from (slice_words (numbers_in work.old p k q))) × Small p.front p.end work.new) }
 {
     let l = p.layout;
     let luma = p.y;
@@ -68,8 +68,8 @@ pub(crate) fn choice_of(
     g: u32,
     from: usize,
 ) -> Choice
-    requires { PlanIn p t work.old × ((k < slicesIn p) × (from + sliceNumberCount p k ≤ p.front)) }
-    ensures { (result ≡ choiceIn work.old p t k)
+    requires { PlanIn p t work.old × ((k < slices_in p) × (from + slice_number_count p k ≤ p.front)) }
+    ensures { (result ≡ choice_in work.old p t k)
         × ((work.new ≡ laid work.old from (words_in work.old p t k)) × Small p.front p.end work.new) }
 {
     let q = crate::high::election::index_of(work, p, t, k, g);

@@ -1,13 +1,13 @@
 // The index of a high-quality slice by its size, its share and the election.
 ghost use Rattle.std.specs.Prelude.{◌≡◌, ◌*◌, ◌≤◌, ◌<◌};
 ghost use Rattle.unit.specs.declared.PictureKind.TheVariants.{HighQuality};
-ghost use Rattle.unit.specs.Limits.{areaLimit, lastIndex};
+ghost use Rattle.unit.specs.Limits.{area_limit, last_index};
 ghost use Rattle.unit.specs.Elect.{elect};
 ghost use Rattle.unit.specs.HighQuality.{fits_by};
 ghost use Rattle.picture.specs.Code.Layout.{RunLies};
-ghost use Rattle.picture.specs.Code.Picture.{slicesIn, run_of, numbersIn, SliceIn};
-ghost use Rattle.picture.specs.Code.Tally.{trimmedOf};
-ghost use Rattle.picture.specs.Code.Choice.{indexIn, TermsIn, PlanIn};
+ghost use Rattle.picture.specs.Code.Picture.{slices_in, run_of, numbers_in, SliceIn};
+ghost use Rattle.picture.specs.Code.Tally.{trimmed_of};
+ghost use Rattle.picture.specs.Code.Choice.{index_in, TermsIn, PlanIn};
 
 use crate::high::size::Terms;
 use crate::slices::layout::{Component, Picture};
@@ -17,8 +17,8 @@ use unit::RateControl;
 
 // The run of a component of slice k at index q, without its trailing zeros.
 fn trimmed_run(work: &[i64], p: Picture, c: Component, k: u32, q: u32) -> Trimmed
-    requires { RunLies p.layout c c k q work.now × (c.width * c.height ≤ areaLimit) }
-    ensures { result ≡ trimmedOf (run_of work.now p c k q) }
+    requires { RunLies p.layout c c k q work.now × (c.width * c.height ≤ area_limit) }
+    ensures { result ≡ trimmed_of (run_of work.now p c k q) }
 {
     let l = p.layout;
     let v = crate::slices::layout::window_at(l, c, 0, k);
@@ -29,8 +29,8 @@ fn trimmed_run(work: &[i64], p: Picture, c: Component, k: u32, q: u32) -> Trimme
 
 // Whether slice k fits its share at index q, where y is luma's run.
 fn fits_with(work: &[i64], p: Picture, t: Terms, share: u64, k: u32, q: u32, y: Trimmed) -> bool
-    requires { SliceIn p work.now k q × (TermsIn t × (y ≡ trimmedOf (run_of work.now p p.y k q))) }
-    ensures { result ≡ fits_by t.prefix t.scaler share (numbersIn work.now p k) q }
+    requires { SliceIn p work.now k q × (TermsIn t × (y ≡ trimmed_of (run_of work.now p p.y k q))) }
+    ensures { result ≡ fits_by t.prefix t.scaler share (numbers_in work.now p k) q }
 {
     let first = p.c1;
     let second = p.c2;
@@ -42,7 +42,7 @@ fn fits_with(work: &[i64], p: Picture, t: Terms, share: u64, k: u32, q: u32, y: 
 // Whether slice k fits its share at index q. Where luma alone does not fit, the colours are not looked at.
 fn fits(work: &[i64], p: Picture, t: Terms, share: u64, k: u32, q: u32) -> bool
     requires { SliceIn p work.now k q × TermsIn t }
-    ensures { result ≡ fits_by t.prefix t.scaler share (numbersIn work.now p k) q }
+    ensures { result ≡ fits_by t.prefix t.scaler share (numbers_in work.now p k) q }
 {
     let luma = p.y;
     let y = trimmed_run(work, p, luma, k, q);
@@ -92,8 +92,8 @@ fn next_index(r: Range, ends: Range, g: u32, step: u32) -> u32
 // The election from the terms' first index to 255, from the guess g on. What fits at an index fits at every larger one,
 // so that the least index that fits is elected, or 255.
 fn elect_qindex(work: &[i64], p: Picture, t: Terms, share: u64, k: u32, g: u32) -> u32
-    requires { PlanIn p t work.now × (k < slicesIn p) }
-    ensures { result ≡ elect t.lo (lastIndex HighQuality) (fits_by t.prefix t.scaler share (numbersIn work.now p k)) }
+    requires { PlanIn p t work.now × (k < slices_in p) }
+    ensures { result ≡ elect t.lo (last_index HighQuality) (fits_by t.prefix t.scaler share (numbers_in work.now p k)) }
 {
     let ends = Range { lo: t.lo, hi: 255 };
     let mut r = ends;
@@ -108,8 +108,8 @@ fn elect_qindex(work: &[i64], p: Picture, t: Terms, share: u64, k: u32, g: u32) 
 
 // The index of slice k: lossless is index 0. The guess g says where an election begins.
 pub(crate) fn index_of(work: &[i64], p: Picture, t: Terms, k: u32, g: u32) -> u32
-    requires { PlanIn p t work.now × (k < slicesIn p) }
-    ensures { (result ≡ indexIn work.now p t k) × (result ≤ 255) }
+    requires { PlanIn p t work.now × (k < slices_in p) }
+    ensures { (result ≡ index_in work.now p t k) × (result ≤ 255) }
 {
     let rate = t.rate;
     match rate {

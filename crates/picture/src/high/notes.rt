@@ -1,9 +1,9 @@
 // The choices of high-quality slices, noted in the work slice.
 ghost use Rattle.std.specs.Prelude.{◌≡◌, ◌+◌, ◌^◌, ◌<◌, pos, length, set};
 ghost use Rattle.laws.specs.Rows.{at};
-ghost use Rattle.picture.specs.Code.Picture.{slicesIn};
-ghost use Rattle.picture.specs.Code.Choice.{choiceIn, words_to, FewBits, PlanIn};
-ghost use Rattle.picture.specs.Code.Notes.{noteRun, noteIn, RunAt, Notes};
+ghost use Rattle.picture.specs.Code.Picture.{slices_in};
+ghost use Rattle.picture.specs.Code.Choice.{choice_in, words_to, FewBits, PlanIn};
+ghost use Rattle.picture.specs.Code.Notes.{note_run, note_in, RunAt, Notes};
 
 use crate::high::choice::Choice;
 use crate::high::packed::Packed;
@@ -23,7 +23,7 @@ fn note(work: &mut [i64], i: usize, v: u64)
 // Notes a run from place i on.
 fn note_run(work: &mut [i64], i: usize, r: Packed)
     requires { (i < 2 ^ 40) × ((r.words < 2 ^ 63) × (r.bits < 2 ^ 63)) }
-    ensures { work.new ≡ noteRun work.old i r }
+    ensures { work.new ≡ note_run work.old i r }
 {
     note(work, i, r.words as u64);
     note(work, i + 1, r.bits);
@@ -32,7 +32,7 @@ fn note_run(work: &mut [i64], i: usize, r: Packed)
 // Notes a choice in seven places from i on.
 pub(crate) fn note_choice(work: &mut [i64], i: usize, c: Choice)
     requires { (i < 2 ^ 39) × FewBits c }
-    ensures { work.new ≡ noteIn work.old i c }
+    ensures { work.new ≡ note_in work.old i c }
 {
     let y = c.y;
     let c1 = c.c1;
@@ -58,8 +58,8 @@ fn noted_run(work: &[i64], i: usize) -> Packed
 // The choice of slice k as it was noted, or where the work slice does not reach so far chosen anew; its words stand
 // from place from on.
 pub(crate) fn noted_choice(work: &mut [i64], p: Picture, t: Terms, k: u32, from: usize) -> Choice
-    requires { PlanIn p t work.old × ((k < slicesIn p) × (Notes work.old p t (slicesIn p) work.old × (from ≡ length (words_to work.old p t k)))) }
-    ensures { (result ≡ choiceIn work.old p t k) × (work.new ≡ work.old) }
+    requires { PlanIn p t work.old × ((k < slices_in p) × (Notes work.old p t (slices_in p) work.old × (from ≡ length (words_to work.old p t k)))) }
+    ensures { (result ≡ choice_in work.old p t k) × (work.new ≡ work.old) }
 {
     let i = p.end + 7 * k as usize;
     if i + 6 < work.len() {

@@ -6,9 +6,9 @@ ghost use Rattle.laws.specs.Code.Laid.{Lays};
 ghost use Rattle.codewords.specs.CodeWord.{codes};
 ghost use Rattle.codewords.specs.Code.Writer.{Room, Wrote};
 ghost use Rattle.unit.specs.Trim.{is_zero, bits_of};
-ghost use Rattle.picture.specs.Code.Strip.{placeNumbers, rowNumbers, stripNumbers, Inside};
-ghost use Rattle.picture.specs.Code.Layout.{bandCount, runNumbers};
-ghost use Rattle.picture.specs.Code.Packed.{zerosWord, wordNumbers, unpacked, wordsAt, Packable, PackIn, PackRunIn, Packs};
+ghost use Rattle.picture.specs.Code.Strip.{place_numbers, row_numbers, strip_numbers, Inside};
+ghost use Rattle.picture.specs.Code.Layout.{band_count, run_numbers};
+ghost use Rattle.picture.specs.Code.Packed.{zeros_word, word_numbers, unpacked, words_at, Packable, PackIn, PackRunIn, Packs};
 
 use crate::slices::layout::{Component, Layout};
 use crate::slices::strip::Strip;
@@ -31,8 +31,8 @@ pub(crate) struct Packed {
 
 // Packs n zeros into one word at place at, if there are any, and gives the place after it.
 fn pack_zeros(work: &mut [i64], at: usize, n: usize) -> usize
-    requires { (at + length (zerosWord n) ≤ length work.old) × (n ≤ 2 ^ 30) }
-    ensures { Lays work.old at (zerosWord n) work.new result }
+    requires { (at + length (zeros_word n) ≤ length work.old) × (n ≤ 2 ^ 30) }
+    ensures { Lays work.old at (zeros_word n) work.new result }
 {
     if n == 0 {
         return at;
@@ -58,7 +58,7 @@ fn pack_number(work: &mut [i64], t: Packing, z: i64) -> Packing
 // Packs the number of a place.
 fn pack_place(work: &mut [i64], s: Strip, y: usize, x: usize, t: Packing) -> Packing
     requires { PackIn work.old s t 1 × Inside s y x }
-    ensures { Packs work.old t (placeNumbers work.old s y x) work.new result }
+    ensures { Packs work.old t (place_numbers work.old s y x) work.new result }
 {
     let c = crate::slices::strip::coefficient(work, s, s.coefs, y, x);
     let z = quantiser::forward_small(c, s.factor);
@@ -75,7 +75,7 @@ fn pack_place(work: &mut [i64], s: Strip, y: usize, x: usize, t: Packing) -> Pac
 // Packs the numbers of a row of the strip.
 fn pack_row(work: &mut [i64], s: Strip, y: usize, t: Packing) -> Packing
     requires { PackIn work.old s t (s.right - s.left) × ((s.top ≤ y) × (y < s.bottom)) }
-    ensures { Packs work.old t (rowNumbers work.old s y s.left (s.right - s.left)) work.new result }
+    ensures { Packs work.old t (row_numbers work.old s y s.left (s.right - s.left)) work.new result }
 {
     let mut r = t;
     let mut x = s.left;
@@ -89,7 +89,7 @@ fn pack_row(work: &mut [i64], s: Strip, y: usize, t: Packing) -> Packing
 // Packs the numbers of the strip.
 fn pack_strip(work: &mut [i64], s: Strip, t: Packing) -> Packing
     requires { PackIn work.old s t ((s.bottom - s.top) * (s.right - s.left)) }
-    ensures { Packs work.old t (stripNumbers work.old s) work.new result }
+    ensures { Packs work.old t (strip_numbers work.old s) work.new result }
 {
     let mut r = t;
     let mut y = s.top;
@@ -110,7 +110,7 @@ pub(crate) fn pack_run(
     q: u32,
 ) -> Packing
     requires { PackRunIn l c at k q work.old }
-    ensures { Packs work.old (record { at = at; zeros = 0; bits = 0 }) (runNumbers work.old l c c false k q (bandCount l)) work.new result }
+    ensures { Packs work.old (record { at = at; zeros = 0; bits = 0 }) (run_numbers work.old l c c false k q (band_count l)) work.new result }
 {
     let bands = 1 + l.depth_ho + 3 * l.depth;
     let mut v = crate::slices::layout::window_at(l, c, 0, k);
@@ -133,8 +133,8 @@ pub(crate) fn pack_run(
 
 // Puts the numbers of a word.
 fn put_word(out: &mut [u8], w: BitWriter, z: i64) -> BitWriter
-    requires { Room out.old w (bits_of (wordNumbers z)) }
-    ensures { Wrote out.old w (codes (wordNumbers z)) out.new result }
+    requires { Room out.old w (bits_of (word_numbers z)) }
+    ensures { Wrote out.old w (codes (word_numbers z)) out.new result }
 {
     if z >= 0x10_0000_0000_0000 {
         return codewords::bitio::put_ones(out, w, (z - 0x10_0000_0000_0000) as u64);
@@ -150,8 +150,8 @@ pub(crate) fn put_words(
     at: usize,
     n: usize,
 ) -> BitWriter
-    requires { (at + n ≤ length work.now) × Room out.old w (bits_of (unpacked (wordsAt work.now at n))) }
-    ensures { Wrote out.old w (codes (unpacked (wordsAt work.now at n))) out.new result }
+    requires { (at + n ≤ length work.now) × Room out.old w (bits_of (unpacked (words_at work.now at n))) }
+    ensures { Wrote out.old w (codes (unpacked (words_at work.now at n))) out.new result }
 {
     let mut r = w;
     let mut i = 0;

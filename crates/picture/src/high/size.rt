@@ -1,8 +1,8 @@
 // The bytes of a high-quality slice: what its components need, its size, and its share of the target.
 ghost use Rattle.std.specs.Prelude.{◌≡◌, ◌*◌, ◌^◌, ◌≤◌, max};
 ghost use Rattle.laws.specs.Ceiling.{ceiling};
-ghost use Rattle.unit.specs.HighQuality.{sliceSizeBy, share_of};
-ghost use Rattle.picture.specs.Code.Choice.{needsBy, TermsIn};
+ghost use Rattle.unit.specs.HighQuality.{slice_size_by, share_of};
+ghost use Rattle.picture.specs.Code.Choice.{needs_by, TermsIn};
 
 use unit::RateControl;
 
@@ -36,7 +36,7 @@ pub(crate) fn need(n: u64) -> u64
 // The bytes that the components need, by their bits.
 pub(crate) fn needs_of(y: u64, c1: u64, c2: u64) -> Needs
     requires { (y ≤ 2 ^ 33) × ((c1 ≤ 2 ^ 33) × (c2 ≤ 2 ^ 33)) }
-    ensures { (result ≡ needsBy y c1 c2) × ((result.y ≤ 2 ^ 30) × ((result.c1 ≤ 2 ^ 30) × (result.c2 ≤ 2 ^ 30))) }
+    ensures { (result ≡ needs_by y c1 c2) × ((result.y ≤ 2 ^ 30) × ((result.c1 ≤ 2 ^ 30) × (result.c2 ≤ 2 ^ 30))) }
 {
     Needs {
         y: need(y),
@@ -70,7 +70,7 @@ pub(crate) fn scalers(n: u64, c: u32) -> u64
 // The bytes of a slice, by the needs of its components.
 pub(crate) fn slice_size(z: Needs, t: Terms) -> u64
     requires { ((z.y ≤ 2 ^ 30) × ((z.c1 ≤ 2 ^ 30) × (z.c2 ≤ 2 ^ 30))) × TermsIn t }
-    ensures { (result ≡ sliceSizeBy t.prefix t.scaler z.y z.c1 z.c2) × (result ≤ 2 ^ 34) }
+    ensures { (result ≡ slice_size_by t.prefix t.scaler z.y z.c1 z.c2) × (result ≤ 2 ^ 34) }
 {
     let c = t.scaler as u64;
     let y = scalers(z.y, t.scaler) * c;

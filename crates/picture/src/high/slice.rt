@@ -1,12 +1,12 @@
 // High-quality slices, written to the output.
 ghost use Rattle.std.specs.Prelude.{◌≡◌, ◌+◌, ◌*◌, ◌^◌, ◌≤◌, length};
 ghost use Rattle.laws.specs.Code.Laid.{Lays};
-ghost use Rattle.codewords.specs.Bit.{zeroBits};
+ghost use Rattle.codewords.specs.Bit.{zero_bits};
 ghost use Rattle.codewords.specs.Bytes.{to_bytes};
 ghost use Rattle.codewords.specs.Code.Writer.{Room, Wrote};
-ghost use Rattle.unit.specs.HighQuality.{componentBits, high_bits};
-ghost use Rattle.picture.specs.Code.Choice.{threeBits, TermsIn};
-ghost use Rattle.picture.specs.Code.Notes.{run_at, numbersAt, Held, HeldSlice};
+ghost use Rattle.unit.specs.HighQuality.{component_bits, high_bits};
+ghost use Rattle.picture.specs.Code.Choice.{three_bits, TermsIn};
+ghost use Rattle.picture.specs.Code.Notes.{run_at, numbers_at, Held, HeldSlice};
 
 use crate::high::choice::Choice;
 use crate::high::packed::Packed;
@@ -24,8 +24,8 @@ fn put_component(
     t: Packed,
     scaler: u32,
 ) -> BitWriter
-    requires { Held work.now from t × (((1 ≤ scaler) × (scaler ≤ 2 ^ 24)) × Room out.old w (length (componentBits scaler (run_at work.now from t)))) }
-    ensures { Wrote out.old w (componentBits scaler (run_at work.now from t)) out.new result }
+    requires { Held work.now from t × (((1 ≤ scaler) × (scaler ≤ 2 ^ 24)) × Room out.old w (length (component_bits scaler (run_at work.now from t)))) }
+    ensures { Wrote out.old w (component_bits scaler (run_at work.now from t)) out.new result }
 {
     let n = crate::high::size::scalers(crate::high::size::need(t.bits), scaler);
     let a = codewords::bitio::put_nbits(out, w, n, 8);
@@ -36,7 +36,7 @@ fn put_component(
 // Puts n prefix bytes, which are zeros.
 fn put_prefix(out: &mut [u8], w: BitWriter, n: u32) -> BitWriter
     requires { Room out.old w (8 * n) × (n ≤ 255) }
-    ensures { Wrote out.old w (zeroBits (8 * n)) out.new result }
+    ensures { Wrote out.old w (zero_bits (8 * n)) out.new result }
 {
     let mut s = w;
     let mut i = 0;
@@ -56,8 +56,8 @@ fn put_components(
     c: Choice,
     scaler: u32,
 ) -> BitWriter
-    requires { HeldSlice work.now from c × (((1 ≤ scaler) × (scaler ≤ 2 ^ 24)) × Room out.old w (length (threeBits scaler (numbersAt work.now from c)))) }
-    ensures { Wrote out.old w (threeBits scaler (numbersAt work.now from c)) out.new result }
+    requires { HeldSlice work.now from c × (((1 ≤ scaler) × (scaler ≤ 2 ^ 24)) × Room out.old w (length (three_bits scaler (numbers_at work.now from c)))) }
+    ensures { Wrote out.old w (three_bits scaler (numbers_at work.now from c)) out.new result }
 {
     let y = c.y;
     let c1 = c.c1;
@@ -78,8 +78,8 @@ pub(crate) fn put_hq_slice(
     t: Terms,
 ) -> CodedSlice
     requires { HeldSlice work.now from c × (TermsIn t
-        × (at + length (to_bytes (high_bits t.prefix t.scaler c.index (numbersAt work.now from c))) ≤ length out.old)) }
-    ensures { Lays out.old at (to_bytes (high_bits t.prefix t.scaler c.index (numbersAt work.now from c))) out.new result.at × (result.cut ≡ 0) }
+        × (at + length (to_bytes (high_bits t.prefix t.scaler c.index (numbers_at work.now from c))) ≤ length out.old)) }
+    ensures { Lays out.old at (to_bytes (high_bits t.prefix t.scaler c.index (numbers_at work.now from c))) out.new result.at × (result.cut ≡ 0) }
 {
     let w = BitWriter {
         at,

@@ -2,8 +2,8 @@
 ghost use Rattle.std.specs.Prelude.{◌≡◌, ◌≤◌, ◌<◌, min};
 ghost use Rattle.picture.specs.Code.Strip.{Small};
 ghost use Rattle.picture.specs.Code.Picture.{SliceIn};
-ghost use Rattle.picture.specs.Code.Low.{rebuiltIn, Tried};
-ghost use Rattle.picture.specs.Code.LowRest.{windowsOf, Known};
+ghost use Rattle.picture.specs.Code.Low.{rebuilt_in, Tried};
+ghost use Rattle.picture.specs.Code.LowRest.{windows_of, Known};
 
 use crate::low::trial::{Rest, Windows};
 use crate::slices::layout::Picture;
@@ -25,8 +25,8 @@ pub(crate) struct Bracket {
 // Whether slice k takes at most room bits at index q, and its runs there. The rebuilt planes are left as this index
 // makes them.
 fn probe_at(work: &mut [i64], p: Picture, room: u64, k: u32, q: u32, v: Windows) -> Probe
-    requires { SliceIn p work.old k q × (v ≡ windowsOf p k) }
-    ensures { (work.new ≡ rebuiltIn work.old p k q) × (Small p.front p.end work.new × Known work.new p k result.rest) }
+    requires { SliceIn p work.old k q × (v ≡ windows_of p k) }
+    ensures { (work.new ≡ rebuilt_in work.old p k q) × (Small p.front p.end work.new × Known work.new p k result.rest) }
 {
     crate::low::trial::rebuild_planes(work, p, k, q, v);
     let f = crate::low::trial::first_tallies(work, p, k, q, v);
@@ -81,7 +81,7 @@ pub(crate) fn bracket_at(
     g: u32,
     v: Windows,
 ) -> Bracket
-    requires { SliceIn p work.old k 0 × ((g ≤ 127) × (v ≡ windowsOf p k)) }
+    requires { SliceIn p work.old k 0 × ((g ≤ 127) × (v ≡ windows_of p k)) }
     ensures { Tried p k work.old work.new × (Known work.new p k result.low × Known work.new p k result.high) }
 {
     let start = probe_at(work, p, room, k, g, v);

@@ -1,9 +1,9 @@
 // The runs of a low-delay slice that are written: cut where they do not fit.
 ghost use Rattle.std.specs.Prelude.{◌≡◌};
-ghost use Rattle.picture.specs.Code.Cost.{noCost, addAll};
+ghost use Rattle.picture.specs.Code.Cost.{no_cost, add_all};
 ghost use Rattle.picture.specs.Code.Picture.{SliceIn};
-ghost use Rattle.picture.specs.Code.Low.{lumaIn, colourIn, KeptOf, Shorter, CutIn};
-ghost use Rattle.picture.specs.Code.LowRest.{windowsOf, Known};
+ghost use Rattle.picture.specs.Code.Low.{luma_in, colour_in, KeptOf, Shorter, CutIn};
+ghost use Rattle.picture.specs.Code.LowRest.{windows_of, Known};
 
 use crate::low::trial::{Rest, Windows};
 use crate::slices::cost::Cost;
@@ -24,7 +24,7 @@ pub(crate) struct Kept {
 // What a slice's luma costs, with room for a run.
 fn luma_cost(work: &[i64], p: Picture, k: u32, q: u32, room: u64) -> Cost
     requires { SliceIn p work.now k q }
-    ensures { result ≡ addAll (noCost room) (lumaIn work.now p k q) }
+    ensures { result ≡ add_all (no_cost room) (luma_in work.now p k q) }
 {
     let none = crate::slices::cost::no_cost(room);
     let l = p.layout;
@@ -35,7 +35,7 @@ fn luma_cost(work: &[i64], p: Picture, k: u32, q: u32, room: u64) -> Cost
 // What a slice's two colours cost, with room for a run.
 fn colour_cost(work: &[i64], p: Picture, k: u32, q: u32, room: u64) -> Cost
     requires { SliceIn p work.now k q }
-    ensures { result ≡ addAll (noCost room) (colourIn work.now p k q) }
+    ensures { result ≡ add_all (no_cost room) (colour_in work.now p k q) }
 {
     let none = crate::slices::cost::no_cost(room);
     let l = p.layout;
@@ -64,7 +64,7 @@ fn shorter(c: Cost) -> Trimmed
 // The cut: the longest luma run that fits, then the longest colour run in the bits left.
 fn cut(work: &[i64], p: Picture, room: u64, k: u32, q: u32, y: Cost) -> Kept
     requires { SliceIn p work.now k q × CutIn work.now p room k q y }
-    ensures { KeptOf room (lumaIn work.now p k q) (colourIn work.now p k q) result }
+    ensures { KeptOf room (luma_in work.now p k q) (colour_in work.now p k q) result }
 {
     let l = shorter(y);
     let left = room - l.bits;
@@ -89,8 +89,8 @@ pub(crate) fn kept_runs(
     v: Windows,
     r: Rest,
 ) -> Kept
-    requires { SliceIn p work.now k q × ((Known work.now p k r × (r.index ≡ q)) × (v ≡ windowsOf p k)) }
-    ensures { KeptOf room (lumaIn work.now p k q) (colourIn work.now p k q) result }
+    requires { SliceIn p work.now k q × ((Known work.now p k r × (r.index ≡ q)) × (v ≡ windows_of p k)) }
+    ensures { KeptOf room (luma_in work.now p k q) (colour_in work.now p k q) result }
 {
     let f = crate::low::trial::first_tallies(work, p, k, q, v);
     let luma = f.luma;

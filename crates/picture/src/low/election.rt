@@ -1,11 +1,11 @@
 // The election of a low-delay slice's index.
 ghost use Rattle.std.specs.Prelude.{◌≡◌, ◌≤◌};
 ghost use Rattle.unit.specs.declared.PictureKind.TheVariants.{LowDelay};
-ghost use Rattle.unit.specs.Limits.{lastIndex};
+ghost use Rattle.unit.specs.Limits.{last_index};
 ghost use Rattle.unit.specs.Elect.{elect};
 ghost use Rattle.picture.specs.Code.Picture.{SliceIn};
-ghost use Rattle.picture.specs.Code.Low.{lowFitsIn, Tried};
-ghost use Rattle.picture.specs.Code.LowRest.{windowsOf, Known};
+ghost use Rattle.picture.specs.Code.Low.{low_fits_in, Tried};
+ghost use Rattle.picture.specs.Code.LowRest.{windows_of, Known};
 
 use crate::low::trial::{Rest, Windows};
 use crate::slices::layout::Picture;
@@ -29,8 +29,8 @@ pub(crate) fn elect_qindex(
     g: u32,
     v: Windows,
 ) -> Elected
-    requires { SliceIn p work.old k 0 × ((lo ≤ lastIndex LowDelay) × ((g ≤ 127) × (v ≡ windowsOf p k))) }
-    ensures { (result.index ≡ elect lo (lastIndex LowDelay) (lowFitsIn work.old p room k)) × ((result.index ≤ 127)
+    requires { SliceIn p work.old k 0 × ((lo ≤ last_index LowDelay) × ((g ≤ 127) × (v ≡ windows_of p k))) }
+    ensures { (result.index ≡ elect lo (last_index LowDelay) (low_fits_in work.old p room k)) × ((result.index ≤ 127)
         × (Tried p k work.old work.new × Known work.new p k result.rest)) }
 {
     let b = crate::low::bracket::bracket_at(work, p, room, k, g, v);

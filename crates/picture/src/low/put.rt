@@ -1,9 +1,9 @@
 // A low-delay slice's kept numbers, written to the output.
 ghost use Rattle.std.specs.Prelude.{[], ◌∷◌, ◌+◌, ◌*◌, ◌-◌, ◌≤◌, ◌<◌, ◌^◌};
-ghost use Rattle.quantiser.specs.Quant.{forwardBy};
-ghost use Rattle.picture.specs.Code.Strip.{planeFrom, secondNumber, placeNumbers, rowNumbers, stripNumbers, Readable, Inside, Lies, PlainLies};
+ghost use Rattle.quantiser.specs.Quant.{forward_by};
+ghost use Rattle.picture.specs.Code.Strip.{plane_from, second_number, place_numbers, row_numbers, strip_numbers, Readable, Inside, Lies, PlainLies};
 ghost use Rattle.picture.specs.Code.Put.{RoomFor, Puts};
-ghost use Rattle.picture.specs.Code.Layout.{bandCount, runNumbers, RunLies};
+ghost use Rattle.picture.specs.Code.Layout.{band_count, run_numbers, RunLies};
 
 use crate::slices::layout::{Component, Layout};
 use crate::slices::strip::Strip;
@@ -34,8 +34,8 @@ fn put_number(out: &mut [u8], p: Put, z: i64) -> Put
 
 // Puts the second colour's number of a place, where there is one.
 fn put_second(out: &mut [u8], p: Put, work: &[i64], s: Strip, y: usize, x: usize) -> Put
-    requires { RoomFor out.old p (secondNumber work.now s y x) × (Lies work.now s × Inside s y x) }
-    ensures { Puts out.old p (secondNumber work.now s y x) out.new result }
+    requires { RoomFor out.old p (second_number work.now s y x) × (Lies work.now s × Inside s y x) }
+    ensures { Puts out.old p (second_number work.now s y x) out.new result }
 {
     if s.pair {
         let z = crate::slices::strip::number_at(work, s, s.coefs2, s.rebuilt2, y, x);
@@ -47,8 +47,8 @@ fn put_second(out: &mut [u8], p: Put, work: &[i64], s: Strip, y: usize, x: usize
 
 // Puts the numbers of a place.
 fn put_place(out: &mut [u8], p: Put, work: &[i64], s: Strip, y: usize, x: usize) -> Put
-    requires { RoomFor out.old p (placeNumbers work.now s y x) × (Lies work.now s × Inside s y x) }
-    ensures { Puts out.old p (placeNumbers work.now s y x) out.new result }
+    requires { RoomFor out.old p (place_numbers work.now s y x) × (Lies work.now s × Inside s y x) }
+    ensures { Puts out.old p (place_numbers work.now s y x) out.new result }
 {
     let z = crate::slices::strip::number_at(work, s, s.coefs, s.rebuilt, y, x);
     let q = put_number(out, p, z);
@@ -57,8 +57,8 @@ fn put_place(out: &mut [u8], p: Put, work: &[i64], s: Strip, y: usize, x: usize)
 
 // Puts the numbers of a row of the strip, place by place.
 fn put_places(out: &mut [u8], p: Put, work: &[i64], s: Strip, y: usize) -> Put
-    requires { RoomFor out.old p (rowNumbers work.now s y s.left (s.right - s.left)) × (Lies work.now s × ((s.top ≤ y) × (y < s.bottom))) }
-    ensures { Puts out.old p (rowNumbers work.now s y s.left (s.right - s.left)) out.new result }
+    requires { RoomFor out.old p (row_numbers work.now s y s.left (s.right - s.left)) × (Lies work.now s × ((s.top ≤ y) × (y < s.bottom))) }
+    ensures { Puts out.old p (row_numbers work.now s y s.left (s.right - s.left)) out.new result }
 {
     let mut t = p;
     let mut x = s.left;
@@ -79,9 +79,9 @@ fn put_coefficient(
     y: usize,
     x: usize,
 ) -> Put
-    requires { RoomFor out.old p (forwardBy s.factor (planeFrom work.now coefs s.width y x) ∷ [])
+    requires { RoomFor out.old p (forward_by s.factor (plane_from work.now coefs s.width y x) ∷ [])
         × (Readable (coefs + (y * s.width + x) + 1) work.now × ((4 ≤ s.factor) × (s.factor < 2 ^ 63))) }
-    ensures { Puts out.old p (forwardBy s.factor (planeFrom work.now coefs s.width y x) ∷ []) out.new result }
+    ensures { Puts out.old p (forward_by s.factor (plane_from work.now coefs s.width y x) ∷ []) out.new result }
 {
     if p.left == 0 {
         return p;
@@ -98,8 +98,8 @@ fn put_coefficient(
 
 // Puts the second colour's number of a place of a strip that is not predicted, where there is one.
 fn put_plain_second(out: &mut [u8], p: Put, work: &[i64], s: Strip, y: usize, x: usize) -> Put
-    requires { RoomFor out.old p (secondNumber work.now s y x) × (PlainLies work.now s × Inside s y x) }
-    ensures { Puts out.old p (secondNumber work.now s y x) out.new result }
+    requires { RoomFor out.old p (second_number work.now s y x) × (PlainLies work.now s × Inside s y x) }
+    ensures { Puts out.old p (second_number work.now s y x) out.new result }
 {
     if s.pair {
         put_coefficient(out, p, work, s, s.coefs2, y, x)
@@ -110,8 +110,8 @@ fn put_plain_second(out: &mut [u8], p: Put, work: &[i64], s: Strip, y: usize, x:
 
 // Puts the numbers of a place of a strip that is not predicted.
 fn put_plain_place(out: &mut [u8], p: Put, work: &[i64], s: Strip, y: usize, x: usize) -> Put
-    requires { RoomFor out.old p (placeNumbers work.now s y x) × (PlainLies work.now s × Inside s y x) }
-    ensures { Puts out.old p (placeNumbers work.now s y x) out.new result }
+    requires { RoomFor out.old p (place_numbers work.now s y x) × (PlainLies work.now s × Inside s y x) }
+    ensures { Puts out.old p (place_numbers work.now s y x) out.new result }
 {
     let q = put_coefficient(out, p, work, s, s.coefs, y, x);
     put_plain_second(out, q, work, s, y, x)
@@ -119,8 +119,8 @@ fn put_plain_place(out: &mut [u8], p: Put, work: &[i64], s: Strip, y: usize, x: 
 
 // Puts the numbers of a row of a strip that is not predicted, place by place.
 fn put_plain_places(out: &mut [u8], p: Put, work: &[i64], s: Strip, y: usize) -> Put
-    requires { RoomFor out.old p (rowNumbers work.now s y s.left (s.right - s.left)) × (PlainLies work.now s × ((s.top ≤ y) × (y < s.bottom))) }
-    ensures { Puts out.old p (rowNumbers work.now s y s.left (s.right - s.left)) out.new result }
+    requires { RoomFor out.old p (row_numbers work.now s y s.left (s.right - s.left)) × (PlainLies work.now s × ((s.top ≤ y) × (y < s.bottom))) }
+    ensures { Puts out.old p (row_numbers work.now s y s.left (s.right - s.left)) out.new result }
 {
     let mut t = p;
     let mut x = s.left;
@@ -133,8 +133,8 @@ fn put_plain_places(out: &mut [u8], p: Put, work: &[i64], s: Strip, y: usize) ->
 
 // Puts the numbers of a row of the strip; none is worked out where none is to be kept.
 fn put_row(out: &mut [u8], p: Put, work: &[i64], s: Strip, y: usize) -> Put
-    requires { RoomFor out.old p (rowNumbers work.now s y s.left (s.right - s.left)) × (Lies work.now s × ((s.top ≤ y) × (y < s.bottom))) }
-    ensures { Puts out.old p (rowNumbers work.now s y s.left (s.right - s.left)) out.new result }
+    requires { RoomFor out.old p (row_numbers work.now s y s.left (s.right - s.left)) × (Lies work.now s × ((s.top ≤ y) × (y < s.bottom))) }
+    ensures { Puts out.old p (row_numbers work.now s y s.left (s.right - s.left)) out.new result }
 {
     if p.left == 0 {
         return p;
@@ -147,8 +147,8 @@ fn put_row(out: &mut [u8], p: Put, work: &[i64], s: Strip, y: usize) -> Put
 
 // Puts the numbers of the strip, row by row.
 fn put_rows(out: &mut [u8], p: Put, work: &[i64], s: Strip) -> Put
-    requires { RoomFor out.old p (stripNumbers work.now s) × Lies work.now s }
-    ensures { Puts out.old p (stripNumbers work.now s) out.new result }
+    requires { RoomFor out.old p (strip_numbers work.now s) × Lies work.now s }
+    ensures { Puts out.old p (strip_numbers work.now s) out.new result }
 {
     let mut t = p;
     let mut y = s.top;
@@ -161,8 +161,8 @@ fn put_rows(out: &mut [u8], p: Put, work: &[i64], s: Strip) -> Put
 
 // Puts the numbers of the strip; none is worked out where none is to be kept.
 fn put_strip(out: &mut [u8], p: Put, work: &[i64], s: Strip) -> Put
-    requires { RoomFor out.old p (stripNumbers work.now s) × Lies work.now s }
-    ensures { Puts out.old p (stripNumbers work.now s) out.new result }
+    requires { RoomFor out.old p (strip_numbers work.now s) × Lies work.now s }
+    ensures { Puts out.old p (strip_numbers work.now s) out.new result }
 {
     if p.left == 0 {
         return p;
@@ -182,8 +182,8 @@ pub(crate) fn put_run(
     k: u32,
     q: u32,
 ) -> Put
-    requires { RunLies l c second k q work.now × RoomFor out.old p (runNumbers work.now l c second pair k q (bandCount l)) }
-    ensures { Puts out.old p (runNumbers work.now l c second pair k q (bandCount l)) out.new result }
+    requires { RunLies l c second k q work.now × RoomFor out.old p (run_numbers work.now l c second pair k q (band_count l)) }
+    ensures { Puts out.old p (run_numbers work.now l c second pair k q (band_count l)) out.new result }
 {
     let bands = 1 + l.depth_ho + 3 * l.depth;
     let mut v = crate::slices::layout::window_at(l, c, 0, k);

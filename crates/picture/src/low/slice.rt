@@ -4,8 +4,8 @@ ghost use Rattle.laws.specs.Code.Laid.{Lays};
 ghost use Rattle.codewords.specs.Bytes.{to_bytes};
 ghost use Rattle.codewords.specs.Code.Writer.{Room, Wrote};
 ghost use Rattle.picture.specs.Code.Picture.{SliceIn};
-ghost use Rattle.picture.specs.Code.LowRest.{windowsOf, Known};
-ghost use Rattle.picture.specs.Code.Low.{runBits, lowBitsBy, lowCutBy};
+ghost use Rattle.picture.specs.Code.LowRest.{windows_of, Known};
+ghost use Rattle.picture.specs.Code.Low.{run_bits, low_bits_by, low_cut_by};
 
 use crate::low::cut::Kept;
 use crate::low::put::Put;
@@ -24,8 +24,8 @@ fn put_runs(
     q: u32,
     r: Kept,
 ) -> BitWriter
-    requires { SliceIn p work.now k q × Room out.old w (length (runBits work.now p k q r)) }
-    ensures { Wrote out.old w (runBits work.now p k q r) out.new result }
+    requires { SliceIn p work.now k q × Room out.old w (length (run_bits work.now p k q r)) }
+    ensures { Wrote out.old w (run_bits work.now p k q r) out.new result }
 {
     let l = p.layout;
     let y = p.y;
@@ -75,9 +75,9 @@ pub(crate) fn put_ld_slice(
     v: Windows,
     rest: Rest,
 ) -> CodedSlice
-    requires { SliceIn p work.now k q × (((1 ≤ n) × (n ≤ 2 ^ 30)) × ((at + n ≤ length out.old) × (Known work.now p k rest × (v ≡ windowsOf p k)))) }
-    ensures { Lays out.old at (to_bytes (lowBitsBy work.now p n k q)) out.new result.at
-        × ((result.cut ≡ lowCutBy work.now p n k q) × (result.cut ≤ 1)) }
+    requires { SliceIn p work.now k q × (((1 ≤ n) × (n ≤ 2 ^ 30)) × ((at + n ≤ length out.old) × (Known work.now p k rest × (v ≡ windows_of p k)))) }
+    ensures { Lays out.old at (to_bytes (low_bits_by work.now p n k q)) out.new result.at
+        × ((result.cut ≡ low_cut_by work.now p n k q) × (result.cut ≤ 1)) }
 {
     let room = crate::low::size::room_of(n);
     let r = crate::low::cut::kept_runs(

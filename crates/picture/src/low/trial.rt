@@ -1,12 +1,12 @@
 // Whether a low-delay slice fits at an index: its candidate in the work slice, and the bits of its numbers.
 ghost use Rattle.std.specs.Prelude.{◌≡◌, ◌&&◌, ◌*◌, ◌-◌, ◌≤◌, ◌<◌, leb, ltb};
-ghost use Rattle.unit.specs.Limits.{areaLimit};
+ghost use Rattle.unit.specs.Limits.{area_limit};
 ghost use Rattle.picture.specs.Code.Strip.{Small};
-ghost use Rattle.picture.specs.Code.Layout.{bandCount, windowOf, restNumbers, RunLies};
-ghost use Rattle.picture.specs.Code.Picture.{slicesIn, SliceIn, Arranged};
-ghost use Rattle.picture.specs.Code.Tally.{trimmedOf};
-ghost use Rattle.picture.specs.Code.Low.{rebuiltIn, lowFitsIn};
-ghost use Rattle.picture.specs.Code.LowRest.{windowsOf, joinedOf, bitsWith, FirstOf, Known, Joins};
+ghost use Rattle.picture.specs.Code.Layout.{band_count, window_of, rest_numbers, RunLies};
+ghost use Rattle.picture.specs.Code.Picture.{slices_in, SliceIn, Arranged};
+ghost use Rattle.picture.specs.Code.Tally.{trimmed_of};
+ghost use Rattle.picture.specs.Code.Low.{rebuilt_in, low_fits_in};
+ghost use Rattle.picture.specs.Code.LowRest.{windows_of, joined_of, bits_with, FirstOf, Known, Joins};
 
 use crate::slices::layout::{Component, Picture, Window};
 use crate::slices::tally::{Tally, Trimmed};
@@ -44,8 +44,8 @@ pub(crate) struct Trial {
 
 // What slice k has of level 0, worked out once for all trials.
 pub(crate) fn windows_of(p: Picture, k: u32) -> Windows
-    requires { Arranged p × (k < slicesIn p) }
-    ensures { result ≡ windowsOf p k }
+    requires { Arranged p × (k < slices_in p) }
+    ensures { result ≡ windows_of p k }
 {
     let l = p.layout;
     let y = p.y;
@@ -58,8 +58,8 @@ pub(crate) fn windows_of(p: Picture, k: u32) -> Windows
 
 // Slice k's part of the three rebuilt planes, made at index q.
 pub(crate) fn rebuild_planes(work: &mut [i64], p: Picture, k: u32, q: u32, v: Windows)
-    requires { SliceIn p work.old k q × (v ≡ windowsOf p k) }
-    ensures { (work.new ≡ rebuiltIn work.old p k q) × Small p.front p.end work.new }
+    requires { SliceIn p work.old k q × (v ≡ windows_of p k) }
+    ensures { (work.new ≡ rebuilt_in work.old p k q) × Small p.front p.end work.new }
 {
     let l = p.layout;
     let y = p.y;
@@ -74,7 +74,7 @@ pub(crate) fn rebuild_planes(work: &mut [i64], p: Picture, k: u32, q: u32, v: Wi
 
 // The tallies of slice k's level-0 numbers at index q, where the planes are rebuilt.
 pub(crate) fn first_tallies(work: &[i64], p: Picture, k: u32, q: u32, v: Windows) -> First
-    requires { SliceIn p work.now k q × (v ≡ windowsOf p k) }
+    requires { SliceIn p work.now k q × (v ≡ windows_of p k) }
     ensures { FirstOf work.now p k q result }
 {
     let l = p.layout;
@@ -100,8 +100,8 @@ fn rest_run(
     q: u32,
     v: Window,
 ) -> Trimmed
-    requires { RunLies p.layout c second k q work.now × ((c.width * c.height ≤ areaLimit) × (v ≡ windowOf p.layout c 0 k)) }
-    ensures { result ≡ trimmedOf (restNumbers work.now p.layout c second pair k q (bandCount p.layout - 1)) }
+    requires { RunLies p.layout c second k q work.now × ((c.width * c.height ≤ area_limit) × (v ≡ window_of p.layout c 0 k)) }
+    ensures { result ≡ trimmed_of (rest_numbers work.now p.layout c second pair k q (band_count p.layout - 1)) }
 {
     let none = Tally {
         bits: 0,
@@ -116,7 +116,7 @@ fn rest_run(
 // Slice k's runs of the subbands behind the first at index q. No prediction is in them, so that they do not depend on
 // the rebuilt planes.
 pub(crate) fn rest_of(work: &[i64], p: Picture, k: u32, q: u32, v: Windows) -> Rest
-    requires { SliceIn p work.now k q × (v ≡ windowsOf p k) }
+    requires { SliceIn p work.now k q × (v ≡ windows_of p k) }
     ensures { Known work.now p k result × (result.index ≡ q) }
 {
     let y = p.y;
@@ -134,7 +134,7 @@ pub(crate) fn rest_of(work: &[i64], p: Picture, k: u32, q: u32, v: Windows) -> R
 // The run of the numbers that are tallied in t and of the run r behind them, without trailing zeros.
 pub(crate) fn joined(t: Tally, r: Trimmed) -> Trimmed
     requires { Joins t r }
-    ensures { result ≡ joinedOf t r }
+    ensures { result ≡ joined_of t r }
 {
     if r.count == 0 {
         crate::slices::tally::trimmed_of(t)
@@ -149,7 +149,7 @@ pub(crate) fn joined(t: Tally, r: Trimmed) -> Trimmed
 // The bits of a slice whose level-0 numbers are tallied in f, with the runs r behind them.
 pub(crate) fn bits_with(f: First, r: Rest) -> u64
     requires { Joins f.luma r.luma × Joins f.colour r.colour }
-    ensures { result ≡ bitsWith f r }
+    ensures { result ≡ bits_with f r }
 {
     let luma = f.luma;
     let luma_rest = r.luma;
@@ -164,7 +164,7 @@ pub(crate) fn bits_with(f: First, r: Rest) -> u64
 // more bits than those of r at a lower index.
 fn surely_fits(f: First, r: Rest, q: u32, room: u64) -> bool
     requires { Joins f.luma r.luma × Joins f.colour r.colour }
-    ensures { result ≡ (leb r.index q && leb (bitsWith f r) room) }
+    ensures { result ≡ (leb r.index q && leb (bits_with f r) room) }
 {
     if r.index > q {
         return false;
@@ -176,7 +176,7 @@ fn surely_fits(f: First, r: Rest, q: u32, room: u64) -> bool
 // take no fewer bits than those of r at a higher index.
 fn never_fits(f: First, r: Rest, q: u32, room: u64) -> bool
     requires { Joins f.luma r.luma × Joins f.colour r.colour }
-    ensures { result ≡ (leb q r.index && ltb room (bitsWith f r)) }
+    ensures { result ≡ (leb q r.index && ltb room (bits_with f r)) }
 {
     if q > r.index {
         return false;
@@ -196,8 +196,8 @@ pub(crate) fn fits(
     low: Rest,
     high: Rest,
 ) -> Trial
-    requires { SliceIn p work.old k q × ((Known work.old p k low × Known work.old p k high) × (v ≡ windowsOf p k)) }
-    ensures { (result.fits ≡ lowFitsIn work.old p room k q) × ((work.new ≡ rebuiltIn work.old p k q)
+    requires { SliceIn p work.old k q × ((Known work.old p k low × Known work.old p k high) × (v ≡ windows_of p k)) }
+    ensures { (result.fits ≡ low_fits_in work.old p room k q) × ((work.new ≡ rebuilt_in work.old p k q)
         × (Small p.front p.end work.new × (Known work.new p k result.low × Known work.new p k result.high))) }
 {
     rebuild_planes(work, p, k, q, v);
@@ -234,7 +234,7 @@ pub(crate) fn fits(
 
 // Slice k's runs at index q: the known ones r, where they are of this index.
 pub(crate) fn rest_at(work: &[i64], p: Picture, k: u32, q: u32, v: Windows, r: Rest) -> Rest
-    requires { SliceIn p work.now k q × (Known work.now p k r × (v ≡ windowsOf p k)) }
+    requires { SliceIn p work.now k q × (Known work.now p k r × (v ≡ windows_of p k)) }
     ensures { Known work.now p k result × (result.index ≡ q) }
 {
     if r.index == q {

@@ -1,7 +1,7 @@
 // What a slice's numbers cost, in bits.
 ghost use Rattle.std.specs.Prelude.{◌≡◌, ◌*◌, ◌-◌, ◌≤◌, ◌<◌, ◌^◌};
-ghost use Rattle.picture.specs.Code.Strip.{secondNumber, placeNumbers, rowNumbers, stripNumbers, Inside, Lies};
-ghost use Rattle.picture.specs.Code.Cost.{noCost, fitted, addLen, addAll, Countable, KeptTo};
+ghost use Rattle.picture.specs.Code.Strip.{second_number, place_numbers, row_numbers, strip_numbers, Inside, Lies};
+ghost use Rattle.picture.specs.Code.Cost.{no_cost, fitted, add_len, add_all, Countable, KeptTo};
 
 use crate::slices::strip::Strip;
 
@@ -20,7 +20,7 @@ pub(crate) struct Cost {
 
 // The cost of no number, with room for a run.
 pub(crate) fn no_cost(room: u64) -> Cost
-    ensures { result ≡ noCost room }
+    ensures { result ≡ no_cost room }
 {
     Cost {
         room,
@@ -83,7 +83,7 @@ fn fit_to(c: Cost) -> Cost
 // A cost with one number more, whose code word has n bits: one bit is the number 0.
 fn add_len(c: Cost, n: u32) -> Cost
     requires { Countable c 1 }
-    ensures { result ≡ addLen c n }
+    ensures { result ≡ add_len c n }
 {
     let bits = c.bits + n as u64;
     fit_to(keep_to(c, n == 1, bits))
@@ -92,7 +92,7 @@ fn add_len(c: Cost, n: u32) -> Cost
 // A cost with the second colour's number of a place, where there is one.
 fn add_second(work: &[i64], s: Strip, y: usize, x: usize, c: Cost) -> Cost
     requires { Lies work.now s × (Inside s y x × Countable c 1) }
-    ensures { result ≡ addAll c (secondNumber work.now s y x) }
+    ensures { result ≡ add_all c (second_number work.now s y x) }
 {
     if s.pair {
         add_len(
@@ -107,7 +107,7 @@ fn add_second(work: &[i64], s: Strip, y: usize, x: usize, c: Cost) -> Cost
 // A cost with the numbers of a place.
 fn cost_place(work: &[i64], s: Strip, y: usize, x: usize, c: Cost) -> Cost
     requires { Lies work.now s × (Inside s y x × Countable c 2) }
-    ensures { result ≡ addAll c (placeNumbers work.now s y x) }
+    ensures { result ≡ add_all c (place_numbers work.now s y x) }
 {
     let k = crate::slices::strip::number_len(work, s, s.coefs, s.rebuilt, y, x);
     add_second(work, s, y, x, add_len(c, k))
@@ -116,7 +116,7 @@ fn cost_place(work: &[i64], s: Strip, y: usize, x: usize, c: Cost) -> Cost
 // A cost with the numbers of a row of the strip.
 fn cost_row(work: &[i64], s: Strip, y: usize, c: Cost) -> Cost
     requires { Lies work.now s × ((s.top ≤ y) × ((y < s.bottom) × Countable c (2 * (s.right - s.left)))) }
-    ensures { result ≡ addAll c (rowNumbers work.now s y s.left (s.right - s.left)) }
+    ensures { result ≡ add_all c (row_numbers work.now s y s.left (s.right - s.left)) }
 {
     let mut t = c;
     let mut x = s.left;
@@ -130,7 +130,7 @@ fn cost_row(work: &[i64], s: Strip, y: usize, c: Cost) -> Cost
 // A cost with the numbers of the strip.
 pub(crate) fn cost_strip(work: &[i64], s: Strip, c: Cost) -> Cost
     requires { Lies work.now s × Countable c (2 * ((s.bottom - s.top) * (s.right - s.left))) }
-    ensures { result ≡ addAll c (stripNumbers work.now s) }
+    ensures { result ≡ add_all c (strip_numbers work.now s) }
 {
     let mut t = c;
     let mut y = s.top;

@@ -1,15 +1,15 @@
 // Where the subbands of a component stand in the work slice, and what a slice has of each: subband_layout,
 // subband_width, subband_height, slice_bounds and slice_quantizers of transform.rs.
 ghost use Rattle.std.specs.Prelude.{◌≡◌, cond, ◌&&◌, ◌+◌, ◌*◌, ◌-◌, ◌/◌, ◌^◌, ◌≤◌, ◌<◌, eqb, leb};
-ghost use Rattle.quantiser.specs.Quant.{bandIndex};
+ghost use Rattle.quantiser.specs.Quant.{band_index};
 ghost use Rattle.wavelet.specs.Depth.{deepest};
-ghost use Rattle.unit.specs.Limits.{sliceLimit};
+ghost use Rattle.unit.specs.Limits.{slice_limit};
 ghost use Rattle.unit.specs.Slices.{bound};
-ghost use Rattle.picture.specs.Code.Sides.{sizeIn};
-ghost use Rattle.picture.specs.Code.Layout.{levelOf, bandSize, windowOf, stripOf, LayoutIn, WindowIn, StripIn};
-ghost use Rattle.picture.specs.Code.Picture.{slicesIn, Arranged};
-ghost use Rattle.wavelet.specs.RowCall.{rowLimit};
-ghost use Rattle.quantiser.specs.Code.Default.{matrixPlaces};
+ghost use Rattle.picture.specs.Code.Sides.{size_in};
+ghost use Rattle.picture.specs.Code.Layout.{level_of, band_size, window_of, strip_of, LayoutIn, WindowIn, StripIn};
+ghost use Rattle.picture.specs.Code.Picture.{slices_in, Arranged};
+ghost use Rattle.wavelet.specs.RowCall.{row_limit};
+ghost use Rattle.quantiser.specs.Code.Default.{matrix_places};
 
 use crate::front::sizes::Sides;
 use crate::slices::strip::Strip;
@@ -59,8 +59,8 @@ pub(crate) struct Picture {
 
 // The level of the n-th subband.
 fn level_of(depth_ho: u32, n: u32) -> u32
-    requires { (depth_ho ≤ deepest) × (n < matrixPlaces) }
-    ensures { result ≡ levelOf depth_ho n }
+    requires { (depth_ho ≤ deepest) × (n < matrix_places) }
+    ensures { result ≡ level_of depth_ho n }
 {
     if n <= depth_ho {
         n
@@ -96,7 +96,7 @@ fn subband_height(h: u32, depth_ho: u32, depth: u32, level: u32) -> u32
 // The sides of the n-th subband.
 fn band_size(l: Layout, c: Component, n: u32) -> Sides
     requires { LayoutIn l × (n < 1 + l.depth_ho + 3 * l.depth) }
-    ensures { sizeIn result ≡ bandSize l c n }
+    ensures { size_in result ≡ band_size l c n }
 {
     let level = level_of(l.depth_ho, n);
     Sides {
@@ -107,7 +107,7 @@ fn band_size(l: Layout, c: Component, n: u32) -> Sides
 
 // Where part i of a side w cut into n parts begins.
 fn bound(n: u32, w: u32, i: u32) -> usize
-    requires { (1 ≤ n) × ((w ≤ rowLimit) × (i ≤ rowLimit)) }
+    requires { (1 ≤ n) × ((w ≤ row_limit) × (i ≤ row_limit)) }
     ensures { result ≡ bound n w i }
 {
     w as usize * i as usize / n as usize
@@ -116,7 +116,7 @@ fn bound(n: u32, w: u32, i: u32) -> usize
 // The index q less the matrix value v, not below 0.
 fn band_index(q: u32, v: u32) -> u32
     requires { q ≤ 255 }
-    ensures { (result ≡ bandIndex q v) × (result ≤ 255) }
+    ensures { (result ≡ band_index q v) × (result ≤ 255) }
 {
     if v < q { q - v } else { 0 }
 }
@@ -131,7 +131,7 @@ fn first_of(asked: bool, n: u32) -> bool
 // What slice k has of the n-th subband.
 pub(crate) fn window_at(l: Layout, c: Component, n: u32, k: u32) -> Window
     requires { WindowIn l c n k }
-    ensures { result ≡ windowOf l c n k }
+    ensures { result ≡ window_of l c n k }
 {
     let z = band_size(l, c, n);
     let y = k / l.across;
@@ -149,8 +149,8 @@ pub(crate) fn window_at(l: Layout, c: Component, n: u32, k: u32) -> Window
 // What slice k has of the n-th subband, by what it has of the subband before, v, or for the first one its own: the
 // subbands of a level are alike.
 pub(crate) fn next_window(l: Layout, c: Component, n: u32, k: u32, v: Window) -> Window
-    requires { WindowIn l c n k × (v ≡ windowOf l c (n - 1) k) }
-    ensures { result ≡ windowOf l c n k }
+    requires { WindowIn l c n k × (v ≡ window_of l c (n - 1) k) }
+    ensures { result ≡ window_of l c n k }
 {
     let first = l.depth_ho;
     if n > first {
@@ -174,8 +174,8 @@ pub(crate) fn strip_in(
     q: u32,
     v: Window,
 ) -> Strip
-    requires { StripIn l c second n start k q × (v ≡ windowOf l c n k) }
-    ensures { result ≡ stripOf l c second pair n start k q }
+    requires { StripIn l c second n start k q × (v ≡ window_of l c n k) }
+    ensures { result ≡ strip_of l c second pair n start k q }
 {
     let i = band_index(q, l.values[n as usize]);
     let factor = quantiser::factors::factor_at(i);
@@ -210,7 +210,7 @@ pub(crate) fn strip_at(
     q: u32,
 ) -> Strip
     requires { StripIn l c second n start k q }
-    ensures { result ≡ stripOf l c second pair n start k q }
+    ensures { result ≡ strip_of l c second pair n start k q }
 {
     let z = band_size(l, c, n);
     let row = k / l.across;
@@ -239,7 +239,7 @@ pub(crate) fn strip_at(
 // How many slices there are.
 pub(crate) fn slice_count(p: Picture) -> u32
     requires { Arranged p }
-    ensures { (result ≡ slicesIn p) × (result ≤ sliceLimit) }
+    ensures { (result ≡ slices_in p) × (result ≤ slice_limit) }
 {
     let l = p.layout;
     l.down * l.across

@@ -1,13 +1,13 @@
 // Level-0 values, rebuilt in the rebuilt planes of the work slice.
 ghost use Rattle.std.specs.Prelude.{◌≡◌, ◌+◌, ◌*◌, ◌-◌, ◌≤◌, ◌<◌, nat_abs, length, set};
-ghost use Rattle.picture.specs.Code.Strip.{reach, valueIn, rebuiltRow, rebuiltStrip, Inside, Lies};
+ghost use Rattle.picture.specs.Code.Strip.{reach, value_in, rebuilt_row, rebuilt_strip, Inside, Lies};
 
 use crate::slices::strip::Strip;
 
 // The rebuilt value of a place.
 fn value_at(work: &[i64], s: Strip, y: usize, x: usize) -> i64
     requires { Lies work.now s × Inside s y x }
-    ensures { (result ≡ valueIn work.now s y x) × (nat_abs result ≤ reach) }
+    ensures { (result ≡ value_in work.now s y x) × (nat_abs result ≤ reach) }
 {
     let p = crate::slices::strip::prediction(work, s, s.rebuilt, y, x);
     let q = crate::slices::strip::number_at(work, s, s.coefs, s.rebuilt, y, x);
@@ -25,7 +25,7 @@ fn store(plane: &mut [i64], i: usize, v: i64)
 // Rebuilds one place of the strip.
 fn rebuild_place(work: &mut [i64], s: Strip, y: usize, x: usize)
     requires { Lies work.old s × Inside s y x }
-    ensures { work.new ≡ set work.old (s.rebuilt + (y * s.width + x)) (valueIn work.old s y x) }
+    ensures { work.new ≡ set work.old (s.rebuilt + (y * s.width + x)) (value_in work.old s y x) }
 {
     let v = value_at(work, s, y, x);
     let from = s.rebuilt;
@@ -37,7 +37,7 @@ fn rebuild_place(work: &mut [i64], s: Strip, y: usize, x: usize)
 // Rebuilds a row of the strip.
 fn rebuild_row(work: &mut [i64], s: Strip, y: usize)
     requires { Lies work.old s × ((s.top ≤ y) × (y < s.bottom)) }
-    ensures { work.new ≡ rebuiltRow work.old s y s.left (s.right - s.left) }
+    ensures { work.new ≡ rebuilt_row work.old s y s.left (s.right - s.left) }
 {
     let mut x = s.left;
     while x < s.right {
@@ -49,7 +49,7 @@ fn rebuild_row(work: &mut [i64], s: Strip, y: usize)
 // Rebuilds the strip.
 pub(crate) fn rebuild_strip(work: &mut [i64], s: Strip)
     requires { Lies work.old s }
-    ensures { work.new ≡ rebuiltStrip work.old s }
+    ensures { work.new ≡ rebuilt_strip work.old s }
 {
     let mut y = s.top;
     while y < s.bottom {

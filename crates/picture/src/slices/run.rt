@@ -1,10 +1,10 @@
 // A slice's numbers of all subbands of a component, or of the two colours together.
 ghost use Rattle.std.specs.Prelude.{◌≡◌, false, ◌*◌, ◌-◌, ◌≤◌};
-ghost use Rattle.unit.specs.Limits.{areaLimit};
-ghost use Rattle.picture.specs.Code.Strip.{stripNumbers, rebuiltStrip};
-ghost use Rattle.picture.specs.Code.Cost.{addAll, Countable};
-ghost use Rattle.picture.specs.Code.Tally.{noTally, tallyAll, Addable};
-ghost use Rattle.picture.specs.Code.Layout.{bandCount, windowOf, stripOf, runNumbers, restNumbers, RunLies};
+ghost use Rattle.unit.specs.Limits.{area_limit};
+ghost use Rattle.picture.specs.Code.Strip.{strip_numbers, rebuilt_strip};
+ghost use Rattle.picture.specs.Code.Cost.{add_all, Countable};
+ghost use Rattle.picture.specs.Code.Tally.{no_tally, tally_all, Addable};
+ghost use Rattle.picture.specs.Code.Layout.{band_count, window_of, strip_of, run_numbers, rest_numbers, RunLies};
 
 use crate::slices::cost::Cost;
 use crate::slices::layout::{Component, Layout, Window};
@@ -22,7 +22,7 @@ pub(crate) fn cost_run(
     t: Cost,
 ) -> Cost
     requires { RunLies l c second k q work.now × Countable t (2 * (c.width * c.height)) }
-    ensures { result ≡ addAll t (runNumbers work.now l c second pair k q (bandCount l)) }
+    ensures { result ≡ add_all t (run_numbers work.now l c second pair k q (band_count l)) }
 {
     let bands = 1 + l.depth_ho + 3 * l.depth;
     let mut r = t;
@@ -48,8 +48,8 @@ pub(crate) fn first_tally(
     q: u32,
     v: Window,
 ) -> Tally
-    requires { RunLies l c second k q work.now × ((c.width * c.height ≤ areaLimit) × (v ≡ windowOf l c 0 k)) }
-    ensures { result ≡ tallyAll noTally (stripNumbers work.now (stripOf l c second pair 0 0 k q)) }
+    requires { RunLies l c second k q work.now × ((c.width * c.height ≤ area_limit) × (v ≡ window_of l c 0 k)) }
+    ensures { result ≡ tally_all no_tally (strip_numbers work.now (strip_of l c second pair 0 0 k q)) }
 {
     let none = crate::slices::cost::no_cost(0);
     let s = crate::slices::layout::strip_in(l, c, second, pair, 0, 0, k, q, v);
@@ -68,8 +68,8 @@ pub(crate) fn rest_tally(
     first: Window,
     t: Tally,
 ) -> Tally
-    requires { RunLies l c second k q work.now × (Addable t (2 * (c.width * c.height)) × (first ≡ windowOf l c 0 k)) }
-    ensures { result ≡ tallyAll t (restNumbers work.now l c second pair k q (bandCount l - 1)) }
+    requires { RunLies l c second k q work.now × (Addable t (2 * (c.width * c.height)) × (first ≡ window_of l c 0 k)) }
+    ensures { result ≡ tally_all t (rest_numbers work.now l c second pair k q (band_count l - 1)) }
 {
     let bands = 1 + l.depth_ho + 3 * l.depth;
     let mut v = first;
@@ -88,8 +88,8 @@ pub(crate) fn rest_tally(
 
 // The slice's part of the rebuilt level-0 plane of a component, of which it has the window v.
 pub(crate) fn rebuild_run(work: &mut [i64], l: Layout, c: Component, k: u32, q: u32, v: Window)
-    requires { RunLies l c c k q work.old × (v ≡ windowOf l c 0 k) }
-    ensures { work.new ≡ rebuiltStrip work.old (stripOf l c c false 0 0 k q) }
+    requires { RunLies l c c k q work.old × (v ≡ window_of l c 0 k) }
+    ensures { work.new ≡ rebuilt_strip work.old (strip_of l c c false 0 0 k q) }
 {
     let s = crate::slices::layout::strip_in(l, c, c, false, 0, 0, k, q, v);
     crate::slices::rebuild::rebuild_strip(work, s);

@@ -3,7 +3,7 @@ use mathlib.Core.Path.{◌∙◌}
 use mir.Syntax.{w64}
 use mir.Facts.{to_z-of_z}
 use borrow.Author.Rules.{rules}
-use Rattle.quantiser.specs.Laws.Step.{back, abs-read, forward-is}
+use Rattle.quantiser.specs.Laws.Step.{back, abs_read, forward_is}
 use Rattle.quantiser.proofs.forward_by.Statement.{statement}
 use Rattle.quantiser.proofs.forward_by.Tie as tie
 use Rattle.quantiser.proofs.forward_by.Reads as reads
@@ -33,7 +33,7 @@ returns c =
     let z = p.before.args.c in
     let m = p.unsigned_abs.result in
     back _ c.signed.type-inv ∙ c.signed.ensures
-    ∙ rw (to_z-of_z {w = w64} p.before.ranges.c) (forward-is f m _ _ z (abs-read z m p.before.ranges.c p.unsigned_abs.ensures.0) q.four-over.ensures c.before.cap.ensures.0)
+    ∙ rw (to_z-of_z {w = w64} p.before.ranges.c) (forward_is f m _ _ z (abs_read z m p.before.ranges.c p.unsigned_abs.ensures.0) q.four-over.ensures c.before.cap.ensures.0)
 
 pub forward-by-spec : {M : Type 1} → statement M
 forward-by-spec =

@@ -3,8 +3,8 @@ use mathlib.Core.Path.{◌≡◌}
 use native.Mathlib.Omega.{arith}
 use lib.IntN.{nat_abs}
 use borrow.Author.Rules.{rules}
-use Rattle.quantiser.specs.Laws.Step.{abs-read}
-use Rattle.quantiser.specs.Laws.Length.{Length, length-law}
+use Rattle.quantiser.specs.Laws.Step.{abs_read}
+use Rattle.quantiser.specs.Laws.Length.{Length, length_law}
 use Rattle.quantiser.proofs.forward_len_by.Statement.{statement}
 use Rattle.quantiser.proofs.forward_len_by.Tie as tie
 use Rattle.quantiser.proofs.forward_len_by.Reads as reads
@@ -16,7 +16,7 @@ unsigned-abs-requires : tie.Need-unsigned-abs-requires
 unsigned-abs-requires c κs = search rules
 
 is-abs : (c : tie.After-unsigned-abs) → c.unsigned_abs.result ≡ nat_abs c.before.args.c
-is-abs c = abs-read c.before.args.c _ c.before.ranges.c c.unsigned_abs.ensures.0
+is-abs c = abs_read c.before.args.c _ c.before.ranges.c c.unsigned_abs.ensures.0
 
 mul-n : tie.Need-overflow-mul-n
 mul-n c = omega (arith, is-abs c)
@@ -30,7 +30,7 @@ quotient-log2-requires c κs = search rules
 known : (c : tie.After-quotient-log2) → Length c.before.before.args.f c.quotient-log2.result c.before.before.args.c
 known c =
     let s = c.before.before in
-    length-law s.args.f c.before.unsigned_abs.result c.quotient-log2.result s.args.c (omega arith) (is-abs c.before) s.requires.1 c.quotient-log2.ensures
+    length_law s.args.f c.before.unsigned_abs.result c.quotient-log2.result s.args.c (omega arith) (is-abs c.before) s.requires.1 c.quotient-log2.ensures
 
 mul-result : tie.Need-overflow-mul-result
 mul-result c = omega (arith, (known c.before).short)

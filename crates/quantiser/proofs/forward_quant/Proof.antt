@@ -3,7 +3,7 @@ use mathlib.Core.Path.{◌∙◌}
 use mir.Syntax.{w64}
 use mir.Facts.{to_z-of_z}
 use borrow.Author.Rules.{rules}
-use Rattle.quantiser.specs.Quant.{forwardQuant}
+use Rattle.quantiser.specs.Quant.{forward_quant}
 use Rattle.quantiser.specs.Laws.Step.{back, refused, answered}
 use Rattle.quantiser.proofs.forward_quant.Statement.{statement}
 use Rattle.quantiser.proofs.forward_quant.Tie as tie
@@ -22,7 +22,7 @@ forward-by-requires : tie.Need-forward-by-requires
 forward-by-requires c κs = search rules
 
 returns-2 : tie.Need-returns-2
-unfolding forwardQuant
+unfolding forward_quant
 returns-2 c =
     let s = c.before.before.before in
     answered s.args.index _ _ c.before.before.if1.false

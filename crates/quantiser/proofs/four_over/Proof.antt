@@ -4,7 +4,7 @@ use Prim.Native.Nat.{◌/◌, ◌^◌, ◌≤◌}
 use native.Mathlib.Omega.{arith}
 use native.Mathlib.Nat.{mod-lt}
 use borrow.Author.Rules.{rules}
-use Rattle.quantiser.specs.Laws.Step.{quarter, over-four, four-times}
+use Rattle.quantiser.specs.Laws.Step.{quarter, over_four, four_times}
 use Rattle.quantiser.proofs.four_over.Statement.{statement}
 use Rattle.quantiser.proofs.four_over.Tie as tie
 use Rattle.quantiser.proofs.four_over.Reads as reads
@@ -12,7 +12,7 @@ use Rattle.quantiser.proofs.four_over.Lts as lts
 use Rattle.quantiser.proofs.doubled.Reads as doubled-reads
 
 returns : tie.Need-returns
-returns c = over-four c.before.args.m c.before.args.f c.if1.true
+returns c = over_four c.before.args.m c.before.args.f c.if1.true
 
 mul-result : tie.Need-overflow-mul-result
 mul-result c = search rules
@@ -47,7 +47,7 @@ doubled-requires-2 c κs =
 returns-3 : tie.Need-returns-3
 returns-3 c =
     let a = c.before.before.before.before.args in
-    four-times a.f a.m _ _ _ refl refl c.before.doubled.ensures c.doubled2.ensures
+    four_times a.f a.m _ _ _ refl refl c.before.doubled.ensures c.doubled2.ensures
 
 pub four-over-spec : {M : Type 1} → statement M
 four-over-spec =

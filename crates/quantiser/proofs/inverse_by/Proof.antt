@@ -5,7 +5,7 @@ use lib.IntN.{nat_abs}
 use mir.Syntax.{w64}
 use mir.Facts.{to_z-of_z}
 use borrow.Author.Rules.{rules}
-use Rattle.quantiser.specs.Laws.Step.{back, abs-read, inverse-zero, inverse-more}
+use Rattle.quantiser.specs.Laws.Step.{back, abs_read, inverse-zero, inverse-more}
 use Rattle.quantiser.proofs.inverse_by.Statement.{statement}
 use Rattle.quantiser.proofs.inverse_by.Tie as tie
 use Rattle.quantiser.proofs.inverse_by.Reads as reads
@@ -19,7 +19,7 @@ unsigned-abs-requires : tie.Need-unsigned-abs-requires
 unsigned-abs-requires c κs = search rules
 
 is-abs : (c : tie.After-unsigned-abs) → c.unsigned_abs.result ≡ nat_abs c.before.args.q
-is-abs c = abs-read c.before.args.q _ c.before.ranges.q c.unsigned_abs.ensures.0
+is-abs c = abs_read c.before.args.q _ c.before.ranges.q c.unsigned_abs.ensures.0
 
 returns : tie.Need-returns
 returns c =

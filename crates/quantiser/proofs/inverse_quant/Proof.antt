@@ -3,7 +3,7 @@ use mathlib.Core.Path.{◌∙◌}
 use mir.Syntax.{w64}
 use mir.Facts.{to_z-of_z}
 use borrow.Author.Rules.{rules}
-use Rattle.quantiser.specs.Quant.{inverseQuant}
+use Rattle.quantiser.specs.Quant.{inverse_quant}
 use Rattle.quantiser.specs.Laws.Step.{back, refused, answered}
 use Rattle.quantiser.proofs.inverse_quant.Statement.{statement}
 use Rattle.quantiser.proofs.inverse_quant.Tie as tie
@@ -26,11 +26,11 @@ inverse-by-requires : tie.Need-inverse-by-requires
 inverse-by-requires c κs = search rules
 
 returns-2 : tie.Need-returns-2
-unfolding inverseQuant
+unfolding inverse_quant
 returns-2 c =
     let s = c.before.before.before.before in
     answered s.args.index _ _ c.before.before.before.if1.false
-    (back _ c.inverse-by.type-inv ∙ c.inverse-by.ensures
+    (back _ c.inverse_by_lem.type-inv ∙ c.inverse_by_lem.ensures
     ∙ rw (c.before.before.table_at.ensures.0, c.before.offset_at.ensures.0, to_z-of_z {w = w64} s.ranges.number))
 
 pub inverse-quant-spec : {M : Type 1} → statement M

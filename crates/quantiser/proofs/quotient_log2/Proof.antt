@@ -1,13 +1,13 @@
 -- `quantiser::quotient_log2` meets its contract.
 use native.Mathlib.Omega.{arith}
-use Rattle.quantiser.specs.Laws.Length.{Gap, gap-law}
+use Rattle.quantiser.specs.Laws.Length.{Gap, gap_law}
 use Rattle.quantiser.proofs.quotient_log2.Statement.{statement}
 use Rattle.quantiser.proofs.quotient_log2.Tie as tie
 use Rattle.quantiser.proofs.quotient_log2.Reads as reads
 use Rattle.quantiser.proofs.quotient_log2.Lts as lts
 
 known : (c : tie.Start) → Gap c.args.n c.args.f
-known c = gap-law c.args.n c.args.f c.requires.0 c.requires.1 (omega arith)
+known c = gap_law c.args.n c.args.f c.requires.0 c.requires.1 (omega arith)
 
 sub-d : tie.Need-overflow-sub-d
 sub-d c = (known c).up

@@ -5,7 +5,7 @@ use lib.IntN.{pos, ◌-ℤ◌}
 use mir.Syntax.{w64}
 use mir.Facts.{to_z-of_z, to_z_pos}
 use borrow.Author.Rules.{rules}
-use Rattle.laws.specs.Laws.Integer.{abs-sub}
+use Rattle.laws.specs.Laws.Integer.{abs_sub}
 use Rattle.laws.specs.Laws.Machine.{fit}
 use Rattle.quantiser.specs.Laws.Sign.{signed-minus, signed-plus}
 use Rattle.quantiser.proofs.signed.Statement.{statement}
@@ -19,7 +19,7 @@ cast-n c = search rules
 sub-result : tie.Need-overflow-sub-result
 sub-result c =
     let m = c.before.args.m in
-    rw (to_z_pos w64 c.before.requires) (fit (pos 0 -ℤ pos m) (omega (arith, abs-sub (pos 0) (pos m))))
+    rw (to_z_pos w64 c.before.requires) (fit (pos 0 -ℤ pos m) (omega (arith, abs_sub (pos 0) (pos m))))
 
 returns : tie.Need-returns
 returns c =

@@ -3,11 +3,11 @@
 use Rattle.std.specs.Prelude.{cond, ℕ, suc, ◌+◌, ltb, get_or, take}
 use mathlib.Core.List.{List, [], ◌∷◌, ◌++◌, flatten}
 use Rattle.laws.specs.Rows.{total}
-use Rattle.quantiser.specs.AnnexD.{Table, tables, tableD1, tableD2, tableD3, tableD4, tableD5, tableD6, tableD7, tableD8}
+use Rattle.quantiser.specs.AnnexD.{Table, tables, table_d1, table_d2, table_d3, table_d4, table_d5, table_d6, table_d7, table_d8}
 
-unfoldable pub allTables : List Table
-unfolding tableD1 tableD2 tableD3 tableD4 tableD5 tableD6 tableD7 tableD8
-allTables = tables ++ (tableD8 ∷ [])
+unfoldable pub all_tables : List Table
+unfolding table_d1 table_d2 table_d3 table_d4 table_d5 table_d6 table_d7 table_d8
+all_tables = tables ++ (table_d8 ∷ [])
 
 -- how many matrices each block of a table has, by horizontal-only depth
 abbrev pub shape : List ℕ
@@ -22,8 +22,8 @@ unfoldable pub cell_of : ℕ → ℕ → ℕ
 cell_of d k = cond (ltb (start_of shape k + d) (start_of shape (suc k))) (start_of shape k + d) 19
 
 abbrev pub table_at : ℕ → Table
-table_at t = get_or allTables t []
+table_at t = get_or all_tables t []
 
 -- the matrix at a place of a table
-unfoldable pub matrixAt : ℕ → ℕ → List ℕ
-matrixAt t c = get_or (flatten (table_at t)) c []
+unfoldable pub matrix_at : ℕ → ℕ → List ℕ
+matrix_at t c = get_or (flatten (table_at t)) c []

@@ -4,13 +4,13 @@ use Rattle.std.proofs.Common.{sym, ap, pow-suc, lt_of_not-le, le_of_suc-le-suc, 
 use Rattle.std.proofs.Math.Nat.{add-div_right}
 use Rattle.std.specs.Int.Count.{count_leading_zeros}
 use Rattle.codewords.specs.CodeWord.{log2, code_s}
-use Rattle.codewords.specs.Laws.Code.{Top, log2-top, top_unique, leading-log2, length-codeS, length-codeS-zero}
-use Rattle.quantiser.specs.Quant.{forwardBy}
-use Rattle.quantiser.specs.Laws.Step.{forward-abs}
+use Rattle.codewords.specs.Laws.Code.{Top, log2-top, top_unique, leading_log2, length-code_s, length-code_s-zero}
+use Rattle.quantiser.specs.Quant.{forward_by}
+use Rattle.quantiser.specs.Laws.Step.{forward_abs}
 
 -- ---- the place of the leading one
-pub log2-mono : (a b : ℕ) → 0 < a → a ≤ b → log2 a ≤ log2 b
-log2-mono a b p h =
+pub log2_mono : (a b : ℕ) → 0 < a → a ≤ b → log2 a ≤ log2 b
+log2_mono a b p h =
     let s = log2-top a p in
     let t = log2-top b (omega arith) in
     le_of_suc-le-suc (lt_of_not-le λ (g : suc (log2 b) ≤ log2 a). omega (arith, pow-suc 2 (log2 b), pow_mono g))
@@ -40,9 +40,9 @@ top-less n f j d s t h =
       high = (div-lt_iff_lt-mul p).1 (omega (arith, ap (λ (x : ℕ). f * x) e));
     }
 
-above-pos : (n f d : ℕ) → f ≤ n → n < f * 2 ^ d → 0 < d
-above-pos n f zero h l = absurd (omega arith)
-above-pos n f (suc d) h l = omega arith
+above_pos : (n f d : ℕ) → f ≤ n → n < f * 2 ^ d → 0 < d
+above_pos n f zero h l = absurd (omega arith)
+above_pos n f (suc d) h l = omega arith
 
 log2-less : (n f j d : ℕ) → Top f j → Top n (j + d) → 0 < d → n < f * 2 ^ d → d - 1 ≡ log2 (n / f)
 log2-less n f j zero s t p l = absurd (omega arith)
@@ -62,11 +62,11 @@ pub record Gap (n f : ℕ) : Type 0 where
   pub some : n < moved n f → 0 < gap n f
   pub less : n < moved n f → gap n f - 1 ≡ log2 (n / f)
 
-pub gap-law : (n f : ℕ) → 0 < f → f ≤ n → n < 2 ^ 64 → Gap n f
-gap-law n f p h b =
-    let zf = leading-log2 64 f p (omega arith) in
-    let zn = leading-log2 64 n (omega arith) b in
-    let m = log2-mono f n p h in
+pub gap_law : (n f : ℕ) → 0 < f → f ≤ n → n < 2 ^ 64 → Gap n f
+gap_law n f p h b =
+    let zf = leading_log2 64 f p (omega arith) in
+    let zn = leading_log2 64 n (omega arith) b in
+    let m = log2_mono f n p h in
     let l : suc (log2 n) ≤ 64 = omega arith in
     let e : log2 n ≡ log2 f + gap n f = omega arith in
     let s = log2-top f p in
@@ -77,29 +77,29 @@ gap-law n f p h b =
       up = omega arith;
       short = omega arith;
       same = λ (q : moved n f ≤ n). top-log2 (top-same n f (log2 f) (gap n f) s t (rw is at q));
-      some = λ (q : n < moved n f). above-pos n f (gap n f) h (rw is at q);
-      less = λ (q : n < moved n f). log2-less n f (log2 f) (gap n f) s t (above-pos n f (gap n f) h (rw is at q)) (rw is at q);
+      some = λ (q : n < moved n f). above_pos n f (gap n f) h (rw is at q);
+      less = λ (q : n < moved n f). log2-less n f (log2 f) (gap n f) s t (above_pos n f (gap n f) h (rw is at q)) (rw is at q);
     }
 
 -- ---- the length by e, the place of the leading one of the number's magnitude and one
 pub record Length (f e : ℕ) (c : ℤ) : Type 0 where
   pub short : e < 64
-  pub none : e ≡ 0 → 1 ≡ length (code_s (forwardBy f c))
-  pub some : 0 < e → 2 * e + 2 ≡ length (code_s (forwardBy f c))
+  pub none : e ≡ 0 → 1 ≡ length (code_s (forward_by f c))
+  pub some : 0 < e → 2 * e + 2 ≡ length (code_s (forward_by f c))
 
-length-by : (f e : ℕ) (c : ℤ) → nat_abs (forwardBy f c) < 2 ^ 63 → e ≡ log2 (nat_abs (forwardBy f c) + 1) → Length f e c
-length-by f e c b h =
-    let k = nat_abs (forwardBy f c) in
+length_by : (f e : ℕ) (c : ℤ) → nat_abs (forward_by f c) < 2 ^ 63 → e ≡ log2 (nat_abs (forward_by f c) + 1) → Length f e c
+length_by f e c b h =
+    let k = nat_abs (forward_by f c) in
     let t : Top (k + 1) e = rw h (log2-top (k + 1) (omega arith)) in
     record {
-      short = omega (arith, leading-log2 64 (k + 1) (omega arith) (omega arith));
-      none = λ (z : e ≡ 0). sym (length-codeS-zero (forwardBy f c) (omega (arith, rw z at t.high)));
-      some = λ (p : 0 < e). omega (arith, length-codeS (forwardBy f c) (omega (arith, pow_mono p, t.low)));
+      short = omega (arith, leading_log2 64 (k + 1) (omega arith) (omega arith));
+      none = λ (z : e ≡ 0). sym (length-code_s-zero (forward_by f c) (omega (arith, rw z at t.high)));
+      some = λ (p : 0 < e). omega (arith, length-code_s (forward_by f c) (omega (arith, pow_mono p, t.low)));
     }
 
 -- the number's magnitude and one are (4 m + f) / f
-pub length-law : (f m e : ℕ) (c : ℤ) → 0 < f → m ≡ nat_abs c → nat_abs c < 2 ^ 60 → e ≡ log2 ((4 * m + f) / f) → Length f e c
-length-law f m e c p em b h =
+pub length_law : (f m e : ℕ) (c : ℤ) → 0 < f → m ≡ nat_abs c → nat_abs c < 2 ^ 60 → e ≡ log2 ((4 * m + f) / f) → Length f e c
+length_law f m e c p em b h =
     let l = div-le_self (4 * nat_abs c) f in
-    let is = forward-abs f c b in
-    length-by f e c (omega arith) (rw (is, ← add-div_right (4 * nat_abs c) p, ← em) h)
+    let is = forward_abs f c b in
+    length_by f e c (omega arith) (rw (is, ← add-div_right (4 * nat_abs c) p, ← em) h)

@@ -5,22 +5,22 @@ use Rattle.std.proofs.Math.IntN.{+ℤ_idl}
 use Rattle.std.proofs.Math.Dec.{leb-suc-zero}
 use Rattle.std.specs.Int.Signed.{lt_z}
 use Rattle.laws.specs.Laws.Integer.{parts, var, minus, ◌⊟◌, lt_yes, lt_no, abs_neg}
-use Rattle.codewords.specs.CodeWord.{code_s, codeM}
+use Rattle.codewords.specs.CodeWord.{code_s, code_m}
 use Rattle.codewords.specs.Laws.Code.{code-signed}
 use Rattle.quantiser.specs.Standard.{signed}
-use Rattle.quantiser.specs.Quant.{cap, forwardBy}
+use Rattle.quantiser.specs.Quant.{cap, forward_by}
 
 pub signed-zero : (z : ℤ) → signed z 0 ≡ pos 0
 signed-zero (pos n) = refl
 signed-zero (negsuc n) = refl
 
-pub abs-signed : (z : ℤ) (m : ℕ) → nat_abs (signed z m) ≡ m
-abs-signed (pos n) m = refl
-abs-signed (negsuc n) m = abs_neg (pos m)
+pub abs_signed : (z : ℤ) (m : ℕ) → nat_abs (signed z m) ≡ m
+abs_signed (pos n) m = refl
+abs_signed (negsuc n) m = abs_neg (pos m)
 
-pub signed-abs : (z : ℤ) → signed z (nat_abs z) ≡ z
-signed-abs (pos n) = refl
-signed-abs (negsuc n) = refl
+pub signed_abs : (z : ℤ) → signed z (nat_abs z) ≡ z
+signed_abs (pos n) = refl
+signed_abs (negsuc n) = refl
 
 -- a magnitude that is not 0 keeps the sign
 pub signed-signed : (z : ℤ) (n m : ℕ) → 0 < n → signed (signed z n) m ≡ signed z m
@@ -33,30 +33,30 @@ pub record Near (f m n : ℕ) : Type 0 where
   pub below : 4 * m < 4 * n + f
   pub above : 4 * n < 4 * m + f
 
-pub near-signed : (f m : ℕ) (z : ℤ) → Near f (nat_abs z) m → 4 * nat_abs (z -ℤ signed z m) < f
-near-signed f m (pos k) n = let s = var (pos k) ⊟ var (pos m) in omega (arith, parts (pos k -ℤ pos m))
-near-signed f m (negsuc k) n =
+pub near_signed : (f m : ℕ) (z : ℤ) → Near f (nat_abs z) m → 4 * nat_abs (z -ℤ signed z m) < f
+near_signed f m (pos k) n = let s = var (pos k) ⊟ var (pos m) in omega (arith, parts (pos k -ℤ pos m))
+near_signed f m (negsuc k) n =
     let s = var (negsuc k) ⊟ minus (var (pos m)) in
     omega (arith, parts (negsuc k -ℤ neg_ℤ (pos m)))
 
 -- ---- the code word by the magnitude and the sign; that of 0 has no sign
-pub code-sign : (z : ℤ) (m : ℕ) → code_s (signed z m) ≡ codeM m (lt_z z (pos 0))
-unfolding codeM
+pub code-sign : (z : ℤ) (m : ℕ) → code_s (signed z m) ≡ code_m m (lt_z z (pos 0))
+unfolding code_m
 code-sign (pos n) zero = code-signed (pos 0)
-code-sign (pos n) (suc m) = code-signed (pos (suc m)) ∙ ap (codeM (suc m)) (leb-suc-zero (suc m) ∙ sym (leb-suc-zero n))
+code-sign (pos n) (suc m) = code-signed (pos (suc m)) ∙ ap (code_m (suc m)) (leb-suc-zero (suc m) ∙ sym (leb-suc-zero n))
 code-sign (negsuc n) zero = code-signed (pos 0)
 code-sign (negsuc n) (suc m) = code-signed (negsuc m)
 
-pub forward-code : (f : ℕ) (c : ℤ) → code_s (forwardBy f c) ≡ codeM (nat_abs (forwardBy f c)) (lt_z c (pos 0))
-unfolding forwardBy
+pub forward-code : (f : ℕ) (c : ℤ) → code_s (forward_by f c) ≡ code_m (nat_abs (forward_by f c)) (lt_z c (pos 0))
+unfolding forward_by
 forward-code f c =
     let m = cap (4 * nat_abs c / f) in
-    code-sign c m ∙ ap (λ (k : ℕ). codeM k (lt_z c (pos 0))) (sym (abs-signed c m))
+    code-sign c m ∙ ap (λ (k : ℕ). code_m k (lt_z c (pos 0))) (sym (abs_signed c m))
 
 -- ---- the number as the code makes it
-pub forward-sign : (f m : ℕ) (z c : ℤ) → z ≡ c → m ≡ nat_abs (forwardBy f z) → signed z m ≡ forwardBy f c
-unfolding forwardBy
-forward-sign f m z c e d = ap (signed z) (d ∙ abs-signed z (cap (4 * nat_abs z / f))) ∙ ap (forwardBy f) e
+pub forward-sign : (f m : ℕ) (z c : ℤ) → z ≡ c → m ≡ nat_abs (forward_by f z) → signed z m ≡ forward_by f c
+unfolding forward_by
+forward-sign f m z c e d = ap (signed z) (d ∙ abs_signed z (cap (4 * nat_abs z / f))) ∙ ap (forward_by f) e
 
 pub signed-minus : (z : ℤ) (m : ℕ) → lt_z z (pos 0) ≡ true → pos 0 -ℤ pos m ≡ signed z m
 signed-minus (pos n) m h = let t = lt_yes (pos n) (pos 0) h in absurd (omega arith)

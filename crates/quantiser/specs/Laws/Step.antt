@@ -9,60 +9,60 @@ use Rattle.std.specs.Int.{w64}
 use Rattle.quantiser.specs.declared.Quotient.{Quotient}
 use Rattle.quantiser.specs.declared.QuantAnswer.TheVariants.{Value, Refused}
 use Rattle.quantiser.specs.Standard.{signed}
-use Rattle.quantiser.specs.Quant.{cap, forwardBy, inverseBy}
+use Rattle.quantiser.specs.Quant.{cap, forward_by, inverse_by}
 use Rattle.quantiser.specs.Answer.{answer_of, Answered}
 use Rattle.quantiser.specs.Code.Step.{Doubles}
 use Rattle.quantiser.specs.Laws.Cap.{cap-same, cap-most}
-use Rattle.quantiser.specs.Laws.Sign.{abs-signed}
+use Rattle.quantiser.specs.Laws.Sign.{abs_signed}
 
 -- ---- a signed number is handed on as its bits
 pub back : (z : ℤ) → mag z < 2 ^ 63 → to_z w64 (of_z w64 z) ≡ z
 back z h = to_z-of_z (record { sfits = h })
 
-pub abs-read : (z : ℤ) (m : ℕ) → SFits w64 z → m ≡ nat_abs (to_z w64 (of_z w64 z)) → m ≡ nat_abs z
-abs-read z m h e = rw (to_z-of_z {w = w64} h) at e
+pub abs_read : (z : ℤ) (m : ℕ) → SFits w64 z → m ≡ nat_abs (to_z w64 (of_z w64 z)) → m ≡ nat_abs z
+abs_read z m h e = rw (to_z-of_z {w = w64} h) at e
 
 -- ---- the first quotient of a magnitude: a factor is 4 or more
 pub quarter : (m f : ℕ) → 4 ≤ f → m ≤ 2 ^ 63 → m / f ≤ 2 ^ 61
 quarter m f h l = div-le_of_le-mul f (le_trans (omega arith) (mul-le-mul_right (2 ^ 61) h))
 
 -- ---- four times m over f: m itself at the factor 4, no more at any other, and 0 where f is larger
-pub over-four : (m f : ℕ) → f ≡ 4 → m ≡ 4 * m / f
-over-four m f e = rw e (omega arith)
+pub over_four : (m f : ℕ) → f ≡ 4 → m ≡ 4 * m / f
+over_four m f e = rw e (omega arith)
 
-pub over-more : (m f : ℕ) → 4 ≤ f → 4 * m / f ≤ m
-over-more m f h = div-le_of_le-mul f (mul-le-mul_right m h)
+pub over_more : (m f : ℕ) → 4 ≤ f → 4 * m / f ≤ m
+over_more m f h = div-le_of_le-mul f (mul-le-mul_right m h)
 
 pub over_none : (m f : ℕ) → 4 * m < f → 0 ≡ 4 * m / f
 over_none m f h = let l = (div-lt_iff_lt-mul {k = f} {x = 4 * m} {y = 1} (omega arith)).1 (omega arith) in omega arith
 
 -- ---- four times m over f: a quotient and a remainder doubled twice
-pub four-times : (f m : ℕ) (a b c : Quotient) → a.quotient ≡ m / f → a.remainder ≡ m % f → Doubles f a b → Doubles f b c → c.quotient ≡ 4 * m / f
-four-times f m a b c eq er s t =
+pub four_times : (f m : ℕ) (a b c : Quotient) → a.quotient ≡ m / f → a.remainder ≡ m % f → Doubles f a b → Doubles f b c → c.quotient ≡ 4 * m / f
+four_times f m a b c eq er s t =
     let e : a.quotient * f + a.remainder ≡ m = rw (eq, er) (div-add-mod' m f) in
     let g : c.quotient * f + c.remainder ≡ 4 * m = omega (arith, s.twice, t.twice) in
     sym (rw g at (digits_div c.quotient t.small))
 
-pub forward-is : (f m n q : ℕ) (c : ℤ) → m ≡ nat_abs c → q ≡ 4 * m / f → n ≡ cap q → signed c n ≡ forwardBy f c
-unfolding forwardBy
-forward-is f m n q c em eq en = rw (en, eq, em)
+pub forward_is : (f m n q : ℕ) (c : ℤ) → m ≡ nat_abs c → q ≡ 4 * m / f → n ≡ cap q → signed c n ≡ forward_by f c
+unfolding forward_by
+forward_is f m n q c em eq en = rw (en, eq, em)
 
 -- the number's magnitude where nothing is capped
-pub forward-abs : (f : ℕ) (c : ℤ) → nat_abs c < 2 ^ 60 → nat_abs (forwardBy f c) ≡ 4 * nat_abs c / f
-unfolding forwardBy
-forward-abs f c b =
+pub forward_abs : (f : ℕ) (c : ℤ) → nat_abs c < 2 ^ 60 → nat_abs (forward_by f c) ≡ 4 * nat_abs c / f
+unfolding forward_by
+forward_abs f c b =
     let l = div-le_self (4 * nat_abs c) f in
-    abs-signed c (cap (4 * nat_abs c / f)) ∙ cap-same (omega arith)
+    abs_signed c (cap (4 * nat_abs c / f)) ∙ cap-same (omega arith)
 
 -- ---- a number rebuilt: 0, and any other
-pub inverse-zero : (f off : ℕ) (q : ℤ) → nat_abs q ≡ 0 → pos 0 ≡ inverseBy f off q
-unfolding inverseBy
+pub inverse-zero : (f off : ℕ) (q : ℤ) → nat_abs q ≡ 0 → pos 0 ≡ inverse_by f off q
+unfolding inverse_by
 inverse-zero f off (pos n) e = rw e
 inverse-zero f off (negsuc n) e = absurd (omega arith)
 
 pub inverse-more : (f off m p s t : ℕ) (q : ℤ) → m ≡ nat_abs q → 0 < m → p ≡ cap (cap m * f) → s ≡ cap (p + off) → t ≡ cap (s + 2)
-    → signed q (t / 4) ≡ inverseBy f off q
-unfolding inverseBy
+    → signed q (t / 4) ≡ inverse_by f off q
+unfolding inverse_by
 inverse-more f off zero p s t q e h ep es et = absurd (omega arith)
 inverse-more f off (suc m) p s t q e h ep es et = rw (← e, et, es, ep)
 

@@ -6,14 +6,14 @@ use Rattle.wavelet.specs.Code.Walk.{Deep}
 
 -- sides and depths of a case
 pub record SmallSides (c : Component) (t : Transform) : Type 0 where
-  pub some-w : 1 ≤ c.w
-  pub some-h : 1 ≤ c.h
-  pub few-w : c.w ≤ 256
-  pub few-h : c.h ≤ 256
-  pub k-le : t.k ≤ 5
-  pub d-le : t.d ≤ 5
-  pub ih-le : t.ih ≤ 6
-  pub iv-le : t.iv ≤ 6
+  pub some_w : 1 ≤ c.w
+  pub some_h : 1 ≤ c.h
+  pub few_w : c.w ≤ 256
+  pub few_h : c.h ≤ 256
+  pub k_le : t.k ≤ 5
+  pub d_le : t.d ≤ 5
+  pub ih_le : t.ih ≤ 6
+  pub iv_le : t.iv ≤ 6
 
 -- r is the component c with its padded sides
 pub record Full (c : Component) (t : Transform) (r : Component) : Type 0 where
@@ -26,8 +26,8 @@ pub record Full (c : Component) (t : Transform) (r : Component) : Type 0 where
 -- what the transform of n samples in the numbers l asks
 pub record SidesFit (c : Component) (t : Transform) (n : ℕ) (l : List ℤ) : Type 0 where
   pub deep : Deep t.k t.d c.ph c.pw t.ih t.iv
-  pub some-w : 1 ≤ c.w
-  pub some-h : 1 ≤ c.h
+  pub some_w : 1 ≤ c.w
+  pub some_h : 1 ≤ c.h
   pub whole : c.h * c.w ≤ n
   pub few : n ≤ 8192
   pub small : c.ph * c.pw ≤ 8192

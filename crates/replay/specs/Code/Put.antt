@@ -3,12 +3,12 @@ use Rattle.std.specs.Prelude.{◌≤◌, ◌<◌, ◌^◌}
 use Rattle.std.specs.Int.{w64}
 use Rattle.std.proofs.Common.{SFits}
 use Rattle.codewords.specs.Bit.{Bits, lit}
-use Rattle.codewords.specs.CodeWord.{codeU, code_s}
+use Rattle.codewords.specs.CodeWord.{code_u, code_s}
 use Rattle.replay.specs.declared.codes.Put.{Put}
 use Rattle.replay.specs.declared.codes.Put.TheVariants.{Uint, Sint, Nbits}
 
 abbrev pub bits_of : Put → Bits
-bits_of (Uint v) = codeU v
+bits_of (Uint v) = code_u v
 bits_of (Sint z) = code_s z
 bits_of (Nbits n v) = lit n v
 

@@ -5,12 +5,12 @@ use Rattle.std.proofs.Math.Path.{refl}
 use Rattle.std.proofs.Common.{sym, ◌∙◌, arith}
 use Rattle.std.proofs.Math.Dec.{ltb}
 use borrow.Author.Tests.{ltb-true, lt-ltb, eqb-false}
-use Rattle.wavelet.specs.Depth.{depthLimit}
-use Rattle.wavelet.specs.Laws.Depth.{five-levels}
+use Rattle.wavelet.specs.Depth.{depth_limit}
+use Rattle.wavelet.specs.Laws.Depth.{five_levels}
 use Rattle.unit.specs.declared.Settings.{Settings}
 use Rattle.unit.specs.Three.{Three}
 use Rattle.unit.specs.Rules.{Rule, rule, first}
-use Rattle.unit.specs.Refusal.{rules, refusalOf}
+use Rattle.unit.specs.Refusal.{rules, refusal_of}
 use Rattle.unit.specs.Laws.Matrix.{no_default}
 use Rattle.unit.specs.Laws.Rules.{none_of}
 use Rattle.unit.specs.Laws.Valid.{numbered}
@@ -37,15 +37,15 @@ second false false rs n = (λ e. absurd (later rs n e), λ h. no_truth (sym h.1)
 
 module _ (s : Settings) (m : List ℕ) (p : Three (List ℕ)) (work : List ℤ) where
   abbrev limit : ℕ
-  limit = depthLimit s.wavelet_index_ho s.wavelet_index
+  limit = depth_limit s.wavelet_index_ho s.wavelet_index
 
   abbrev depths : ℕ
   depths = s.dwt_depth + s.dwt_depth_ho
 
   -- 2 answers just those calls whose wavelet indices are at most 6 and whose depths sum to more than their limit
-  pub too-deep : (refusalOf s m p work ≡ 2) ↔ (((s.wavelet_index ≤ 6) × (s.wavelet_index_ho ≤ 6)) × (limit < depths))
-  unfolding refusalOf
-  too-deep =
+  pub too_deep_lem : (refusal_of s m p work ≡ 2) ↔ (((s.wavelet_index ≤ 6) × (s.wavelet_index_ho ≤ 6)) × (limit < depths))
+  unfolding refusal_of
+  too_deep_lem =
       let wavelets = both (at_most 6 s.wavelet_index) (at_most 6 s.wavelet_index_ho) in
       let at = second (ltb 6 s.wavelet_index || ltb 6 s.wavelet_index_ho) (ltb limit depths) (drop 2 (rules s m p work))
       (refl, (refl, (refl, (refl, (refl, (refl, (refl, (refl, (refl, (refl, (refl, tt))))))))))) in (
@@ -60,17 +60,17 @@ module _ (s : Settings) (m : List ℕ) (p : Three (List ℕ)) (work : List ℤ) 
 
   -- of "Calls accepted before answer as they did" what rule 2 decides: a call whose depths sum to at most 5 is turned
   -- away by the same number as before, and one that was accepted is
-  pub as_before : depths ≤ 5 → refusalOf s m p work ≡ refusal01
-  unfolding refusalOf refusal01
-  as_before h = rw ((at_most limit depths).1 (five-levels s.wavelet_index_ho s.wavelet_index h), (at_most 5 depths).1 h) refl
+  pub as_before : depths ≤ 5 → refusal_of s m p work ≡ refusal01
+  unfolding refusal_of refusal01
+  as_before h = rw ((at_most limit depths).1 (five_levels s.wavelet_index_ho s.wavelet_index h), (at_most 5 depths).1 h) refl
 
-  pub accepted-before : refusal01 ≡ 0 → refusalOf s m p work ≡ 0
+  pub accepted_before : refusal01 ≡ 0 → refusal_of s m p work ≡ 0
   unfolding refusal01
-  accepted-before e = as_before ((at_most 5 depths).0 ((none_of (set (rules s m p work) 1 (rule 2 (ltb 5 depths))) (numbered s m p work)).0 e).1.0) ∙ e
+  accepted_before e = as_before ((at_most 5 depths).0 ((none_of (set (rules s m p work) 1 (rule 2 (ltb 5 depths))) (numbered s m p work)).0 e).1.0) ∙ e
 
   -- "Where Annex D has no default, 10 stays the answer": rule 10 is broken by every call that asks for the default
   -- where the depths sum to more than 5
-  pub no-default-left : s.custom_matrix ≡ false → 5 < depths → (get_or (rules s m p work) 9 (rule 0 false)).broken ≡ true
-  no-default-left e l =
+  pub no_default_left : s.custom_matrix ≡ false → 5 < depths → (get_or (rules s m p work) 9 (rule 0 false)).broken ≡ true
+  no_default_left e l =
       let none-there = no_default s.dwt_depth s.dwt_depth_ho s.wavelet_index s.wavelet_index_ho (omega arith) in
       rw (e, none-there) refl

@@ -36,15 +36,15 @@ first-append (r ∷ rs) ys h = next r.broken r.number (first (rs ++ ys)) (first 
 
 -- ---- group n, with the number m of the groups behind it, and r is what the code finds for it
 module _ (m : ℕ) {n r : ℕ} (e : r ≡ n) where
-  pub or-stops : (r ≡ 0 → ⊥) → r ≡ or_else n m
-  or-stops h = e ∙ by n (λ z. h (e ∙ z))
+  pub or_stops : (r ≡ 0 → ⊥) → r ≡ or_else n m
+  or_stops h = e ∙ by n (λ z. h (e ∙ z))
     where
       by : (n : ℕ) → (n ≡ 0 → ⊥) → n ≡ or_else n m
       by zero h = absurd (h refl)
       by (suc n) h = refl
 
-  pub or-goes-on : r ≡ 0 → m ≡ or_else n m
-  or-goes-on z = rw (← e, z) refl
+  pub or_goes_on : r ≡ 0 → m ≡ or_else n m
+  or_goes_on z = rw (← e, z) refl
 
 -- ---- no rule is broken
 abbrev pub NoneOf : List Rule → Type 0

@@ -11,36 +11,36 @@ use native.Mathlib.Omega.{arith}
 use Rattle.std.proofs.Math.Arith.{digits_div, digits_mod}
 use Rattle.laws.specs.Rows.{span, total}
 use Rattle.laws.specs.Plane.{Plane}
-use Rattle.codewords.specs.Bit.{Bits, lit, value, oneBits}
+use Rattle.codewords.specs.Bit.{Bits, lit, value, one_bits}
 use Rattle.codewords.specs.Laws.Bit.{length-lit, lit-none, value-lt, lit-value}
-use Rattle.codewords.specs.CodeWord.{zeroFilled}
+use Rattle.codewords.specs.CodeWord.{zero_filled}
 use Rattle.codewords.specs.Read.{Read, got, stop}
 use Rattle.codewords.specs.Laws.Read.{Reads}
 use Rattle.unit.specs.Three.{Three}
 use Rattle.unit.specs.Sizes.{Size, intlog2}
 use Rattle.unit.specs.Slices.{Grid, top, bottom, left, right}
 use Rattle.unit.specs.Trim.{bits_of}
-use Rattle.unit.specs.LowDelay.{roomOf, evens, odds, low_bits}
+use Rattle.unit.specs.LowDelay.{room_of, evens, odds, low_bits}
 use Rattle.unit.specs.HighQuality.{share_of}
-use Rattle.unit.specs.Reader.{SliceNumbers, readLow}
+use Rattle.unit.specs.Reader.{SliceNumbers, read_low}
 use Rattle.unit.specs.Demand.{All}
 use Rattle.unit.specs.Laws.Trim.{bare}
-use Rattle.unit.specs.Laws.LowDelay.{lowRead, reads-blocks, block-ones, one_bit}
-use Rattle.unit.specs.Laws.HighQuality.{share-falls, shares-all}
-use Rattle.unit.specs.Laws.Place.{store, storeFirst, put}
+use Rattle.unit.specs.Laws.LowDelay.{low_read, reads_blocks, block_ones, one_bit}
+use Rattle.unit.specs.Laws.HighQuality.{share_falls, shares_all}
+use Rattle.unit.specs.Laws.Place.{store, store_first, put}
 
 -- ---- the shares of n bytes among d slices
-shares-close : (n d i j : ℕ) → share_of n d i ≤ suc (share_of n d j)
-shares-close n d i j = by (leb i j) refl
+shares_close : (n d i j : ℕ) → share_of n d i ≤ suc (share_of n d j)
+shares_close n d i j = by (leb i j) refl
   where
     by : (b : Bool) → leb i j ≡ b → share_of n d i ≤ suc (share_of n d j)
-    by true e = (share-falls n d i j (leb-true i j e)).1
-    by false e = let h : j ≤ i = omega (arith, leb-false i j e) in omega (arith, (share-falls n d j i h).0)
+    by true e = (share_falls n d i j (leb-true i j e)).1
+    by false e = let h : j ≤ i = omega (arith, leb-false i j e) in omega (arith, (share_falls n d j i h).0)
 
 -- any two differ by at most one byte, earlier ones are not smaller, and they sum to n
 pub shares : (n d : ℕ) → 1 ≤ d
     → ((i j : ℕ) → share_of n d i ≤ suc (share_of n d j)) × ((i j : ℕ) → i ≤ j → share_of n d j ≤ share_of n d i) × (total (span (share_of n d) 0 d) ≡ n)
-shares n d h = (shares-close n d, λ i j l. (share-falls n d i j l).0, shares-all n d h)
+shares n d h = (shares_close n d, λ i j l. (share_falls n d i j l).0, shares_all n d h)
 
 -- ---- a low-delay slice of one byte
 abbrev pub Zeros : List ℤ → Type 0
@@ -49,8 +49,8 @@ Zeros xs = All (λ (v : ℤ). v ≡ pos 0) xs
 abbrev pub NoNumber : Three (List ℤ) → Type 0
 NoNumber z = Zeros z.y × Zeros z.c1 × Zeros z.c2
 
-filled-zeros : (n : ℕ) → Zeros (zeroFilled n [])
-unfolding zeroFilled
+filled-zeros : (n : ℕ) → Zeros (zero_filled n [])
+unfolding zero_filled
 filled-zeros zero = tt
 filled-zeros (suc n) = (refl, filled-zeros n)
 
@@ -67,86 +67,86 @@ odds-zeros (x ∷ []) h = tt
 odds-zeros (x ∷ y ∷ s) h = (h.1.0, odds-zeros s h.1.1)
 
 -- what is read of one byte that ends in a 1; c says how many numbers are wanted
-abbrev pub noRead : ℕ → Three ℕ → SliceNumbers
-noRead q c = lowRead q (zeroFilled c.y []) (zeroFilled (c.c1 + c.c2) [])
+abbrev pub no_read : ℕ → Three ℕ → SliceNumbers
+no_read q c = low_read q (zero_filled c.y []) (zero_filled (c.c1 + c.c2) [])
 
-no_read : (q : ℕ) (c : Three ℕ) → NoNumber (noRead q c).numbers
-no_read q c =
-    let z = zeroFilled (c.c1 + c.c2) [] in
+no_read_lem : (q : ℕ) (c : Three ℕ) → NoNumber (no_read q c).numbers
+no_read_lem q c =
+    let z = zero_filled (c.c1 + c.c2) [] in
     let h = filled-zeros (c.c1 + c.c2) in
     (filled-zeros c.y, evens-zeros z h, odds-zeros z h)
 
-abbrev numbersIn : Three (List ℤ) → Read SliceNumbers → Three (List ℤ)
-numbersIn d (got x s) = x.numbers
-numbersIn d (stop s) = d
+abbrev numbers_in : Three (List ℤ) → Read SliceNumbers → Three (List ℤ)
+numbers_in d (got x s) = x.numbers
+numbers_in d (stop s) = d
 
 -- seven bits s and a 1
 module _ (c : Three ℕ) (s : Bits) (seven : length s ≡ 7) where
-  pub byte_reads : Reads (readLow 1 c) (s ++ oneBits 1) (noRead (value 0 s) c)
+  pub byte_reads : Reads (read_low 1 c) (s ++ one_bits 1) (no_read (value 0 s) c)
   unfolding intlog2
   byte_reads =
       let q = value 0 s in
       let h : q < 2 ^ 7 = subst (λ (k : ℕ). q < 2 ^ k) seven (value-lt s) in
       let e : lit 7 q ≡ s = subst (λ (k : ℕ). lit k q ≡ s) seven (lit-value s 0) in
-      subst₂ (Reads (readLow 1 c))
-      (ap₂ (λ (a b : Bits). a ++ (b ++ oneBits 1)) e (lit-none 0))
-      (ap₂ (lowRead q) (block-ones c.y 0) (block-ones (c.c1 + c.c2) 1))
-      (reads-blocks 1 q c 0 [] (oneBits 1) h (omega arith) (omega arith) refl refl)
+      subst₂ (Reads (read_low 1 c))
+      (ap₂ (λ (a b : Bits). a ++ (b ++ one_bits 1)) e (lit-none 0))
+      (ap₂ (low_read q) (block_ones c.y 0) (block_ones (c.c1 + c.c2) 1))
+      (reads_blocks 1 q c 0 [] (one_bits 1) h (omega arith) (omega arith) refl refl)
 
   -- whatever is read of it, every number is 0
-  pub byte-zeros : (rest t : Bits) (r : SliceNumbers) → readLow 1 c (s ++ (true ∷ rest)) ≡ got r t → NoNumber r.numbers
-  byte-zeros rest t r e =
-      let f : got (noRead (value 0 s) c) rest ≡ got r t =
-      sym (byte_reads.at rest) ∙ ap (readLow 1 c) (append_assoc s (oneBits 1) rest) ∙ e in
-      subst NoNumber (ap (numbersIn r.numbers) f) (no_read (value 0 s) c)
+  pub byte_zeros : (rest t : Bits) (r : SliceNumbers) → read_low 1 c (s ++ (true ∷ rest)) ≡ got r t → NoNumber r.numbers
+  byte_zeros rest t r e =
+      let f : got (no_read (value 0 s) c) rest ≡ got r t =
+      sym (byte_reads.at rest) ∙ ap (read_low 1 c) (append_assoc s (one_bits 1) rest) ∙ e in
+      subst NoNumber (ap (numbers_in r.numbers) f) (no_read_lem (value 0 s) c)
 
 -- one byte as it is written: its runs are of zeros
-byte-bits : (q : ℕ) (ys cs : List ℤ) → bits_of ys + bits_of cs ≤ roomOf 1 → low_bits 1 q ys cs ≡ lit 7 q ++ oneBits 1
+byte_bits : (q : ℕ) (ys cs : List ℤ) → bits_of ys + bits_of cs ≤ room_of 1 → low_bits 1 q ys cs ≡ lit 7 q ++ one_bits 1
 unfolding low_bits intlog2
-byte-bits q ys cs f =
+byte_bits q ys cs f =
     let y = bare ys (omega arith) in
     let z = bare cs (omega arith) in
     ap₂ (λ (a b : Bits). lit 7 q ++ (a ++ b)) (lit-none (bits_of ys))
-    (ap₂ (λ (a b : Bits). a ++ (b ++ oneBits (1 - bits_of ys - bits_of cs))) y.bits z.bits ∙ one_bit (bits_of ys) (bits_of cs) f)
+    (ap₂ (λ (a b : Bits). a ++ (b ++ one_bits (1 - bits_of ys - bits_of cs))) y.bits z.bits ∙ one_bit (bits_of ys) (bits_of cs) f)
 
 -- a slice of one byte reads as no number
-pub byte-none : (c : Three ℕ) (q : ℕ) (ys cs : List ℤ) → bits_of ys + bits_of cs ≤ roomOf 1
-    → (rest t : Bits) (r : SliceNumbers) → readLow 1 c (low_bits 1 q ys cs ++ rest) ≡ got r t → NoNumber r.numbers
-byte-none c q ys cs f rest t r e =
-    byte-zeros c (lit 7 q) (length-lit 7 q) rest t r
-    (sym (ap (readLow 1 c) (ap (λ (w : Bits). w ++ rest) (byte-bits q ys cs f) ∙ append_assoc (lit 7 q) (oneBits 1) rest)) ∙ e)
+pub byte_none : (c : Three ℕ) (q : ℕ) (ys cs : List ℤ) → bits_of ys + bits_of cs ≤ room_of 1
+    → (rest t : Bits) (r : SliceNumbers) → read_low 1 c (low_bits 1 q ys cs ++ rest) ≡ got r t → NoNumber r.numbers
+byte_none c q ys cs f rest t r e =
+    byte_zeros c (lit 7 q) (length-lit 7 q) rest t r
+    (sym (ap (read_low 1 c) (ap (λ (w : Bits). w ++ rest) (byte_bits q ys cs f) ∙ append_assoc (lit 7 q) (one_bits 1) rest)) ∙ e)
 
 -- ---- a slice's window, row by row
 module _ (t l c : ℕ) (vs : List ℤ) where
   -- the first n columns of row h
-  unfoldable pub storeRow : ℕ → ℕ → Plane → Plane
-  storeRow h zero p = p
-  storeRow h (suc n) p = store (storeRow h n p) (t + h) (l + n) (get_or vs (h * c + n) (pos 0))
+  unfoldable pub store_row : ℕ → ℕ → Plane → Plane
+  store_row h zero p = p
+  store_row h (suc n) p = store (store_row h n p) (t + h) (l + n) (get_or vs (h * c + n) (pos 0))
 
   -- the first h rows
-  unfoldable pub storeRows : ℕ → Plane → Plane
-  storeRows zero p = p
-  storeRows (suc h) p = storeRow h c (storeRows h p)
+  unfoldable pub store_rows : ℕ → Plane → Plane
+  store_rows zero p = p
+  store_rows (suc h) p = store_row h c (store_rows h p)
 
-  row-stored : (h n : ℕ) (p : Plane) → n ≤ c → storeRow h n (storeFirst t l c vs p (h * c)) ≡ storeFirst t l c vs p (h * c + n)
-  unfolding storeRow storeFirst
-  row-stored h zero p a = let e : h * c + 0 ≡ h * c = omega arith in ap (storeFirst t l c vs p) (sym e)
-  row-stored h (suc n) p a =
+  row_stored : (h n : ℕ) (p : Plane) → n ≤ c → store_row h n (store_first t l c vs p (h * c)) ≡ store_first t l c vs p (h * c + n)
+  unfolding store_row store_first
+  row_stored h zero p a = let e : h * c + 0 ≡ h * c = omega arith in ap (store_first t l c vs p) (sym e)
+  row_stored h (suc n) p a =
       let e : suc (h * c + n) ≡ h * c + suc n = omega arith in
       let d : t + h ≡ t + (h * c + n) / c = rw (digits_div h a) in
       let m : l + n ≡ l + (h * c + n) % c = rw (digits_mod h a) in
-      ap (λ (q : Plane). store q (t + h) (l + n) (get_or vs (h * c + n) (pos 0))) (row-stored h n p (omega arith))
-      ∙ ap₂ (λ (y x : ℕ). store (storeFirst t l c vs p (h * c + n)) y x (get_or vs (h * c + n) (pos 0))) d m
-      ∙ ap (storeFirst t l c vs p) e
+      ap (λ (q : Plane). store q (t + h) (l + n) (get_or vs (h * c + n) (pos 0))) (row_stored h n p (omega arith))
+      ∙ ap₂ (λ (y x : ℕ). store (store_first t l c vs p (h * c + n)) y x (get_or vs (h * c + n) (pos 0))) d m
+      ∙ ap (store_first t l c vs p) e
 
-  pub rows-stored : (h : ℕ) (p : Plane) → storeRows h p ≡ storeFirst t l c vs p (h * c)
-  unfolding storeRows storeFirst
-  rows-stored zero p = rw (zero-mul c)
-  rows-stored (suc h) p =
+  pub rows_stored : (h : ℕ) (p : Plane) → store_rows h p ≡ store_first t l c vs p (h * c)
+  unfolding store_rows store_first
+  rows_stored zero p = rw (zero-mul c)
+  rows_stored (suc h) p =
       let e : h * c + c ≡ suc h * c = omega (arith, suc-mul h c) in
-      ap (storeRow h c) (rows-stored h p) ∙ row-stored h c p (omega arith) ∙ ap (storeFirst t l c vs p) e
+      ap (store_row h c) (rows_stored h p) ∙ row_stored h c p (omega arith) ∙ ap (store_first t l c vs p) e
 
 -- what a slice stores is what the loops over its window's rows and columns store
 pub put-rows : (g : Grid) (z : Size) (k : ℕ) (vs : List ℤ) (p : Plane)
-    → storeRows (top g z k) (left g z k) (right g z k - left g z k) vs (bottom g z k - top g z k) p ≡ put g z k vs p
-put-rows g z k vs p = rows-stored (top g z k) (left g z k) (right g z k - left g z k) vs (bottom g z k - top g z k) p
+    → store_rows (top g z k) (left g z k) (right g z k - left g z k) vs (bottom g z k - top g z k) p ≡ put g z k vs p
+put-rows g z k vs p = rows_stored (top g z k) (left g z k) (right g z k - left g z k) vs (bottom g z k - top g z k) p

@@ -7,24 +7,24 @@ use Rattle.std.proofs.Math.Nat.{div-zero, div-le_of_le-mul, add-mul-div_right}
 use Rattle.laws.specs.Rows.{span}
 use Rattle.laws.specs.Laws.Rows.{length-span}
 use Rattle.laws.specs.Plane.{Plane}
-use Rattle.quantiser.specs.Quant.{quantFactor, forwardQuant}
+use Rattle.quantiser.specs.Quant.{quant_factor, forward_quant}
 use Rattle.quantiser.specs.Laws.Quant.{number-most}
 use Rattle.wavelet.specs.Planes.{Band}
 use Rattle.unit.specs.Sizes.{Size, area}
-use Rattle.unit.specs.Slices.{bound, region, Grid, part, partSize}
-use Rattle.unit.specs.Quantised.{size_of, numbersFrom, numbersLD}
+use Rattle.unit.specs.Slices.{bound, region, Grid, part, part_size}
+use Rattle.unit.specs.Quantised.{size_of, numbers_from, numbers_ld}
 use Rattle.unit.specs.LowDelay.{alternated, evens, odds}
-use Rattle.unit.specs.Reader.{numberCount}
+use Rattle.unit.specs.Reader.{number_count}
 use Rattle.unit.specs.Laws.Subband.{areas}
-use Rattle.unit.specs.Laws.Trim.{Small, small-append}
+use Rattle.unit.specs.Laws.Trim.{Small, small_append}
 
 -- ---- bounds
-pub div-rises : (n : ℕ) {a b : ℕ} → a ≤ b → a / n ≤ b / n
-div-rises zero {a} {b} h = rw (div-zero a) (omega arith)
-div-rises (suc n) {a} {b} h = (le-div_iff_mul-le (zero-lt-suc n)).1 (le_trans (div-mul-le_self a (suc n)) h)
+pub div_rises : (n : ℕ) {a b : ℕ} → a ≤ b → a / n ≤ b / n
+div_rises zero {a} {b} h = rw (div-zero a) (omega arith)
+div_rises (suc n) {a} {b} h = (le-div_iff_mul-le (zero-lt-suc n)).1 (le_trans (div-mul-le_self a (suc n)) h)
 
-pub bound-rises : (n w : ℕ) {i j : ℕ} → i ≤ j → bound n w i ≤ bound n w j
-bound-rises n w h = div-rises n (mul-le-mul_left w h)
+pub bound_rises : (n w : ℕ) {i j : ℕ} → i ≤ j → bound n w i ≤ bound n w j
+bound_rises n w h = div_rises n (mul-le-mul_left w h)
 
 pub bound-most : (n w i : ℕ) → i ≤ n → bound n w i ≤ w
 bound-most n w i h = div-le_of_le-mul n (rw (mul_comm n w) (mul-le-mul_left w h))
@@ -34,27 +34,27 @@ part-most : (n w i : ℕ) → bound n w (suc i) - bound n w i ≤ w
 part-most zero w i = rw (div-zero (w * suc i)) (omega arith)
 part-most (suc n) w i =
     let a : w * suc i ≤ w * i + w * suc n = omega (arith, mul-suc w i, mul-suc w n) in
-    let b : w * suc i / suc n ≤ (w * i + w * suc n) / suc n = div-rises (suc n) a in
+    let b : w * suc i / suc n ≤ (w * i + w * suc n) / suc n = div_rises (suc n) a in
     omega (arith, add-mul-div_right (w * i) w (zero-lt-suc n))
 
 -- ---- how many numbers
-pub length_part : (g : Grid) (z : Size) (k : ℕ) (f : Plane) → length (part g z k f) ≡ partSize g z k
+pub length_part : (g : Grid) (z : Size) (k : ℕ) (f : Plane) → length (part g z k f) ≡ part_size g z k
 unfolding region
-length_part g z k f = length-span _ 0 (partSize g z k)
+length_part g z k f = length-span _ 0 (part_size g z k)
 
-pub partSize-most : (g : Grid) (z : Size) (k : ℕ) → partSize g z k ≤ area z
-partSize-most g z k =
+pub part_size-most : (g : Grid) (z : Size) (k : ℕ) → part_size g z k ≤ area z
+part_size-most g z k =
     rw (mul_comm z.width z.height) (mul-le-mul (part-most g.down z.height (k / g.across)) (part-most g.across z.width (k % g.across)))
 
-pub count_most : (g : Grid) (zs : List Size) (k : ℕ) → numberCount g zs k ≤ areas zs
-unfolding numberCount
+pub count_most : (g : Grid) (zs : List Size) (k : ℕ) → number_count g zs k ≤ areas zs
+unfolding number_count
 count_most g [] k = omega arith
-count_most g (z ∷ zs) k = omega (arith, partSize-most g z k, count_most g zs k)
+count_most g (z ∷ zs) k = omega (arith, part_size-most g z k, count_most g zs k)
 
 -- ---- numbers: how many, and how large
-quant-small : (c : ℤ) (i : ℕ) → nat_abs (forwardQuant c i) ≤ 2 ^ 63
-unfolding forwardQuant
-quant-small c i = number-most (quantFactor i) c
+quant_small : (c : ℤ) (i : ℕ) → nat_abs (forward_quant c i) ≤ 2 ^ 63
+unfolding forward_quant
+quant_small c i = number-most (quant_factor i) c
 
 -- n numbers of magnitudes at most 2^63
 pub record Counted (n : ℕ) (xs : List ℤ) : Type 0 where
@@ -64,26 +64,26 @@ pub record Counted (n : ℕ) (xs : List ℤ) : Type 0 where
 counted-append : {a b : ℕ} {xs ys : List ℤ} → Counted a xs → Counted b ys → Counted (a + b) (xs ++ ys)
 counted-append {xs = xs} {ys = ys} p q = record {
   many = length-append xs ys ∙ ap₂ ◌+◌ p.many q.many;
-  small = small-append xs ys p.small q.small;
+  small = small_append xs ys p.small q.small;
 }
 
-small-span : (f : ℕ → ℤ) (i n : ℕ) → ((k : ℕ) → nat_abs (f k) ≤ 2 ^ 63) → Small (span f i n)
-small-span f i zero h = tt
-small-span f i (suc n) h = (h i, small-span f (suc i) n h)
+small_span : (f : ℕ → ℤ) (i n : ℕ) → ((k : ℕ) → nat_abs (f k) ≤ 2 ^ 63) → Small (span f i n)
+small_span f i zero h = tt
+small_span f i (suc n) h = (h i, small_span f (suc i) n h)
 
-counted-part : (g : Grid) (z : Size) (k : ℕ) (f : Plane) → ((y x : ℕ) → nat_abs (f y x) ≤ 2 ^ 63) → Counted (partSize g z k) (part g z k f)
-counted-part g z k f h = record { many = length_part g z k f; small = unfold region in small-span _ 0 (partSize g z k) (λ n. h _ _) }
+counted-part : (g : Grid) (z : Size) (k : ℕ) (f : Plane) → ((y x : ℕ) → nat_abs (f y x) ≤ 2 ^ 63) → Counted (part_size g z k) (part g z k f)
+counted-part g z k f h = record { many = length_part g z k f; small = unfold region in small_span _ 0 (part_size g z k) (λ n. h _ _) }
 
 module _ (g : Grid) (m : List ℕ) where
-  pub counted-from : (n : ℕ) (bs : List Band) (q k : ℕ) → Counted (numberCount g (map size_of bs) k) (numbersFrom g m n bs q k)
-  unfolding numbersFrom numberCount
-  counted-from n [] q k = record { many = refl; small = tt }
-  counted-from n (b ∷ bs) q k = counted-append (counted-part g (size_of b) k _ (λ y x. quant-small _ _)) (counted-from (suc n) bs q k)
+  pub counted_from : (n : ℕ) (bs : List Band) (q k : ℕ) → Counted (number_count g (map size_of bs) k) (numbers_from g m n bs q k)
+  unfolding numbers_from number_count
+  counted_from n [] q k = record { many = refl; small = tt }
+  counted_from n (b ∷ bs) q k = counted-append (counted-part g (size_of b) k _ (λ y x. quant_small _ _)) (counted_from (suc n) bs q k)
 
-  pub counted-low : (bs : List Band) (r : Plane) (q k : ℕ) → Counted (numberCount g (map size_of bs) k) (numbersLD g m bs r q k)
-  unfolding numbersLD numberCount
+  pub counted-low : (bs : List Band) (r : Plane) (q k : ℕ) → Counted (number_count g (map size_of bs) k) (numbers_ld g m bs r q k)
+  unfolding numbers_ld number_count
   counted-low [] r q k = record { many = refl; small = tt }
-  counted-low (b ∷ bs) r q k = counted-append (counted-part g (size_of b) k _ (λ y x. quant-small _ _)) (counted-from 1 bs q k)
+  counted-low (b ∷ bs) r q k = counted-append (counted-part g (size_of b) k _ (λ y x. quant_small _ _)) (counted_from 1 bs q k)
 
 -- ---- colours that alternate
 pub length-alternated : (us vs : List ℤ) → length us ≡ length vs → length (alternated us vs) ≡ length us + length vs

@@ -2,7 +2,7 @@
 use Rattle.std.specs.Prelude.{◌≡◌, refl, ◌↔◌, Bool, true, false, not, ◌||◌, List, [], ◌∷◌, ℕ, zero, suc, ◌≤◌, eqb, ltb, get_or}
 use Rattle.std.proofs.Common.{arith, ltb-false, le-ltb, eqb-true, eq-eqb, ne_eqb}
 use Rattle.std.proofs.lemmas.Bool.{eqb-false, not-false}
-use Rattle.unit.specs.Refusal.{outside, anyAbove}
+use Rattle.unit.specs.Refusal.{outside, any_above}
 use Rattle.unit.specs.Code.Valid.{Between, AllMost}
 
 pub no_truth : {A : Type 0} → true ≡ false → A
@@ -31,7 +31,7 @@ between most n =
     let o = both (some_of n) (at_most most n) in
     (λ e. let h = o.0 e in record { some = h.0; few = h.1 }, λ b. o.1 (b.some, b.few))
 
-pub all_most : (most : ℕ) (vs : List ℕ) → (anyAbove most vs ≡ false) ↔ AllMost most vs
+pub all_most : (most : ℕ) (vs : List ℕ) → (any_above most vs ≡ false) ↔ AllMost most vs
 all_most most [] = (λ e. tt, λ t. refl)
 all_most most (v ∷ vs) = both (at_most most v) (all_most most vs)
 

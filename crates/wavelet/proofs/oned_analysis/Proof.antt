@@ -1,6 +1,6 @@
 -- `oned_analysis` meets its contract.
 use Rattle.std.proofs.Common.{arith, rules}
-use Rattle.wavelet.specs.Laws.RowCall.{refuse-filter, refuse-long, analysed}
+use Rattle.wavelet.specs.Laws.RowCall.{refuse_filter, refuse_long, analysed}
 use Rattle.wavelet.proofs.oned_analysis.Statement.{statement}
 use Rattle.wavelet.proofs.oned_analysis.Tie as tie
 
@@ -9,10 +9,10 @@ abbrev begin : tie.After-analyse → tie.Start
 begin c = let t = c.before.before in t.before.before
 
 returns : tie.Need-returns
-returns c = refuse-filter c.before.args.index c.before.args.row.now (omega arith)
+returns c = refuse_filter c.before.args.index c.before.args.row.now (omega arith)
 
 returns-2 : tie.Need-returns-2
-returns-2 c = refuse-long c.before.before.args.index c.before.before.args.row.now (omega arith) (omega arith)
+returns-2 c = refuse_long c.before.before.args.index c.before.before.args.row.now (omega arith) (omega arith)
 
 analyse-requires : tie.Need-analyse-requires
 analyse-requires c κs = search rules

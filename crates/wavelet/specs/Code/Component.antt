@@ -7,19 +7,19 @@ use Rattle.wavelet.specs.Code.Level.{Place}
 use Rattle.wavelet.specs.Code.Walk.{Deep}
 use Rattle.wavelet.specs.declared.component.Component as Sides
 use Rattle.wavelet.specs.declared.component.Transform as Levels
-use Rattle.wavelet.specs.RowCall.{rowLimit}
+use Rattle.wavelet.specs.RowCall.{row_limit}
 
 -- the coefficients of a component, in the stream's order, with sums that wrap: rows by filter i, columns by filter j, k
 -- horizontal-only levels and d both ways, from ph rows of pw
-abbrev pub componentOf : ℕ → ℕ → ℕ → ℕ → List ℕ → ℕ → ℕ → ℕ → ℕ → ℕ → List ℤ
-componentOf i j k d s o w h pw ph = coefficients (dwt wrap i j k d ph pw (padded s o w h))
+abbrev pub component_of : ℕ → ℕ → ℕ → ℕ → List ℕ → ℕ → ℕ → ℕ → ℕ → ℕ → List ℤ
+component_of i j k d s o w h pw ph = coefficients (dwt wrap i j k d ph pw (padded s o w h))
 
 -- what the rows of a component ask: samples, and room for its padded plane
 pub record SamplesIn (s : List ℕ) (w h pw ph : ℕ) (l : List ℤ) : Type 0 where
   pub some : (1 ≤ w) × (1 ≤ h)
   pub whole : h * w ≤ length s
   pub room : ph * pw ≤ length l
-  pub short : pw ≤ rowLimit
+  pub short : pw ≤ row_limit
 
 -- what a component asks
 pub record ComponentIn (c : Sides.Component) (t : Levels.Transform) (s : List ℕ) (n off : ℕ) (l : List ℤ) : Type 0 where
@@ -33,9 +33,9 @@ pub record ComponentsIn (luma colour : Sides.Component) (t : Levels.Transform) (
   pub deep : Deep t.k t.d luma.ph luma.pw t.ih t.iv
   pub colours : Deep t.k t.d colour.ph colour.pw t.ih t.iv
   pub some : (1 ≤ luma.w) × (1 ≤ luma.h)
-  pub some-colours : (1 ≤ colour.w) × (1 ≤ colour.h)
-  pub whole-y : luma.h * luma.w ≤ length y
-  pub whole-u : colour.h * colour.w ≤ length u
-  pub whole-v : colour.h * colour.w ≤ length v
+  pub some_colours : (1 ≤ colour.w) × (1 ≤ colour.h)
+  pub whole_y : luma.h * luma.w ≤ length y
+  pub whole_u : colour.h * colour.w ≤ length u
+  pub whole_v : colour.h * colour.w ≤ length v
   pub room : (luma.ph * luma.pw ≤ n) × (colour.ph * colour.pw ≤ n)
   pub fits : n + (luma.ph * luma.pw + colour.ph * colour.pw + colour.ph * colour.pw) ≤ length l

@@ -2,9 +2,9 @@
 use Rattle.std.specs.Prelude.{◌≡◌, ℕ, ◌+◌, ◌*◌, ◌/◌, ◌%◌, ◌^◌, ◌<◌, ◌≤◌, List, length, ℤ}
 use Rattle.laws.specs.Wrap.{wrap}
 use Rattle.laws.specs.Rows.{at, row}
-use Rattle.laws.specs.Plane.{Plane, asList}
+use Rattle.laws.specs.Plane.{Plane, as_list}
 use Rattle.wavelet.specs.Planes.{raise}
-use Rattle.wavelet.specs.RowCall.{rowLimit}
+use Rattle.wavelet.specs.RowCall.{row_limit}
 
 -- ---- what the functions ask and leave
 -- len numbers of l from place `from` on, each `step` places behind the last, with b accuracy bits added
@@ -19,8 +19,8 @@ pub record Copies (l : List ℤ) (a e to len from step : ℕ) : Type 0 where
   pub apart : (k : ℕ) → k < len → a + to ≤ from + step * k → a + to + len ≤ from + step * k
 
 -- row n of a band
-abbrev pub bandRow : List ℤ → ℕ → ℕ → ℕ → ℕ → List ℤ
-bandRow l b from jump n = row b (λ x. at l (from + jump * n + 2 * x))
+abbrev pub band_row : List ℤ → ℕ → ℕ → ℕ → ℕ → List ℤ
+band_row l b from jump n = row b (λ x. at l (from + jump * n + 2 * x))
 
 -- a rows of b may go to to: all that they are made of stands in front
 pub record BandIn (l : List ℤ) (to a b from jump : ℕ) : Type 0 where
@@ -29,17 +29,17 @@ pub record BandIn (l : List ℤ) (to a b from jump : ℕ) : Type 0 where
   pub inside : (y x : ℕ) → y < a → x < b → from + jump * y + 2 * x < to
 
 -- every v-th row from i on, every other column from j on
-abbrev pub partV : ℕ → ℕ → ℕ → Plane → Plane
-partV v i j f y x = f (v * y + i) (2 * x + j)
+abbrev pub part_v : ℕ → ℕ → ℕ → Plane → Plane
+part_v v i j f y x = f (v * y + i) (2 * x + j)
 
 -- band n of the plane in front, whose rows are w wide: L, H, or LL, HL, LH, HH
-abbrev pub bandOf : List ℤ → ℕ → ℕ → ℕ → ℕ → List ℤ
-bandOf l v a w n = asList a (w / 2) (partV v (n / 2) (n % 2) (λ y x. at l (y * w + x)))
+abbrev pub band_of : List ℤ → ℕ → ℕ → ℕ → ℕ → List ℤ
+band_of l v a w n = as_list a (w / 2) (part_v v (n / 2) (n % 2) (λ y x. at l (y * w + x)))
 
 pub record BandsIn (l : List ℤ) (to v a w : ℕ) : Type 0 where
   pub kind : (1 ≤ v) × (v ≤ 2)
   pub wide : w % 2 ≡ 0
-  pub a-le : a ≤ rowLimit
-  pub w_le : w ≤ rowLimit
+  pub a-le : a ≤ row_limit
+  pub w_le : w ≤ row_limit
   pub behind : v * a * w ≤ to
   pub fits : to + v * a * w ≤ length l

@@ -1,15 +1,15 @@
 -- One level on a list with scratch in front: what it asks, and the bands that it leaves.
 use Rattle.std.specs.Prelude.{◌≡◌, ℕ, ◌+◌, ◌*◌, ◌/◌, ◌%◌, ◌≤◌, List, ◌++◌, length, ℤ}
-use Rattle.laws.specs.Plane.{Plane, asList}
-use Rattle.wavelet.specs.Planes.{part, partH}
-use Rattle.wavelet.specs.RowCall.{rowLimit}
+use Rattle.laws.specs.Plane.{Plane, as_list}
+use Rattle.wavelet.specs.Planes.{part, part_h}
+use Rattle.wavelet.specs.RowCall.{row_limit}
 
 -- ---- what the functions ask and leave
 -- a plane of h rows of w at from, with room for it in front
 pub record RowsIn (l : List ℤ) (from h w : ℕ) : Type 0 where
   pub room : h * w ≤ from
   pub fits : from + h * w ≤ length l
-  pub short : w ≤ rowLimit
+  pub short : w ≤ row_limit
 
 -- n places of scratch in front, and m places off behind them
 pub record Place (n off m : ℕ) (l : List ℤ) : Type 0 where
@@ -19,18 +19,18 @@ pub record Place (n off m : ℕ) (l : List ℤ) : Type 0 where
 -- sides for a horizontal-only level, and for one both ways
 pub record EvenWidth (h w : ℕ) : Type 0 where
   pub wide : w % 2 ≡ 0
-  pub h_le : h ≤ rowLimit
-  pub w_le : w ≤ rowLimit
+  pub h_le : h ≤ row_limit
+  pub w_le : w ≤ row_limit
 
 pub record EvenSides (h w : ℕ) : Type 0 where
   pub high : h % 2 ≡ 0
   pub wide : w % 2 ≡ 0
-  pub h_le : h ≤ rowLimit
-  pub w_le : w ≤ rowLimit
+  pub h_le : h ≤ row_limit
+  pub w_le : w ≤ row_limit
 
 -- the bands of a plane one after the other: L, H; LL, HL, LH, HH
 abbrev pub halves : ℕ → ℕ → Plane → List ℤ
-halves h w g = asList h (w / 2) (partH 0 g) ++ asList h (w / 2) (partH 1 g)
+halves h w g = as_list h (w / 2) (part_h 0 g) ++ as_list h (w / 2) (part_h 1 g)
 
 abbrev pub quarters : ℕ → ℕ → Plane → List ℤ
-quarters h w g = asList (h / 2) (w / 2) (part 0 0 g) ++ (asList (h / 2) (w / 2) (part 0 1 g) ++ (asList (h / 2) (w / 2) (part 1 0 g) ++ asList (h / 2) (w / 2) (part 1 1 g)))
+quarters h w g = as_list (h / 2) (w / 2) (part 0 0 g) ++ (as_list (h / 2) (w / 2) (part 0 1 g) ++ (as_list (h / 2) (w / 2) (part 1 0 g) ++ as_list (h / 2) (w / 2) (part 1 1 g)))

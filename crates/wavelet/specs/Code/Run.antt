@@ -19,8 +19,8 @@ pub record Moves (st : Stage) (len n m : ℕ) : Type 0 where
   pub moves : (i j : ℕ) → i < m → j < length st.taps → place st len (n + i) j ≡ place st len n j + 2 * i
 
 -- the sum of the first k taps, their places moved by x
-abbrev pub tapsTo : List ℤ → List ℕ → ℕ → List ℤ → ℕ → ℤ
-tapsTo ts o x a k = dot wrap (at ts) (λ j. at a (slice_index o j + x)) k
+abbrev pub taps_to : List ℤ → List ℕ → ℕ → List ℤ → ℕ → ℤ
+taps_to ts o x a k = dot wrap (at ts) (λ j. at a (slice_index o j + x)) k
 
 pub record TapsIn (a : List ℤ) (s : LiftStage) (o : List ℕ) (x : ℕ) : Type 0 where
   pub legal : Legal s
@@ -30,12 +30,12 @@ pub record TapsIn (a : List ℤ) (s : LiftStage) (o : List ℕ) (x : ℕ) : Type
 -- m more taps from k on
 pub record TapIn (a : List ℤ) (s : LiftStage) (o : List ℕ) (x k : ℕ) (sum : ℤ) (m : ℕ) : Type 0 where
   pub taps : TapsIn a s o x
-  pub so_far : sum ≡ tapsTo s.taps o x a k
+  pub so_far : sum ≡ taps_to s.taps o x a k
   pub more : k + m ≤ s.count
 
 -- the new number at place p + x
 abbrev pub value_of : Stage → Bool → List ℕ → ℕ → ℕ → List ℤ → ℤ
-value_of st plus o p x xs = change wrap plus (at xs (p + x)) (scaled wrap st (tapsTo st.taps o x xs (length st.taps)))
+value_of st plus o p x xs = change wrap plus (at xs (p + x)) (scaled wrap st (taps_to st.taps o x xs (length st.taps)))
 
 -- the list after m updates, of the places p, p + step, .., each of which reads it as it was
 unfoldable pub ran : Stage → Bool → List ℕ → ℕ → ℕ → ℕ → List ℤ → List ℤ
@@ -52,8 +52,8 @@ pub record RunIn (a : List ℤ) (s : LiftStage) (o : List ℕ) (p count step : �
   pub later : (h i j : ℕ) → h < i → i < count → j < s.count → slice_index o j + step * i ≢ p + step * h
 
 -- a stage of two taps, both t, and the places i and j that they read; a run depends on no other number of its stage
-abbrev pub twoTaps : ℤ → ℕ → LiftStage
-twoTaps t shift = record { to = 0; adds = false; shift = shift; ahead = 0; back = 0; count = 2; taps = t ∷ t ∷ replicate 6 (pos 0) }
+abbrev pub two_taps : ℤ → ℕ → LiftStage
+two_taps t shift = record { to = 0; adds = false; shift = shift; ahead = 0; back = 0; count = 2; taps = t ∷ t ∷ replicate 6 (pos 0) }
 
-abbrev pub twoPlaces : ℕ → ℕ → List ℕ
-twoPlaces i j = i ∷ j ∷ replicate 6 0
+abbrev pub two_places : ℕ → ℕ → List ℕ
+two_places i j = i ∷ j ∷ replicate 6 0

@@ -6,10 +6,10 @@ use Rattle.std.proofs.Math.Decide.{dec_lt, dec_le}
 use Rattle.std.proofs.Math.ListN.{get_or-append}
 use Rattle.std.proofs.Math.Arith.{digits_lt}
 use Rattle.laws.specs.Rows.{at}
-use Rattle.laws.specs.Plane.{Plane, asList}
-use Rattle.laws.specs.Laws.Plane.{length-asList, at-asList}
-use Rattle.wavelet.specs.Planes.{Band, coefficients, part, partH, hPass, vhPass, dwtH, dwt, bandAt}
-use Rattle.wavelet.specs.Laws.Plane.{band-left, band-right, length-dwtH, length-dwt}
+use Rattle.laws.specs.Plane.{Plane, as_list}
+use Rattle.laws.specs.Laws.Plane.{length-as_list, at-as_list}
+use Rattle.wavelet.specs.Planes.{Band, coefficients, part, part_h, h_pass, vh_pass, dwt_h, dwt, band_at}
+use Rattle.wavelet.specs.Laws.Plane.{band-left, band-right, length-dwt_h, length-dwt}
 
 -- how often the width is halved for level n, up to the horizontal-only depth k
 unfoldable pub halvings : ℕ → ℕ → ℕ → ℕ
@@ -31,8 +31,8 @@ offset_of (b ∷ bs) (suc n) = b.high * b.wide + offset_of bs n
 halved : (w e f : ℕ) → f ≡ 1 + e → w / 2 / 2 ^ e ≡ w / 2 ^ f
 halved w e f g = shr-shr w 1 e ∙ ap (λ (z : ℕ). w / 2 ^ z) (sym g)
 
-not-halved : (w f : ℕ) → f ≡ 0 → w ≡ w / 2 ^ f
-not-halved w f e = rw e (omega arith)
+not_halved : (w f : ℕ) → f ≡ 0 → w ≡ w / 2 ^ f
+not_halved w f e = rw e (omega arith)
 
 once : (w f : ℕ) → f ≡ 1 → w / 2 ≡ w / 2 ^ f
 once w f e = rw e
@@ -52,51 +52,51 @@ unfolding halvings
 last k = omega arith
 
 module _ (wr : ℤ → ℤ) (i j : ℕ) where
-  dwtH-sides : (k h w : ℕ) (f : Plane) (n : ℕ) → n ≤ k → Sides (bandAt (dwtH wr i k h w f) n) h w 0 (halvings k 0 n)
-  unfolding dwtH halvings
-  dwtH-sides zero h w f zero l = record { high = not-halved h 0 refl; wide = not-halved w (0 + 0) (omega arith) }
-  dwtH-sides zero h w f (suc n) l = absurd (omega arith)
-  dwtH-sides (suc k) h w f n l = by (dec_le n k) (dwtH-sides k h (w / 2) (partH 0 (hPass wr i h w f)) n)
+  dwt_h_sides : (k h w : ℕ) (f : Plane) (n : ℕ) → n ≤ k → Sides (band_at (dwt_h wr i k h w f) n) h w 0 (halvings k 0 n)
+  unfolding dwt_h halvings
+  dwt_h_sides zero h w f zero l = record { high = not_halved h 0 refl; wide = not_halved w (0 + 0) (omega arith) }
+  dwt_h_sides zero h w f (suc n) l = absurd (omega arith)
+  dwt_h_sides (suc k) h w f n l = by (dec_le n k) (dwt_h_sides k h (w / 2) (part_h 0 (h_pass wr i h w f)) n)
     where
       g : Plane
-      g = hPass wr i h w f
+      g = h_pass wr i h w f
 
       bs : List Band
-      bs = dwtH wr i k h (w / 2) (partH 0 g)
+      bs = dwt_h wr i k h (w / 2) (part_h 0 g)
 
       t : Band
-      t = record { high = h; wide = w / 2; plane = partH 1 g }
+      t = record { high = h; wide = w / 2; plane = part_h 1 g }
 
       long : length bs ≡ 1 + k
-      long = length-dwtH wr i k h (w / 2) (partH 0 g)
+      long = length-dwt_h wr i k h (w / 2) (part_h 0 g)
 
-      by : Dec (n ≤ k) → (n ≤ k → Sides (bandAt bs n) h (w / 2) 0 (halvings k 0 n)) → Sides (bandAt (bs ++ (t ∷ [])) n) h w 0 (halvings (suc k) 0 n)
+      by : Dec (n ≤ k) → (n ≤ k → Sides (band_at bs n) h (w / 2) 0 (halvings k 0 n)) → Sides (band_at (bs ++ (t ∷ [])) n) h w 0 (halvings (suc k) 0 n)
       by (yes m) ih =
           let s = ih m in
           rw (band-left bs (t ∷ []) n (omega (arith, long))) (record { high = s.high; wide = s.wide ∙ halved w (halvings k 0 n) (halvings (suc k) 0 n) (wider k n m) })
       by (no m) ih =
           let e : n ≡ suc k = omega arith in
-          rw (band-right bs (t ∷ []) 0 n (omega (arith, long))) (record { high = not-halved h 0 refl; wide = once w (halvings (suc k) 0 n) (ap (halvings (suc k) 0) e ∙ last k) })
+          rw (band-right bs (t ∷ []) 0 n (omega (arith, long))) (record { high = not_halved h 0 refl; wide = once w (halvings (suc k) 0 n) (ap (halvings (suc k) 0) e ∙ last k) })
 
   -- level 0, and H of the levels up to k: band n is that of level n
-  pub low-sides : (k d h w : ℕ) (f : Plane) (n : ℕ) → n ≤ k → Sides (bandAt (dwt wr i j k d h w f) n) h w d (halvings k d n)
+  pub low_sides : (k d h w : ℕ) (f : Plane) (n : ℕ) → n ≤ k → Sides (band_at (dwt wr i j k d h w f) n) h w d (halvings k d n)
   unfolding dwt
-  low-sides k zero h w f n l = dwtH-sides k h w f n l
-  low-sides k (suc d) h w f n l =
-      let g = vhPass wr i j h w f in
+  low_sides k zero h w f n l = dwt_h_sides k h w f n l
+  low_sides k (suc d) h w f n l =
+      let g = vh_pass wr i j h w f in
       let bs = dwt wr i j k d (h / 2) (w / 2) (part 0 0 g) in
-      let s = low-sides k d (h / 2) (w / 2) (part 0 0 g) n l in
+      let s = low_sides k d (h / 2) (w / 2) (part 0 0 g) n l in
       rw (band-left bs _ n (omega (arith, length-dwt wr i j k d (h / 2) (w / 2) (part 0 0 g))))
       (record { high = s.high ∙ halved h d (suc d) (omega arith); wide = s.wide ∙ halved w (halvings k d n) (halvings k (suc d) n) (deeper k d n (omega arith)) })
 
   -- HL, LH and HH (r is 0, 1, 2) of level k + 1 + m
-  pub high-sides : (k d h w : ℕ) (f : Plane) (m r : ℕ) → m < d → r < 3 → Sides (bandAt (dwt wr i j k d h w f) (1 + k + 3 * m + r)) h w (d - m) (d - m)
+  pub high_sides : (k d h w : ℕ) (f : Plane) (m r : ℕ) → m < d → r < 3 → Sides (band_at (dwt wr i j k d h w f) (1 + k + 3 * m + r)) h w (d - m) (d - m)
   unfolding dwt
-  high-sides k zero h w f m r l q = absurd (omega arith)
-  high-sides k (suc d) h w f m r l q = by (dec_lt m d) (λ a. high-sides k d (h / 2) (w / 2) (part 0 0 (vhPass wr i j h w f)) m r a q)
+  high_sides k zero h w f m r l q = absurd (omega arith)
+  high_sides k (suc d) h w f m r l q = by (dec_lt m d) (λ a. high_sides k d (h / 2) (w / 2) (part 0 0 (vh_pass wr i j h w f)) m r a q)
     where
       g : Plane
-      g = vhPass wr i j h w f
+      g = vh_pass wr i j h w f
 
       bs : List Band
       bs = dwt wr i j k d (h / 2) (w / 2) (part 0 0 g)
@@ -110,13 +110,13 @@ module _ (wr : ℤ → ℤ) (i j : ℕ) where
       long : length bs ≡ 1 + k + 3 * d
       long = length-dwt wr i j k d (h / 2) (w / 2) (part 0 0 g)
 
-      one : (r : ℕ) → r < 3 → (p : ℕ) → p ≡ 1 → Sides (bandAt ts r) h w p p
+      one : (r : ℕ) → r < 3 → (p : ℕ) → p ≡ 1 → Sides (band_at ts r) h w p p
       one zero l p e = record { high = once h p e; wide = once w p e }
       one (suc zero) l p e = record { high = once h p e; wide = once w p e }
       one (suc (suc zero)) l p e = record { high = once h p e; wide = once w p e }
       one (suc (suc (suc r))) l p e = absurd (omega arith)
 
-      by : Dec (m < d) → (m < d → Sides (bandAt bs (1 + k + 3 * m + r)) (h / 2) (w / 2) (d - m) (d - m)) → Sides (bandAt (bs ++ ts) (1 + k + 3 * m + r)) h w (suc d - m) (suc d - m)
+      by : Dec (m < d) → (m < d → Sides (band_at bs (1 + k + 3 * m + r)) (h / 2) (w / 2) (d - m) (d - m)) → Sides (band_at (bs ++ ts) (1 + k + 3 * m + r)) h w (suc d - m) (suc d - m)
       by (yes a) ih =
           let s = ih a in
           let e : suc d - m ≡ 1 + (d - m) = omega arith in
@@ -125,17 +125,17 @@ module _ (wr : ℤ → ℤ) (i j : ℕ) where
           rw (band-right bs ts r (1 + k + 3 * m + r) (omega (arith, long))) (one r q (suc d - m) (omega arith))
 
 -- ---- the numbers of band n
-pub coefficient-at : (bs : List Band) (n y x : ℕ) → n < length bs → y < (bandAt bs n).high → x < (bandAt bs n).wide
-    → at (coefficients bs) (offset_of bs n + (y * (bandAt bs n).wide + x)) ≡ (bandAt bs n).plane y x
+pub coefficient-at : (bs : List Band) (n y x : ℕ) → n < length bs → y < (band_at bs n).high → x < (band_at bs n).wide
+    → at (coefficients bs) (offset_of bs n + (y * (band_at bs n).wide + x)) ≡ (band_at bs n).plane y x
 unfolding offset_of
 coefficient-at [] n y x l hy hx = absurd (omega arith)
 coefficient-at (b ∷ bs) zero y x l hy hx =
     let k : ℕ = y * b.wide + x in
-    let long = length-asList b.high b.wide b.plane in
+    let long = length-as_list b.high b.wide b.plane in
     ap (at (coefficients (b ∷ bs))) (zero-add k)
-    ∙ get_or-append (asList b.high b.wide b.plane) (coefficients bs) (pos 0) k (rw long (digits_lt hy hx)) ∙ at-asList b.high b.wide b.plane y x hy hx
+    ∙ get_or-append (as_list b.high b.wide b.plane) (coefficients bs) (pos 0) k (rw long (digits_lt hy hx)) ∙ at-as_list b.high b.wide b.plane y x hy hx
 coefficient-at (b ∷ bs) (suc n) y x l hy hx =
-    let k : ℕ = offset_of bs n + (y * (bandAt bs n).wide + x) in
-    let xs = asList b.high b.wide b.plane in
-    let e : b.high * b.wide + offset_of bs n + (y * (bandAt bs n).wide + x) ≡ length xs + k = add_assoc (b.high * b.wide) (offset_of bs n) (y * (bandAt bs n).wide + x) ∙ ap (λ (z : ℕ). z + k) (sym (length-asList b.high b.wide b.plane)) in
+    let k : ℕ = offset_of bs n + (y * (band_at bs n).wide + x) in
+    let xs = as_list b.high b.wide b.plane in
+    let e : b.high * b.wide + offset_of bs n + (y * (band_at bs n).wide + x) ≡ length xs + k = add_assoc (b.high * b.wide) (offset_of bs n) (y * (band_at bs n).wide + x) ∙ ap (λ (z : ℕ). z + k) (sym (length-as_list b.high b.wide b.plane)) in
     ap (at (xs ++ coefficients bs)) e ∙ get_or-append-add xs (coefficients bs) k (pos 0) ∙ coefficient-at bs n y x (omega arith) hy hx

@@ -5,67 +5,67 @@ use Rattle.std.proofs.Math.Nat.{add-sub_cancel_left}
 use Rattle.std.proofs.Math.Arith.{digits_lt}
 use Rattle.laws.specs.Wrap.{wrap}
 use Rattle.laws.specs.Rows.{at, row}
-use Rattle.laws.specs.Laws.Rows.{row-ext, length-span}
+use Rattle.laws.specs.Laws.Rows.{row_ext, length-span}
 use Rattle.laws.specs.Code.Chunks.{chunks}
 use Rattle.laws.specs.Laws.Chunks.{length-chunks, at-chunks}
 use Rattle.laws.specs.Code.Window.{piece, put}
-use Rattle.laws.specs.Laws.Window.{length-put, put_in, put-again, put-lent, piece-put, drop-put, drop-put-front, at_piece, piece-drop, Parts, parts-room, parts_next, parts_same, parts_all}
-use Rattle.laws.specs.Plane.{Plane, asPlane, asList}
-use Rattle.laws.specs.Laws.Plane.{length-asList, at-asList, asList-cong, Agree}
-use Rattle.wavelet.specs.Filters.{filterOf, analysisBy}
+use Rattle.laws.specs.Laws.Window.{length-put, put_in, put_again, put-lent, piece-put, drop-put, drop-put-front, at_piece, piece-drop, Parts, parts_room, parts_next, parts_same, parts_all}
+use Rattle.laws.specs.Plane.{Plane, as_plane, as_list}
+use Rattle.laws.specs.Laws.Plane.{length-as_list, at-as_list, as_list_cong, Agree}
+use Rattle.wavelet.specs.Filters.{filter_of, analysis_by}
 use Rattle.wavelet.specs.Laws.Lifting.{length-analysis}
-use Rattle.wavelet.specs.Planes.{raise, columnsBy, hPass, vhPass, part, partH}
-use Rattle.wavelet.specs.Laws.Plane.{rows_at, columns-cong, h-cong}
-use Rattle.wavelet.specs.Laws.PlaneLists.{list-is}
+use Rattle.wavelet.specs.Planes.{raise, columns_by, h_pass, vh_pass, part, part_h}
+use Rattle.wavelet.specs.Laws.Plane.{rows_at, columns_cong, h_cong}
+use Rattle.wavelet.specs.Laws.PlaneLists.{list_is}
 use Rattle.wavelet.specs.Code.Columns.{PlaneIn}
-use Rattle.wavelet.specs.Code.Copy.{copied, Copies, partV, bandOf, BandsIn}
+use Rattle.wavelet.specs.Code.Copy.{copied, Copies, part_v, band_of, BandsIn}
 use Rattle.wavelet.specs.Code.Level.{RowsIn, Place, EvenWidth, EvenSides, halves, quarters}
 
 -- ---- the rows
 -- row y of the scratch, from the plane f
 abbrev pub row_of : ℕ → Plane → ℕ → ℕ → List ℤ
-row_of i f w y = analysisBy wrap i (row w (λ x. raise wrap (filterOf i).bits (f y x)))
+row_of i f w y = analysis_by wrap i (row w (λ x. raise wrap (filter_of i).bits (f y x)))
 
-length-rowOf : (i : ℕ) (f : Plane) (w y : ℕ) → length (row_of i f w y) ≡ w
-length-rowOf i f w y = length-analysis wrap (filterOf i).stages _ ∙ length-span _ 0 w
+length-row_of : (i : ℕ) (f : Plane) (w y : ℕ) → length (row_of i f w y) ≡ w
+length-row_of i f w y = length-analysis wrap (filter_of i).stages _ ∙ length-span _ 0 w
 
 module _ (i : ℕ) (f : Plane) (l : List ℤ) (h w : ℕ) (fits : h * w ≤ length l) (now : List ℤ) (n p : ℕ) (inv : Parts (row_of i f w) l 0 h w now n p) (hn : n < h) where
   front_fits : 0 + h * w ≤ length l
   front_fits = omega arith
 
-  pub rows-room : p + w ≤ h * w
-  rows-room = rw (zero-add (h * w)) at (parts-room (row_of i f w) l 0 h w now n p inv front_fits hn)
+  pub rows_room : p + w ≤ h * w
+  rows_room = rw (zero-add (h * w)) at (parts_room (row_of i f w) l 0 h w now n p inv front_fits hn)
 
   -- a row that was written, lent and analysed
-  pub rows_next : (c w1 ys : List ℤ) → c ≡ row w (λ x. raise wrap (filterOf i).bits (f n x)) → w1 ≡ put p w c now
-      → ys ≡ analysisBy wrap i (piece p (p + w - p) w1) → Parts (row_of i f w) l 0 h w (take p w1 ++ (ys ++ drop (p + w - p) (drop p w1))) (n + 1) (p + w)
+  pub rows_next : (c w1 ys : List ℤ) → c ≡ row w (λ x. raise wrap (filter_of i).bits (f n x)) → w1 ≡ put p w c now
+      → ys ≡ analysis_by wrap i (piece p (p + w - p) w1) → Parts (row_of i f w) l 0 h w (take p w1 ++ (ys ++ drop (p + w - p) (drop p w1))) (n + 1) (p + w)
   rows_next c w1 ys ec e1 ey =
       let F = row_of i f w in
       let long : length c ≡ w = ap length ec ∙ length-span _ 0 w in
-      let room : p + w ≤ length now = omega (arith, rows-room, inv.long) in
+      let room : p + w ≤ length now = omega (arith, rows_room, inv.long) in
       let same : piece p (p + w - p) w1 ≡ c = ap (λ (m : ℕ). piece p m w1) (add-sub_cancel_left p w) ∙ ap (piece p w) e1 ∙ piece-put p w c now room long in
-      let done : ys ≡ F n = ey ∙ ap (analysisBy wrap i) (same ∙ ec) in
-      parts_next F l 0 h w now n p (length-rowOf i f w) inv front_fits hn ys _ done (put-lent p w ys w1 ∙ ap (put p w ys) e1 ∙ put-again p w c now room long ys)
+      let done : ys ≡ F n = ey ∙ ap (analysis_by wrap i) (same ∙ ec) in
+      parts_next F l 0 h w now n p (length-row_of i f w) inv front_fits hn ys _ done (put-lent p w ys w1 ∙ ap (put p w ys) e1 ∙ put_again p w c now room long ys)
 
-pub rows_all : (i : ℕ) (f : Plane) (l : List ℤ) (h w : ℕ) (now : List ℤ) (n p : ℕ) → Parts (row_of i f w) l 0 h w now n p → h ≤ n → now ≡ put 0 (h * w) (asList h w (hPass wrap i h w f)) l
+pub rows_all : (i : ℕ) (f : Plane) (l : List ℤ) (h w : ℕ) (now : List ℤ) (n p : ℕ) → Parts (row_of i f w) l 0 h w now n p → h ≤ n → now ≡ put 0 (h * w) (as_list h w (h_pass wrap i h w f)) l
 rows_all i f l h w now n p inv hn =
     let F = row_of i f w in
-    let same : Agree h w (asPlane w (chunks F h)) (hPass wrap i h w f) = record {
-      same = λ y x hy hx. at-chunks F w (length-rowOf i f w) h y x hy hx ∙ sym (rows_at (analysisBy wrap i) h w (λ y x. raise wrap (filterOf i).bits (f y x)) y x hy);
+    let same : Agree h w (as_plane w (chunks F h)) (h_pass wrap i h w f) = record {
+      same = λ y x hy hx. at-chunks F w (length-row_of i f w) h y x hy hx ∙ sym (rows_at (analysis_by wrap i) h w (λ y x. raise wrap (filter_of i).bits (f y x)) y x hy);
     } in
-    parts_all F l 0 h w now n p inv hn ∙ ap (λ (z : List ℤ). put 0 (h * w) z l) (list-is h w (chunks F h) (hPass wrap i h w f) (length-chunks F w (length-rowOf i f w) h) same)
+    parts_all F l 0 h w now n p inv hn ∙ ap (λ (z : List ℤ). put 0 (h * w) z l) (list_is h w (chunks F h) (h_pass wrap i h w f) (length-chunks F w (length-row_of i f w) h) same)
 
 -- the rows of the plane at from
-module _ (i : ℕ) (l : List ℤ) (from h w : ℕ) (q : RowsIn l from h w) (now : List ℤ) (n p : ℕ) (inv : Parts (row_of i (asPlane w (drop from l)) w) l 0 h w now n p) (hn : n < h) where
+module _ (i : ℕ) (l : List ℤ) (from h w : ℕ) (q : RowsIn l from h w) (now : List ℤ) (n p : ℕ) (inv : Parts (row_of i (as_plane w (drop from l)) w) l 0 h w now n p) (hn : n < h) where
   abbrev f : Plane
-  f = asPlane w (drop from l)
+  f = as_plane w (drop from l)
 
   rows_fit : h * w ≤ length l
   rows_fit = omega (arith, q.fits)
 
-  pub rows-copies : Copies now 0 (h * w) p w (from + p) 1
-  rows-copies =
-      let room = rows-room i f l h w rows_fit now n p inv hn in
+  pub rows_copies : Copies now 0 (h * w) p w (from + p) 1
+  rows_copies =
+      let room = rows_room i f l h w rows_fit now n p inv hn in
       record {
         part = (omega arith, omega (arith, q.fits, inv.long));
         fits = omega (arith, room);
@@ -73,15 +73,15 @@ module _ (i : ℕ) (l : List ℤ) (from h w : ℕ) (q : RowsIn l from h w) (now 
         apart = λ k hk o. omega (arith, room, q.room);
       }
 
-  pub rows-turn : (b : ℕ) → b ≡ (filterOf i).bits → (w1 ys : List ℤ) → w1 ≡ put (0 + p) w (copied b now (from + p) 1 w) now
-      → ys ≡ analysisBy wrap i (piece p (p + w - p) w1) → Parts (row_of i f w) l 0 h w (take p w1 ++ (ys ++ drop (p + w - p) (drop p w1))) (n + 1) (p + w)
+  pub rows-turn : (b : ℕ) → b ≡ (filter_of i).bits → (w1 ys : List ℤ) → w1 ≡ put (0 + p) w (copied b now (from + p) 1 w) now
+      → ys ≡ analysis_by wrap i (piece p (p + w - p) w1) → Parts (row_of i f w) l 0 h w (take p w1 ++ (ys ++ drop (p + w - p) (drop p w1))) (n + 1) (p + w)
   rows-turn b eb w1 ys e1 ey =
       let c = copied b now (from + p) 1 w in
       let old : (k : ℕ) → k < w → at now (from + p + 1 * k) ≡ f n k = λ k hk.
-      parts_same (row_of i f w) l 0 h w now n p (length-rowOf i f w) inv (front_fits i f l h w rows_fit now n p inv hn) hn (from + p + 1 * k) (λ o. omega arith)
+      parts_same (row_of i f w) l 0 h w now n p (length-row_of i f w) inv (front_fits i f l h w rows_fit now n p inv hn) hn (from + p + 1 * k) (λ o. omega arith)
       ∙ ap (at l) (omega (arith, inv.place_is)) ∙ sym (get_or-drop from l (n * w + k) (pos 0)) in
-      let row_is : c ≡ row w (λ x. raise wrap (filterOf i).bits (f n x)) =
-      row-ext w (λ k. raise wrap b (at now (from + p + 1 * k))) (λ x. raise wrap (filterOf i).bits (f n x)) (λ k hk. ap₂ (raise wrap) eb (old k hk)) in
+      let row_is : c ≡ row w (λ x. raise wrap (filter_of i).bits (f n x)) =
+      row_ext w (λ k. raise wrap b (at now (from + p + 1 * k))) (λ x. raise wrap (filter_of i).bits (f n x)) (λ k hk. ap₂ (raise wrap) eb (old k hk)) in
       rows_next i f l h w rows_fit now n p inv hn c w1 ys row_is (e1 ∙ ap (λ (z : ℕ). put z w c now) (zero-add p)) ey
 
 -- ---- what lies in front and behind
@@ -94,16 +94,16 @@ unfolding chunks
 two G = refl
 
 -- the plane in front of a list whose first h * w places are those of g
-front-is : (h w : ℕ) (g : Plane) (l : List ℤ) → h * w ≤ length l → Agree h w (λ y x. at (put 0 (h * w) (asList h w g) l) (y * w + x)) g
-front-is h w g l fits = record {
+front_is : (h w : ℕ) (g : Plane) (l : List ℤ) → h * w ≤ length l → Agree h w (λ y x. at (put 0 (h * w) (as_list h w g) l) (y * w + x)) g
+front_is h w g l fits = record {
   same = λ y x hy hx.
-      ap (at (put 0 (h * w) (asList h w g) l)) (sym (zero-add (y * w + x)))
-      ∙ put_in 0 (h * w) (asList h w g) l (omega arith) (length-asList h w g) (y * w + x) (digits_lt hy hx) ∙ at-asList h w g y x hy hx;
+      ap (at (put 0 (h * w) (as_list h w g) l)) (sym (zero-add (y * w + x)))
+      ∙ put_in 0 (h * w) (as_list h w g) l (omega arith) (length-as_list h w g) (y * w + x) (digits_lt hy hx) ∙ at-as_list h w g y x hy hx;
 }
 
 -- planes that stand at the same place of a list
-plane-there : (n off h w : ℕ) (l : List ℤ) → Agree h w (asPlane w (drop (n + off) l)) (asPlane w (piece off (h * w) (drop n l)))
-plane-there n off h w l = record {
+plane_there : (n off h w : ℕ) (l : List ℤ) → Agree h w (as_plane w (drop (n + off) l)) (as_plane w (piece off (h * w) (drop n l)))
+plane_there n off h w l = record {
   same = λ y x hy hx.
       let k : ℕ = y * w + x in
       get_or-drop (n + off) l k (pos 0) ∙ sym (ap (λ (z : List ℤ). at z k) (piece-drop n off (h * w) l) ∙ at_piece (n + off) (h * w) l k (digits_lt hy hx));
@@ -130,77 +130,77 @@ same_place g y x j hj = ap₂ g (row-place y j hj) (column-place x j hj)
     column-place : (x j : ℕ) → j < 2 → 2 * x + j % 2 ≡ 2 * x + j
     column-place x j hj = omega arith
 
-halves-cong : (h w : ℕ) (f g : Plane) → w % 2 ≡ 0 → Agree h w f g → halves h w f ≡ halves h w g
-halves-cong h w f g ew a = ap₂ ◌++◌ (one 0 (omega arith)) (one 1 (omega arith))
+halves_cong : (h w : ℕ) (f g : Plane) → w % 2 ≡ 0 → Agree h w f g → halves h w f ≡ halves h w g
+halves_cong h w f g ew a = ap₂ ◌++◌ (one 0 (omega arith)) (one 1 (omega arith))
   where
-    one : (j : ℕ) → j < 2 → asList h (w / 2) (partH j f) ≡ asList h (w / 2) (partH j g)
-    one j hj = asList-cong h (w / 2) (partH j f) (partH j g) (record { same = λ y x hy hx. a.same y (2 * x + j) hy (omega arith) })
+    one : (j : ℕ) → j < 2 → as_list h (w / 2) (part_h j f) ≡ as_list h (w / 2) (part_h j g)
+    one j hj = as_list_cong h (w / 2) (part_h j f) (part_h j g) (record { same = λ y x hy hx. a.same y (2 * x + j) hy (omega arith) })
 
-quarters-cong : (h w : ℕ) (f g : Plane) → h % 2 ≡ 0 → w % 2 ≡ 0 → Agree h w f g → quarters h w f ≡ quarters h w g
-quarters-cong h w f g eh ew a = ap₂ ◌++◌ (one 0 0 (omega arith) (omega arith)) (ap₂ ◌++◌ (one 0 1 (omega arith) (omega arith)) (ap₂ ◌++◌ (one 1 0 (omega arith) (omega arith)) (one 1 1 (omega arith) (omega arith))))
+quarters_cong : (h w : ℕ) (f g : Plane) → h % 2 ≡ 0 → w % 2 ≡ 0 → Agree h w f g → quarters h w f ≡ quarters h w g
+quarters_cong h w f g eh ew a = ap₂ ◌++◌ (one 0 0 (omega arith) (omega arith)) (ap₂ ◌++◌ (one 0 1 (omega arith) (omega arith)) (ap₂ ◌++◌ (one 1 0 (omega arith) (omega arith)) (one 1 1 (omega arith) (omega arith))))
   where
-    one : (i j : ℕ) → i < 2 → j < 2 → asList (h / 2) (w / 2) (part i j f) ≡ asList (h / 2) (w / 2) (part i j g)
-    one i j hi hj = asList-cong (h / 2) (w / 2) (part i j f) (part i j g) (record { same = λ y x hy hx. a.same (2 * y + i) (2 * x + j) (omega arith) (omega arith) })
+    one : (i j : ℕ) → i < 2 → j < 2 → as_list (h / 2) (w / 2) (part i j f) ≡ as_list (h / 2) (w / 2) (part i j g)
+    one i j hi hj = as_list_cong (h / 2) (w / 2) (part i j f) (part i j g) (record { same = λ y x hy hx. a.same (2 * y + i) (2 * x + j) (omega arith) (omega arith) })
 
 module _ (n off h w : ℕ) (l : List ℤ) (p : Place n off (h * w) l) where
   -- the bands of the plane in front
-  pub h-bands : (w2 : List ℤ) → w2 ≡ put (n + off) (1 * h * w) (chunks (bandOf l 1 h w) 2) l → drop n w2 ≡ put off (h * w) (halves h w (asPlane w l)) (drop n l)
-  h-bands w2 e2 =
-      let g : Plane = asPlane w l in
-      let one : (j : ℕ) → j < 2 → bandOf l 1 h w j ≡ asList h (w / 2) (partH j g) = λ j hj.
-      asList-cong h (w / 2) (partV 1 (j / 2) (j % 2) g) (partH j g) (record { same = λ y x hy hx. same_place g y x j hj }) in
-      ap (drop n) (e2 ∙ ap₂ (λ (m : ℕ) (z : List ℤ). put (n + off) m z l) (ap (λ (m : ℕ). m * w) (one-mul h)) (two (bandOf l 1 h w) ∙ ap₂ ◌++◌ (one 0 (omega arith)) (one 1 (omega arith))))
+  pub h_bands : (w2 : List ℤ) → w2 ≡ put (n + off) (1 * h * w) (chunks (band_of l 1 h w) 2) l → drop n w2 ≡ put off (h * w) (halves h w (as_plane w l)) (drop n l)
+  h_bands w2 e2 =
+      let g : Plane = as_plane w l in
+      let one : (j : ℕ) → j < 2 → band_of l 1 h w j ≡ as_list h (w / 2) (part_h j g) = λ j hj.
+      as_list_cong h (w / 2) (part_v 1 (j / 2) (j % 2) g) (part_h j g) (record { same = λ y x hy hx. same_place g y x j hj }) in
+      ap (drop n) (e2 ∙ ap₂ (λ (m : ℕ) (z : List ℤ). put (n + off) m z l) (ap (λ (m : ℕ). m * w) (one-mul h)) (two (band_of l 1 h w) ∙ ap₂ ◌++◌ (one 0 (omega arith)) (one 1 (omega arith))))
       ∙ drop-put n off (h * w) (halves h w g) l (omega (arith, p.fits))
 
   -- what the columns and the bands ask
-  pub vh-plane : EvenSides h w → PlaneIn (take (h * w) l) h w
-  vh-plane e = record { long = length-take-le (h * w) l (omega (arith, p.fits)); h_le = e.h_le; w_le = e.w_le }
+  pub vh_plane : EvenSides h w → PlaneIn (take (h * w) l) h w
+  vh_plane e = record { long = length-take-le (h * w) l (omega (arith, p.fits)); h_le = e.h_le; w_le = e.w_le }
 
-  pub vh-bands : (C : List ℤ) → EvenSides h w → length C ≡ length (take (h * w) l) → BandsIn (C ++ drop (h * w) l) (n + off) 2 (h / 2) w
-  vh-bands C e c =
-      let t : length (take (h * w) l) ≡ h * w = (vh-plane e).long in
+  pub vh_bands : (C : List ℤ) → EvenSides h w → length C ≡ length (take (h * w) l) → BandsIn (C ++ drop (h * w) l) (n + off) 2 (h / 2) w
+  vh_bands C e c =
+      let t : length (take (h * w) l) ≡ h * w = (vh_plane e).long in
       let s : length (C ++ drop (h * w) l) ≡ length l = length-append C (drop (h * w) l) ∙ omega (arith, length-drop (h * w) l, p.fits) in
       let hh : 2 * (h / 2) * w ≡ h * w = ap (λ (z : ℕ). z * w) (omega (arith, e.high)) in
       record { kind = omega arith; wide = e.wide; a-le = omega (arith, e.h_le); w_le = e.w_le; behind = omega (arith, p.room); fits = omega (arith, p.fits) }
 
   -- the columns C of the plane in front, and their bands
-  pub vh-bands-are : (j : ℕ) (w3 C : List ℤ) → EvenSides h w → C ≡ asList h w (columnsBy (analysisBy wrap j) h w (asPlane w (take (h * w) l)))
-      → w3 ≡ put (n + off) (2 * (h / 2) * w) (chunks (bandOf (C ++ drop (h * w) l) 2 (h / 2) w) 4) (C ++ drop (h * w) l)
-      → drop n w3 ≡ put off (h * w) (quarters h w (columnsBy (analysisBy wrap j) h w (asPlane w l))) (drop n l)
-  vh-bands-are j w3 C e ec e3 =
-      let A = analysisBy wrap j in
-      let g = columnsBy A h w (asPlane w l) in
-      let R = asList h w g in
-      let front : Agree h w (asPlane w (take (h * w) l)) (asPlane w l) = record { same = λ y x hy hx. get_or-take (h * w) l (y * w + x) (pos 0) (digits_lt hy hx) } in
-      let C-is : C ≡ R = ec ∙ ap (asList h w) (columns-cong A h w (asPlane w (take (h * w) l)) (asPlane w l) front) in
+  pub vh_bands_are : (j : ℕ) (w3 C : List ℤ) → EvenSides h w → C ≡ as_list h w (columns_by (analysis_by wrap j) h w (as_plane w (take (h * w) l)))
+      → w3 ≡ put (n + off) (2 * (h / 2) * w) (chunks (band_of (C ++ drop (h * w) l) 2 (h / 2) w) 4) (C ++ drop (h * w) l)
+      → drop n w3 ≡ put off (h * w) (quarters h w (columns_by (analysis_by wrap j) h w (as_plane w l))) (drop n l)
+  vh_bands_are j w3 C e ec e3 =
+      let A = analysis_by wrap j in
+      let g = columns_by A h w (as_plane w l) in
+      let R = as_list h w g in
+      let front : Agree h w (as_plane w (take (h * w) l)) (as_plane w l) = record { same = λ y x hy hx. get_or-take (h * w) l (y * w + x) (pos 0) (digits_lt hy hx) } in
+      let C-is : C ≡ R = ec ∙ ap (as_list h w) (columns_cong A h w (as_plane w (take (h * w) l)) (as_plane w l) front) in
       let G : List ℤ = put 0 (h * w) R l in
       let w2-is : C ++ drop (h * w) l ≡ G = put_front (h * w) C l ∙ ap (λ (z : List ℤ). put 0 (h * w) z l) C-is in
       let hh : 2 * (h / 2) ≡ h = omega (arith, e.high) in
-      ap (drop n) (e3 ∙ ap₂ (λ (m : ℕ) (z : List ℤ). put (n + off) m (chunks (bandOf z 2 (h / 2) w) 4) z) (ap (λ (m : ℕ). m * w) hh) w2-is)
-      ∙ behind n off (h * w) (chunks (bandOf G 2 (h / 2) w) 4) R l p (length-asList h w g)
-      ∙ ap (λ (z : List ℤ). put off (h * w) z (drop n l)) (four (bandOf G 2 (h / 2) w) ∙ quarters-cong h w (asPlane w G) g e.high e.wide (front-is h w g l (omega (arith, p.fits))))
+      ap (drop n) (e3 ∙ ap₂ (λ (m : ℕ) (z : List ℤ). put (n + off) m (chunks (band_of z 2 (h / 2) w) 4) z) (ap (λ (m : ℕ). m * w) hh) w2-is)
+      ∙ behind n off (h * w) (chunks (band_of G 2 (h / 2) w) 4) R l p (length-as_list h w g)
+      ∙ ap (λ (z : List ℤ). put off (h * w) z (drop n l)) (four (band_of G 2 (h / 2) w) ∙ quarters_cong h w (as_plane w G) g e.high e.wide (front_is h w g l (omega (arith, p.fits))))
 
   -- a level Q of the plane in front, whose rows are those of g
-  of-rows : (g : Plane) (Q : Plane → List ℤ) (w1 w2 : List ℤ) → ((f : Plane) → Agree h w f g → Q f ≡ Q g) → w1 ≡ put 0 (h * w) (asList h w g) l
-      → drop n w2 ≡ put off (h * w) (Q (asPlane w w1)) (drop n w1) → drop n w2 ≡ put off (h * w) (Q g) (drop n l)
+  of-rows : (g : Plane) (Q : Plane → List ℤ) (w1 w2 : List ℤ) → ((f : Plane) → Agree h w f g → Q f ≡ Q g) → w1 ≡ put 0 (h * w) (as_list h w g) l
+      → drop n w2 ≡ put off (h * w) (Q (as_plane w w1)) (drop n w1) → drop n w2 ≡ put off (h * w) (Q g) (drop n l)
   of-rows g Q w1 w2 c e1 e2 =
-      let R = asList h w g in
-      e2 ∙ ap (λ (z : List ℤ). put off (h * w) (Q (asPlane w z)) (drop n z)) e1
-      ∙ ap₂ (put off (h * w)) (c (asPlane w (put 0 (h * w) R l)) (front-is h w g l (omega (arith, p.fits)))) (drop-put-front n (h * w) R l p.room (length-asList h w g))
+      let R = as_list h w g in
+      e2 ∙ ap (λ (z : List ℤ). put off (h * w) (Q (as_plane w z)) (drop n z)) e1
+      ∙ ap₂ (put off (h * w)) (c (as_plane w (put 0 (h * w) R l)) (front_is h w g l (omega (arith, p.fits)))) (drop-put-front n (h * w) R l p.room (length-as_list h w g))
 
-  pub h-level : (i : ℕ) (f : Plane) (w1 w2 : List ℤ) → EvenWidth h w → w1 ≡ put 0 (h * w) (asList h w (hPass wrap i h w f)) l
-      → drop n w2 ≡ put off (h * w) (halves h w (asPlane w w1)) (drop n w1) → drop n w2 ≡ put off (h * w) (halves h w (hPass wrap i h w f)) (drop n l)
-  h-level i f w1 w2 e e1 e2 = let g = hPass wrap i h w f in of-rows g (halves h w) w1 w2 (λ q a. halves-cong h w q g e.wide a) e1 e2
+  pub h_level : (i : ℕ) (f : Plane) (w1 w2 : List ℤ) → EvenWidth h w → w1 ≡ put 0 (h * w) (as_list h w (h_pass wrap i h w f)) l
+      → drop n w2 ≡ put off (h * w) (halves h w (as_plane w w1)) (drop n w1) → drop n w2 ≡ put off (h * w) (halves h w (h_pass wrap i h w f)) (drop n l)
+  h_level i f w1 w2 e e1 e2 = let g = h_pass wrap i h w f in of-rows g (halves h w) w1 w2 (λ q a. halves_cong h w q g e.wide a) e1 e2
 
-  pub vh-level : (i j : ℕ) (f : Plane) (w1 w2 : List ℤ) → w1 ≡ put 0 (h * w) (asList h w (hPass wrap i h w f)) l
-      → drop n w2 ≡ put off (h * w) (quarters h w (columnsBy (analysisBy wrap j) h w (asPlane w w1))) (drop n w1)
-      → drop n w2 ≡ put off (h * w) (quarters h w (vhPass wrap i j h w f)) (drop n l)
-  vh-level i j f w1 w2 e1 e2 =
-      let A = analysisBy wrap j in
-      let g = hPass wrap i h w f in
-      of-rows g (λ q. quarters h w (columnsBy A h w q)) w1 w2 (λ q a. ap (quarters h w) (columns-cong A h w q g a)) e1 e2
+  pub vh_level : (i j : ℕ) (f : Plane) (w1 w2 : List ℤ) → w1 ≡ put 0 (h * w) (as_list h w (h_pass wrap i h w f)) l
+      → drop n w2 ≡ put off (h * w) (quarters h w (columns_by (analysis_by wrap j) h w (as_plane w w1))) (drop n w1)
+      → drop n w2 ≡ put off (h * w) (quarters h w (vh_pass wrap i j h w f)) (drop n l)
+  vh_level i j f w1 w2 e1 e2 =
+      let A = analysis_by wrap j in
+      let g = h_pass wrap i h w f in
+      of-rows g (λ q. quarters h w (columns_by A h w q)) w1 w2 (λ q a. ap (quarters h w) (columns_cong A h w q g a)) e1 e2
 
   -- the rows are those of the plane behind the scratch
-  pub rows-there : (i : ℕ) (w1 : List ℤ) → w1 ≡ put 0 (h * w) (asList h w (hPass wrap i h w (asPlane w (drop (n + off) l)))) l
-      → w1 ≡ put 0 (h * w) (asList h w (hPass wrap i h w (asPlane w (piece off (h * w) (drop n l))))) l
-  rows-there i w1 e = e ∙ ap (λ (q : Plane). put 0 (h * w) (asList h w q) l) (h-cong wrap i h w _ _ (plane-there n off h w l))
+  pub rows_there : (i : ℕ) (w1 : List ℤ) → w1 ≡ put 0 (h * w) (as_list h w (h_pass wrap i h w (as_plane w (drop (n + off) l)))) l
+      → w1 ≡ put 0 (h * w) (as_list h w (h_pass wrap i h w (as_plane w (piece off (h * w) (drop n l))))) l
+  rows_there i w1 e = e ∙ ap (λ (q : Plane). put 0 (h * w) (as_list h w q) l) (h_cong wrap i h w _ _ (plane_there n off h w l))

@@ -5,19 +5,19 @@ use Rattle.laws.specs.Rows.{row}
 use Rattle.laws.specs.Laws.Rows.{at_row, length-span}
 use Rattle.laws.specs.Code.Chunks.{chunks}
 use Rattle.laws.specs.Laws.Chunks.{length-chunks, at-chunks}
-use Rattle.laws.specs.Plane.{Plane, asPlane, asList}
-use Rattle.laws.specs.Laws.Plane.{at-asList, asList-back, asList-cong, Agree}
+use Rattle.laws.specs.Plane.{Plane, as_plane, as_list}
+use Rattle.laws.specs.Laws.Plane.{at-as_list, as_list_back, as_list_cong, Agree}
 
 -- a list is that of any plane with which it agrees
-pub list-is : (h w : ℕ) (l : List ℤ) (f : Plane) → length l ≡ h * w → Agree h w (asPlane w l) f → l ≡ asList h w f
-list-is h w l f e a = sym (asList-back h w l e) ∙ asList-cong h w (asPlane w l) f a
+pub list_is : (h w : ℕ) (l : List ℤ) (f : Plane) → length l ≡ h * w → Agree h w (as_plane w l) f → l ≡ as_list h w f
+list_is h w l f e a = sym (as_list_back h w l e) ∙ as_list_cong h w (as_plane w l) f a
 
-pub plane-is : (h w : ℕ) (f : Plane) → Agree h w (asPlane w (asList h w f)) f
-plane-is h w f = record { same = at-asList h w f }
+pub plane_is : (h w : ℕ) (f : Plane) → Agree h w (as_plane w (as_list h w f)) f
+plane_is h w f = record { same = at-as_list h w f }
 
 -- rows one after the other
-pub rows-list : (h w : ℕ) (f : Plane) → chunks (λ y. row w (f y)) h ≡ asList h w f
-rows-list h w f = list-is h w (chunks F h) f (length-chunks F w long h) (record { same = λ y x hy hx. at-chunks F w long h y x hy hx ∙ at_row w (f y) x hx })
+pub rows_list : (h w : ℕ) (f : Plane) → chunks (λ y. row w (f y)) h ≡ as_list h w f
+rows_list h w f = list_is h w (chunks F h) f (length-chunks F w long h) (record { same = λ y x hy hx. at-chunks F w long h y x hy hx ∙ at_row w (f y) x hx })
   where
     F : ℕ → List ℤ
     F y = row w (f y)

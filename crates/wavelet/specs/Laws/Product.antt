@@ -4,13 +4,13 @@ use Rattle.std.proofs.Common.{sym, ap, ◌∙◌, arith, add-mul, mul-add, mul_a
 use Rattle.std.proofs.Math.Nat.{mul-sub}
 use Rattle.std.proofs.Math.IntN.{+ℤ_comm}
 use Rattle.std.specs.Int.{w64}
-use Rattle.laws.specs.Laws.Integer.{up, dn, neg-law, times-law, Lin, var, ◌⊞◌, by_parts}
+use Rattle.laws.specs.Laws.Integer.{up, dn, neg_law, times_law, Lin, var, ◌⊞◌, by_parts}
 use Rattle.laws.specs.Wrap.{wrap}
 use Rattle.laws.specs.Laws.Wrap.{wraps, unique, wrap-add, wrap-bits, neg-mul}
 
-pub by-halves : (x y : ℕ)
+pub by_halves : (x y : ℕ)
     → ((x % 2 ^ 32 * (y / 2 ^ 32) + y % 2 ^ 32 * (x / 2 ^ 32)) % 2 ^ 64 * 2 ^ 32 % 2 ^ 64 + x % 2 ^ 32 * (y % 2 ^ 32)) % 2 ^ 64 ≡ x * y % 2 ^ 64
-by-halves x y =
+by_halves x y =
     let h : ℕ = x / 2 ^ 32 in
     let l : ℕ = x % 2 ^ 32 in
     let g : ℕ = y / 2 ^ 32 in
@@ -42,21 +42,21 @@ opposites a b c d n j ec ed ej =
 pub mul-bits : (a b : ℤ) → FitsSigned w64 a → FitsSigned w64 b → to_z w64 ((of_z w64 a * of_z w64 b) % 2 ^ 64) ≡ wrap (a *ℤ b)
 mul-bits (pos a) (pos b) f g = wrap-bits (pos (a * b)) (a * b) 0 (omega arith)
 mul-bits (pos a) (negsuc b) f g =
-    wrap-bits (neg_ℤ (pos (a * suc b))) (a * (2 ^ 64 - suc b)) a (omega (arith, neg-law (pos (a * suc b)), mul-sub a (2 ^ 64) (suc b), mul-le-mul {n₁ = a} {m₁ = suc b} {n₂ = a} {m₂ = 2 ^ 64} (omega arith) (omega arith)))
+    wrap-bits (neg_ℤ (pos (a * suc b))) (a * (2 ^ 64 - suc b)) a (omega (arith, neg_law (pos (a * suc b)), mul-sub a (2 ^ 64) (suc b), mul-le-mul {n₁ = a} {m₁ = suc b} {n₂ = a} {m₂ = 2 ^ 64} (omega arith) (omega arith)))
 mul-bits (negsuc a) (pos b) f g =
     wrap-bits (neg_ℤ (pos (suc a * b))) ((2 ^ 64 - suc a) * b) b
-    (omega (arith, neg-law (pos (suc a * b)), mul_comm (2 ^ 64 - suc a) b, mul_comm (suc a) b, mul-sub b (2 ^ 64) (suc a), mul-le-mul {n₁ = b} {m₁ = suc a} {n₂ = b} {m₂ = 2 ^ 64} (omega arith) (omega arith)))
+    (omega (arith, neg_law (pos (suc a * b)), mul_comm (2 ^ 64 - suc a) b, mul_comm (suc a) b, mul-sub b (2 ^ 64) (suc a), mul-le-mul {n₁ = b} {m₁ = suc a} {n₂ = b} {m₂ = 2 ^ 64} (omega arith) (omega arith)))
 mul-bits (negsuc a) (negsuc b) f g =
     wrap-bits (pos (suc a * suc b)) ((2 ^ 64 - suc a) * (2 ^ 64 - suc b)) (2 ^ 64 - suc a - suc b)
     (omega (arith, opposites (suc a) (suc b) (2 ^ 64 - suc a) (2 ^ 64 - suc b) (2 ^ 64) (2 ^ 64 - suc a - suc b) (omega arith) (omega arith) (omega arith)))
 
 -- ---- a wrapped sum times t
-scale-law : (t a : ℤ) (p n : ℕ) → up a + n ≡ dn a + p → up (t *ℤ a) + (up t * n + dn t * p) ≡ dn (t *ℤ a) + (up t * p + dn t * n)
-scale-law (pos k) a p n h = omega (arith, times-law k a p n h)
-scale-law (negsuc k) a p n h = rw (neg-mul k a) (omega (arith, times-law (suc k) a p n h, neg-law (pos (suc k) *ℤ a)))
+scale_law : (t a : ℤ) (p n : ℕ) → up a + n ≡ dn a + p → up (t *ℤ a) + (up t * n + dn t * p) ≡ dn (t *ℤ a) + (up t * p + dn t * n)
+scale_law (pos k) a p n h = omega (arith, times_law k a p n h)
+scale_law (negsuc k) a p n h = rw (neg-mul k a) (omega (arith, times_law (suc k) a p n h, neg_law (pos (suc k) *ℤ a)))
 
 abbrev scale : (t : ℤ) {a : ℤ} → Lin a → Lin (t *ℤ a)
-scale t {a} x = record { p = up t * x.p + dn t * x.n; n = up t * x.n + dn t * x.p; law = scale-law t a x.p x.n x.law }
+scale t {a} x = record { p = up t * x.p + dn t * x.n; n = up t * x.n + dn t * x.p; law = scale_law t a x.p x.n x.law }
 
 pub mul-sum : (t x y : ℤ) → t *ℤ (x +ℤ y) ≡ t *ℤ x +ℤ t *ℤ y
 mul-sum t x y =
@@ -69,9 +69,9 @@ wrap-mul t z =
     let x = wraps (t *ℤ wrap z) in
     let y = wraps z in
     let k = y.k in
-    let l1 = scale-law t (wrap z) (up z + 2 ^ 64 * dn k) (dn z + 2 ^ 64 * up k) (omega (arith, y.law)) in
-    let l2 = scale-law t z (up z) (dn z) (omega arith) in
-    let l3 = scale-law t k (up k) (dn k) (omega arith) in
+    let l1 = scale_law t (wrap z) (up z + 2 ^ 64 * dn k) (dn z + 2 ^ 64 * up k) (omega (arith, y.law)) in
+    let l2 = scale_law t z (up z) (dn z) (omega arith) in
+    let l3 = scale_law t k (up k) (dn k) (omega arith) in
     let v = var x.k ⊞ var (t *ℤ k) in
     unique (t *ℤ z) _ _
     (record {

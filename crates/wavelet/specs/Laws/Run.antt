@@ -11,38 +11,38 @@ use Rattle.laws.specs.Wrap.{wrap}
 use Rattle.laws.specs.Laws.Wrap.{wraps, wrap-fits}
 use Rattle.laws.specs.Rows.{at}
 use Rattle.wavelet.specs.Lifting.{Stage, place, dot, scaled, delta, change, lifted, unlift, analysis}
-use Rattle.wavelet.specs.Laws.Lifting.{place-law, place-moves, dot-ext, dot-take, length-lifted, here-old, delta-old, lifted-next, analysis-next}
-use Rattle.wavelet.specs.Filters.{filterOf, type1}
+use Rattle.wavelet.specs.Laws.Lifting.{place_law, place_moves, dot_ext, dot-take, length-lifted, here_old, delta_old, lifted-next, analysis-next}
+use Rattle.wavelet.specs.Filters.{filter_of, type1}
 use Rattle.wavelet.specs.Laws.Product.{wrap-mul-sum}
-use Rattle.wavelet.specs.Code.Table.{stageOf, stageAt, isCount, Legal}
+use Rattle.wavelet.specs.Code.Table.{stage_of, stage_at, is_count, Legal}
 use Rattle.wavelet.specs.Laws.Table.{in_table}
 use Rattle.wavelet.specs.declared.lift.LiftStage.{LiftStage}
-use Rattle.wavelet.specs.Code.Run.{Placed, Moves, tapsTo, value_of, ran, RunIn, twoTaps, twoPlaces}
+use Rattle.wavelet.specs.Code.Run.{Placed, Moves, taps_to, value_of, ran, RunIn, two_taps, two_places}
 
 -- ---- laws of the code's functions
-pub taps-long : (s : LiftStage) → Legal s → length (stageOf s).taps ≡ s.count
-unfolding stageOf
-taps-long s l = length-take-le s.count s.taps (omega (arith, l.long, l.count-le))
+pub taps_long : (s : LiftStage) → Legal s → length (stage_of s).taps ≡ s.count
+unfolding stage_of
+taps_long s l = length-take-le s.count s.taps (omega (arith, l.long, l.count_le))
 
-not-moved : (s : LiftStage) (len n i j : ℕ) → i ≡ 0 → place (stageOf s) len (n + i) j ≡ place (stageOf s) len n j + 2 * i
+not-moved : (s : LiftStage) (len n i j : ℕ) → i ≡ 0 → place (stage_of s) len (n + i) j ≡ place (stage_of s) len n j + 2 * i
 not-moved s len n i j e =
     let f : n + i ≡ n = omega arith in
     rw f (omega arith)
 
-pub moves-one : (s : LiftStage) (len n : ℕ) → n < len / 2 → Moves (stageOf s) len n 1
-moves-one s len n l = record {
+pub moves_one : (s : LiftStage) (len n : ℕ) → n < len / 2 → Moves (stage_of s) len n 1
+moves_one s len n l = record {
   some = omega arith;
   fits = omega arith;
   moves = λ i j hi hj. not-moved s len n i j (omega arith);
 }
 
 pub moves_more : (s : LiftStage) (len n m : ℕ) → Legal s → n < len / 2 → s.back < n + s.ahead
-    → m ≡ max 1 (min (len / 2) (len / 2 + s.back + 1 - (s.count + s.ahead)) - n) → Moves (stageOf s) len n m
-unfolding stageOf
+    → m ≡ max 1 (min (len / 2) (len / 2 + s.back + 1 - (s.count + s.ahead)) - n) → Moves (stage_of s) len n m
+unfolding stage_of
 moves_more s len n m l h b e = record {
   some = omega arith;
   fits = omega (arith, fits len s.back s.count s.ahead n h);
-  moves = λ i j hi hj. by i j hi (rw (taps-long s l) at hj);
+  moves = λ i j hi hj. by i j hi (rw (taps_long s l) at hj);
 }
   where
     fits : (len b c a n : ℕ) → n < len / 2 → n + max 1 (min (len / 2) (len / 2 + b + 1 - (c + a)) - n) ≤ len / 2
@@ -51,11 +51,11 @@ moves_more s len n m l h b e = record {
     below : (x n m i : ℕ) → m ≡ max 1 (x - n) → suc i < m → n + suc i < x
     below x n m i e hi = omega arith
 
-    by : (i j : ℕ) → i < m → j < s.count → place (stageOf s) len (n + i) j ≡ place (stageOf s) len n j + 2 * i
+    by : (i j : ℕ) → i < m → j < s.count → place (stage_of s) len (n + i) j ≡ place (stage_of s) len n j + 2 * i
     by zero j hi hj = not-moved s len n 0 j refl
     by (suc i) j hi hj =
         let q = below (min (len / 2) (len / 2 + s.back + 1 - (s.count + s.ahead))) n m i e hi in
-        place-moves (stageOf s) len n (suc i) j l.side b (omega (arith, q))
+        place_moves (stage_of s) len n (suc i) j l.side b (omega (arith, q))
 
 module _ (st : Stage) (plus : Bool) (o : List ℕ) (p step : ℕ) where
   pub length-ran : (m : ℕ) (xs : List ℤ) → length (ran st plus o p step m xs) ≡ length xs
@@ -64,11 +64,11 @@ module _ (st : Stage) (plus : Bool) (o : List ℕ) (p step : ℕ) where
   length-ran (suc m) xs = length-set (ran st plus o p step m xs) (p + step * m) (value_of st plus o p (step * m) xs) ∙ length-ran m xs
 
   -- a place that is not updated
-  pub ran-other : (m q : ℕ) (xs : List ℤ) → ((h : ℕ) → h < m → q ≢ p + step * h) → at (ran st plus o p step m xs) q ≡ at xs q
+  pub ran_other : (m q : ℕ) (xs : List ℤ) → ((h : ℕ) → h < m → q ≢ p + step * h) → at (ran st plus o p step m xs) q ≡ at xs q
   unfolding ran
-  ran-other zero q xs d = refl
-  ran-other (suc m) q xs d =
-      get_or-set_other (ran st plus o p step m xs) (p + step * m) q (value_of st plus o p (step * m) xs) (pos 0) (d m (omega arith)) ∙ ran-other m q xs (λ h l. d h (omega arith))
+  ran_other zero q xs d = refl
+  ran_other (suc m) q xs d =
+      get_or-set_other (ran st plus o p step m xs) (p + step * m) q (value_of st plus o p (step * m) xs) (pos 0) (d m (omega arith)) ∙ ran_other m q xs (λ h l. d h (omega arith))
 
   apart : 1 ≤ step → (h i : ℕ) → h < i → p + step * i ≢ p + step * h
   apart s h i l e = omega (arith, mul-lt-mul_of_pos_left {k = step} l s)
@@ -90,15 +90,15 @@ module _ (st : Stage) (plus : Bool) (o : List ℕ) (p step : ℕ) where
 
 -- one more update: the code reads the list as it is, and finds what was there
 pub ran-turn : (s : LiftStage) (plus : Bool) (o : List ℕ) (p count step i : ℕ) (xs ys : List ℤ) → RunIn xs s o p count step → i < count
-    → ys ≡ ran (stageOf s) plus o p step i xs → slice_set ys (p + step * i) (value_of (stageOf s) plus o p (step * i) ys) ≡ ran (stageOf s) plus o p step (i + 1) xs
+    → ys ≡ ran (stage_of s) plus o p step i xs → slice_set ys (p + step * i) (value_of (stage_of s) plus o p (step * i) ys) ≡ ran (stage_of s) plus o p step (i + 1) xs
 unfolding ran
 ran-turn s plus o p count step i xs ys r l e =
-    let st = stageOf s in
+    let st = stage_of s in
     let zs = ran st plus o p step i xs in
-    let here : at zs (p + step * i) ≡ at xs (p + step * i) = ran-other st plus o p step i (p + step * i) xs (λ h k. apart st plus o p step r.steps h i k) in
-    let sums : tapsTo st.taps o (step * i) zs (length st.taps) ≡ tapsTo st.taps o (step * i) xs (length st.taps) =
-    dot-ext wrap (at st.taps) (at st.taps) (λ j. at zs (slice_index o j + step * i)) (λ j. at xs (slice_index o j + step * i)) (length st.taps) (λ j k. refl)
-    (λ j k. ran-other st plus o p step i (slice_index o j + step * i) xs (λ h m. r.later h i j m l (rw (taps-long s r.legal) at k))) in
+    let here : at zs (p + step * i) ≡ at xs (p + step * i) = ran_other st plus o p step i (p + step * i) xs (λ h k. apart st plus o p step r.steps h i k) in
+    let sums : taps_to st.taps o (step * i) zs (length st.taps) ≡ taps_to st.taps o (step * i) xs (length st.taps) =
+    dot_ext wrap (at st.taps) (at st.taps) (λ j. at zs (slice_index o j + step * i)) (λ j. at xs (slice_index o j + step * i)) (length st.taps) (λ j k. refl)
+    (λ j k. ran_other st plus o p step i (slice_index o j + step * i) xs (λ h m. r.later h i j m l (rw (taps_long s r.legal) at k))) in
     rw (add-one i) (ap (λ (z : List ℤ). set z (p + step * i) (value_of st plus o p (step * i) z)) e
     ∙ ap (set zs (p + step * i)) (ap₂ (change wrap plus) here (ap (scaled wrap st) sums)))
 
@@ -108,8 +108,8 @@ ran-none st plus o p step xs = refl
 
 -- ---- a run of two equal taps
 pub two-sum : (t : ℤ) (shift i j x : ℕ) (a : List ℤ)
-    → wrap (t *ℤ wrap (at a (i + x) +ℤ at a (j + x))) ≡ tapsTo (stageOf (twoTaps t shift)).taps (twoPlaces i j) x a (length (stageOf (twoTaps t shift)).taps)
-unfolding stageOf dot
+    → wrap (t *ℤ wrap (at a (i + x) +ℤ at a (j + x))) ≡ taps_to (stage_of (two_taps t shift)).taps (two_places i j) x a (length (stage_of (two_taps t shift)).taps)
+unfolding stage_of dot
 two-sum t shift i j x a =
     let y = at a (i + x) in
     let z = at a (j + x) in
@@ -122,21 +122,21 @@ below_two P a b zero h = a
 below_two P a b (suc zero) h = b
 below_two P a b (suc (suc j)) h = absurd (omega arith)
 
-same_place : (o : List ℕ) (j : ℕ) → j < 2 → slice_index (twoPlaces (slice_index o 0) (slice_index o 1)) j ≡ slice_index o j
-same_place o = below_two (λ j. slice_index (twoPlaces (slice_index o 0) (slice_index o 1)) j ≡ slice_index o j) refl refl
+same_place : (o : List ℕ) (j : ℕ) → j < 2 → slice_index (two_places (slice_index o 0) (slice_index o 1)) j ≡ slice_index o j
+same_place o = below_two (λ j. slice_index (two_places (slice_index o 0) (slice_index o 1)) j ≡ slice_index o j) refl refl
 
 module _ (s : LiftStage) (t : ℤ) (o : List ℕ) (two : s.count ≡ 2) where
   -- the run of s is one of two taps
-  pub two_runs : (a : List ℤ) (p count step : ℕ) → RunIn a s o p count step → RunIn a (twoTaps t s.shift) (twoPlaces (slice_index o 0) (slice_index o 1)) p count step
-  unfolding isCount
+  pub two_runs : (a : List ℤ) (p count step : ℕ) → RunIn a s o p count step → RunIn a (two_taps t s.shift) (two_places (slice_index o 0) (slice_index o 1)) p count step
+  unfolding is_count
   two_runs a p count step r = record {
     legal = record {
       side = omega arith;
       shift_le = r.legal.shift_le;
       ahead-le = omega arith;
-      back-le = omega arith;
+      back_le = omega arith;
       counts = tt;
-      count-le = omega arith;
+      count_le = omega arith;
       long = refl;
     };
     long = refl;
@@ -148,82 +148,82 @@ module _ (s : LiftStage) (t : ℤ) (o : List ℕ) (two : s.count ≡ 2) where
 
   -- updates by two equal taps leave what the updates by all taps leave
   pub two-ran : at s.taps 0 ≡ t → at s.taps 1 ≡ t → Legal s → (plus : Bool) (p step m : ℕ) (xs : List ℤ)
-      → ran (stageOf (twoTaps t s.shift)) plus (twoPlaces (slice_index o 0) (slice_index o 1)) p step m xs ≡ ran (stageOf s) plus o p step m xs
-  unfolding ran stageOf
+      → ran (stage_of (two_taps t s.shift)) plus (two_places (slice_index o 0) (slice_index o 1)) p step m xs ≡ ran (stage_of s) plus o p step m xs
+  unfolding ran stage_of
   two-ran e0 e1 l plus p step zero xs = refl
   two-ran e0 e1 l plus p step (suc m) xs =
-      let st = stageOf s in
-      let st' = stageOf (twoTaps t s.shift) in
-      let o' = twoPlaces (slice_index o 0) (slice_index o 1) in
+      let st = stage_of s in
+      let st' = stage_of (two_taps t s.shift) in
+      let o' = two_places (slice_index o 0) (slice_index o 1) in
       let x = step * m in
-      let sums : tapsTo st'.taps o' x xs 2 ≡ tapsTo s.taps o x xs 2 =
-      dot-ext wrap (at st'.taps) (at s.taps) (λ j. at xs (slice_index o' j + x)) (λ j. at xs (slice_index o j + x)) 2
+      let sums : taps_to st'.taps o' x xs 2 ≡ taps_to s.taps o x xs 2 =
+      dot_ext wrap (at st'.taps) (at s.taps) (λ j. at xs (slice_index o' j + x)) (λ j. at xs (slice_index o j + x)) 2
       (below_two (λ j. at st'.taps j ≡ at s.taps j) (sym e0) (sym e1))
       (λ j h. ap (λ (q : ℕ). at xs (q + x)) (same_place o j h)) in
-      let all : tapsTo s.taps o x xs 2 ≡ tapsTo st.taps o x xs (length st.taps) =
-      ap (tapsTo s.taps o x xs) (sym two) ∙ dot-take wrap s.taps s.count (λ j. at xs (slice_index o j + x)) (omega (arith, l.long, l.count-le)) in
+      let all : taps_to s.taps o x xs 2 ≡ taps_to st.taps o x xs (length st.taps) =
+      ap (taps_to s.taps o x xs) (sym two) ∙ dot-take wrap s.taps s.count (λ j. at xs (slice_index o j + x)) (omega (arith, l.long, l.count_le)) in
       ap₂ (λ (z : List ℤ) (v : ℤ). set z (p + x) (change wrap plus (at xs (p + x)) (scaled wrap st v))) (two-ran e0 e1 l plus p step m xs) (sums ∙ all)
 
 -- ---- a stage of a row, run by run
-module _ (s : LiftStage) (o : List ℕ) (len n m : ℕ) (l : Legal s) (pl : Placed (stageOf s) len n 1 o) (mv : Moves (stageOf s) len n m) where
-  moved : (i j : ℕ) → i < m → j < s.count → slice_index o j + 2 * i ≡ place (stageOf s) len (n + i) j
+module _ (s : LiftStage) (o : List ℕ) (len n m : ℕ) (l : Legal s) (pl : Placed (stage_of s) len n 1 o) (mv : Moves (stage_of s) len n m) where
+  moved : (i j : ℕ) → i < m → j < s.count → slice_index o j + 2 * i ≡ place (stage_of s) len (n + i) j
   moved i j hi hj =
-      ap (λ (q : ℕ). q + 2 * i) (pl.is j (omega (arith, l.count-le)) ∙ mul-one (place (stageOf s) len n j)) ∙ sym (mv.moves i j hi (rw (taps-long s l) hj))
+      ap (λ (q : ℕ). q + 2 * i) (pl.is j (omega (arith, l.count_le)) ∙ mul-one (place (stage_of s) len n j)) ∙ sym (mv.moves i j hi (rw (taps_long s l) hj))
 
   turn : (i : ℕ) → i < m → n + i < len / 2
   turn i hi = omega (arith, mv.fits)
 
-  side : (stageOf s).to ≤ 1
-  unfolding stageOf
+  side : (stage_of s).to ≤ 1
+  unfolding stage_of
   side = l.side
 
-  pub row-runs : (a : List ℤ) → length a ≡ len → RunIn a s o (2 * n + (stageOf s).to) m 2
+  pub row-runs : (a : List ℤ) → length a ≡ len → RunIn a s o (2 * n + (stage_of s).to) m 2
   row-runs a e = record {
     legal = l;
     long = pl.long;
     steps = omega arith;
-    inside = λ i j hi hj. rw (moved i j hi hj, e) (place-law (stageOf s) len (n + i) j side (turn i hi)).inside;
+    inside = λ i j hi hj. rw (moved i j hi hj, e) (place_law (stage_of s) len (n + i) j side (turn i hi)).inside;
     writes = λ i hi. omega (arith, turn i hi, side, e);
     later = λ h i j hh hi hj q.
-        let w = place-law (stageOf s) len (n + i) j side (turn i hi) in
-        let f : place (stageOf s) len (n + i) j ≡ 2 * n + (stageOf s).to + 2 * h = sym (moved i j hi hj) ∙ q in
+        let w = place_law (stage_of s) len (n + i) j side (turn i hi) in
+        let f : place (stage_of s) len (n + i) j ≡ 2 * n + (stage_of s).to + 2 * h = sym (moved i j hi hj) ∙ q in
         let g = w.free (rw f (omega (arith, side))) in
         omega (arith, turn i hi, side, f, g);
   }
 
   -- i of the run's updates
-  ran-some : (plus : Bool) (xs a : List ℤ) → length xs ≡ len → a ≡ lifted wrap (stageOf s) plus n xs → (i : ℕ) → i ≤ m
-      → ran (stageOf s) plus o (2 * n + (stageOf s).to) 2 i a ≡ lifted wrap (stageOf s) plus (n + i) xs
+  ran-some : (plus : Bool) (xs a : List ℤ) → length xs ≡ len → a ≡ lifted wrap (stage_of s) plus n xs → (i : ℕ) → i ≤ m
+      → ran (stage_of s) plus o (2 * n + (stage_of s).to) 2 i a ≡ lifted wrap (stage_of s) plus (n + i) xs
   unfolding ran delta
-  ran-some plus xs a e f zero h = f ∙ ap (λ (k : ℕ). lifted wrap (stageOf s) plus k xs) (omega arith)
+  ran-some plus xs a e f zero h = f ∙ ap (λ (k : ℕ). lifted wrap (stage_of s) plus k xs) (omega arith)
   ran-some plus xs a e f (suc i) h =
-      let st = stageOf s in
+      let st = stage_of s in
       let to = st.to in
       let p : ℕ = 2 * n + to in
       let long : length a ≡ length xs = ap length f ∙ length-lifted wrap st plus n xs in
       let k : ℕ = n + i in
       let here : p + 2 * i ≡ 2 * k + to = omega arith in
       let more : k < length xs / 2 = rw e (turn i (omega arith)) in
-      let sums : scaled wrap st (tapsTo st.taps o (2 * i) a (length st.taps)) ≡ delta wrap st a k =
-      ap (scaled wrap st) (dot-ext wrap (at st.taps) (at st.taps) (λ j. at a (slice_index o j + 2 * i)) (λ j. at a (place st (length a) k j)) (length st.taps) (λ j hj. refl)
-      (λ j hj. ap (at a) (moved i j (omega arith) (rw (taps-long s l) at hj) ∙ ap (λ (z : ℕ). place st z k j) (sym (long ∙ e))))) in
-      let old : delta wrap st a k ≡ delta wrap st xs k = ap (λ (z : List ℤ). delta wrap st z k) f ∙ delta-old wrap st plus xs n k side (omega arith) more in
-      let old-here : at a (p + 2 * i) ≡ at xs (2 * k + to) = ap₂ at f here ∙ here-old wrap st plus xs n k side (omega arith) more in
+      let sums : scaled wrap st (taps_to st.taps o (2 * i) a (length st.taps)) ≡ delta wrap st a k =
+      ap (scaled wrap st) (dot_ext wrap (at st.taps) (at st.taps) (λ j. at a (slice_index o j + 2 * i)) (λ j. at a (place st (length a) k j)) (length st.taps) (λ j hj. refl)
+      (λ j hj. ap (at a) (moved i j (omega arith) (rw (taps_long s l) at hj) ∙ ap (λ (z : ℕ). place st z k j) (sym (long ∙ e))))) in
+      let old : delta wrap st a k ≡ delta wrap st xs k = ap (λ (z : List ℤ). delta wrap st z k) f ∙ delta_old wrap st plus xs n k side (omega arith) more in
+      let old-here : at a (p + 2 * i) ≡ at xs (2 * k + to) = ap₂ at f here ∙ here_old wrap st plus xs n k side (omega arith) more in
       ap₂ (λ (z : List ℤ) (v : ℤ). set z (p + 2 * i) v) (ran-some plus xs a e f i (omega arith)) (ap₂ (change wrap plus) old-here (sums ∙ old))
       ∙ ap (λ (q : ℕ). set (lifted wrap st plus k xs) q (change wrap plus (at xs (2 * k + to)) (delta wrap st xs k))) here
       ∙ lifted-next wrap st plus xs k side more ∙ ap (λ (q : ℕ). lifted wrap st plus q xs) (omega arith)
 
-  pub ran-lifted : (plus : Bool) (xs a : List ℤ) → length xs ≡ len → a ≡ lifted wrap (stageOf s) plus n xs
-      → ran (stageOf s) plus o (2 * n + (stageOf s).to) 2 m a ≡ lifted wrap (stageOf s) plus (n + m) xs
+  pub ran-lifted : (plus : Bool) (xs a : List ℤ) → length xs ≡ len → a ≡ lifted wrap (stage_of s) plus n xs
+      → ran (stage_of s) plus o (2 * n + (stage_of s).to) 2 m a ≡ lifted wrap (stage_of s) plus (n + m) xs
   ran-lifted plus xs a e f = ran-some plus xs a e f m (omega arith)
 
 -- ---- all stages: one more is undone
-pub analysis-turn : (i k : ℕ) (s : LiftStage) (xs ys zs : List ℤ) → i ≤ 6 → 0 < k → k ≤ length (filterOf i).stages → stageOf s ≡ stageAt (2 * i + (k - 1))
-    → ys ≡ analysis wrap (drop k (filterOf i).stages) xs → zs ≡ lifted wrap (stageOf s) (not s.adds) (length ys / 2) ys → zs ≡ analysis wrap (drop (k - 1) (filterOf i).stages) xs
-unfolding stageOf
+pub analysis-turn : (i k : ℕ) (s : LiftStage) (xs ys zs : List ℤ) → i ≤ 6 → 0 < k → k ≤ length (filter_of i).stages → stage_of s ≡ stage_at (2 * i + (k - 1))
+    → ys ≡ analysis wrap (drop k (filter_of i).stages) xs → zs ≡ lifted wrap (stage_of s) (not s.adds) (length ys / 2) ys → zs ≡ analysis wrap (drop (k - 1) (filter_of i).stages) xs
+unfolding stage_of
 analysis-turn i zero s xs ys zs h p l e f g = absurd (omega arith)
 analysis-turn i (suc k) s xs ys zs h p l e f g =
     let q : suc k - 1 ≡ k = omega arith in
-    let e2 : stageOf s ≡ get_or (filterOf i).stages k (type1 0 0 0 []) = rw q at e ∙ (in_table i h).stage-of k (omega arith) in
-    rw q (g ∙ ap (λ (t : Stage). lifted wrap t (not t.adds) (length ys / 2) ys) e2 ∙ ap (unlift wrap (slice_index_or (filterOf i).stages k (type1 0 0 0 []))) f
-    ∙ analysis-next wrap (filterOf i).stages k (type1 0 0 0 []) xs (omega arith))
+    let e2 : stage_of s ≡ get_or (filter_of i).stages k (type1 0 0 0 []) = rw q at e ∙ (in_table i h).stage-of k (omega arith) in
+    rw q (g ∙ ap (λ (t : Stage). lifted wrap t (not t.adds) (length ys / 2) ys) e2 ∙ ap (unlift wrap (slice_index_or (filter_of i).stages k (type1 0 0 0 []))) f
+    ∙ analysis-next wrap (filter_of i).stages k (type1 0 0 0 []) xs (omega arith))

@@ -1,5 +1,5 @@
 -- `known` meets its contract.
-use Rattle.words.specs.Laws.Words.{known-short, known_by}
+use Rattle.words.specs.Laws.Words.{known_short, known_by}
 use borrow.Author.Rules.{rules}
 use Rattle.words.proofs.known.Statement.{statement}
 use Rattle.words.proofs.known.Tie as tie
@@ -7,7 +7,7 @@ use Rattle.words.proofs.known.Reads as reads
 use Rattle.words.proofs.known.Lts as lts
 
 returns : tie.Need-returns
-returns c = known-short c.before.args.words.now c.if1.true
+returns c = known_short c.before.args.words.now c.if1.true
 
 shared-slice-read-result : tie.Need-shared-slice-read-result
 shared-slice-read-result c = search rules

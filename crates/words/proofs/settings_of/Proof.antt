@@ -2,7 +2,7 @@
 use mathlib.Core.Path.{◌≡◌}
 use lib.ListN.{length}
 use native.Mathlib.Omega.{arith}
-use Rattle.unit.specs.Words.{settingsOf}
+use Rattle.unit.specs.Words.{settings_of}
 use Rattle.words.specs.Laws.Words.{known-long}
 use borrow.Author.Rules.{rules}
 use Rattle.words.proofs.settings_of.Statement.{statement}
@@ -85,8 +85,8 @@ shared-slice-read-t47 : tie.Need-shared-slice-read-t47
 shared-slice-read-t47 c = omega (arith, long c.before.before.before.before.before.before.before.before.before.before.before.before.before.before.before.before.before.before.before.before.before.before.before.before)
 
 returns : tie.Need-returns
-unfolding settingsOf
-returns c = rw (← c.before.before.before.before.before.before.before.before.before.before.before.before.before.before.before.before.before.before.before.before.before.kind-in.ensures, ← c.before.before.before.before.before.before.before.before.before.before.rate-in.ensures)
+unfolding settings_of
+returns c = rw (← c.before.before.before.before.before.before.before.before.before.before.before.before.before.before.before.before.before.before.before.before.before.kind-in.ensures, ← c.before.before.before.before.before.before.before.before.before.before.rate_in_lem.ensures)
 
 pub settings-of-spec : {M : Type 1} → statement M
 settings-of-spec =

@@ -5,7 +5,7 @@ use Rattle.std.proofs.Common.{eqb-true, eq-eqb, ne_eqb}
 use Rattle.unit.specs.declared.PictureKind.TheVariants.{HighQuality}
 use Rattle.unit.specs.declared.RateControl.TheVariants.{PictureBytes}
 use Rattle.unit.specs.Laws.Test.{no_truth}
-use Rattle.unit.specs.Words.{word_at, known, kindIn, rateIn}
+use Rattle.unit.specs.Words.{word_at, known, kind_in, rate_in}
 
 -- both tests hold
 pub both_true : (a b : Bool) → a && b ≡ true → (a ≡ true) × (b ≡ true)
@@ -18,9 +18,9 @@ unfolding known
 known-long ws e = eqb-true (length ws) 21 (both_true (eqb (length ws) 21) _ e).0
 
 -- words of another count are not known
-pub known-short : (ws : List ℕ) → (length ws ≡ 21 → ⊥) → false ≡ known ws
+pub known_short : (ws : List ℕ) → (length ws ≡ 21 → ⊥) → false ≡ known ws
 unfolding known
-known-short ws h = rw (ne_eqb (length ws) 21 h)
+known_short ws h = rw (ne_eqb (length ws) 21 h)
 
 -- the tests of 21 words, joined from the left
 pub known_by : (ws : List ℕ) → length ws ≡ 21 → ltb (word_at ws 0) 2 && ltb (word_at ws 9) 3 && ltb (word_at ws 17) 2 && ltb (word_at ws 18) 2 ≡ known ws
@@ -32,12 +32,12 @@ known_by ws e = rw (eq-eqb (length ws) 21 e) (joined (ltb (word_at ws 0) 2) (ltb
     joined false b c d = refl
 
 -- a kind that is not 0 is high quality
-pub kind-high : (v : ℕ) → (v ≡ 0 → ⊥) → HighQuality ≡ kindIn v
-kind-high zero h = absurd (h refl)
-kind-high (suc v) h = refl
+pub kind_high : (v : ℕ) → (v ≡ 0 → ⊥) → HighQuality ≡ kind_in v
+kind_high zero h = absurd (h refl)
+kind_high (suc v) h = refl
 
 -- a rate that is neither 0 nor 1 is a picture's bytes
-pub rate-bytes : (r n : ℕ) → (r ≡ 0 → ⊥) → (r ≡ 1 → ⊥) → PictureBytes n ≡ rateIn r n
-rate-bytes zero n h g = absurd (h refl)
-rate-bytes (suc zero) n h g = absurd (g refl)
-rate-bytes (suc (suc r)) n h g = refl
+pub rate_bytes : (r n : ℕ) → (r ≡ 0 → ⊥) → (r ≡ 1 → ⊥) → PictureBytes n ≡ rate_in r n
+rate_bytes zero n h g = absurd (h refl)
+rate_bytes (suc zero) n h g = absurd (g refl)
+rate_bytes (suc (suc r)) n h g = refl

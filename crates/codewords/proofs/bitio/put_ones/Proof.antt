@@ -3,9 +3,9 @@ use contract.Running.{tables, tables_of}
 use denote.Triple.Spec.{triple_of}
 use denote.Triple.Table.{entered, cited}
 use mir.Syntax.{w64}
-use Rattle.codewords.specs.Bit.{oneBits}
+use Rattle.codewords.specs.Bit.{one_bits}
 use Rattle.codewords.specs.Code.Writer.{Room, Wrote}
-use Rattle.codewords.proofs.Lends.{uint-arg}
+use Rattle.codewords.proofs.Lends.{uint_arg}
 use Rattle.codewords.proofs.Gives.One.{Put, meets}
 use Rattle.codewords.proofs.lent.put_ones.Symbol as callee
 use Rattle.codewords.proofs.lent.put_ones.Met as callee-thm
@@ -19,5 +19,5 @@ unfolding code.routine tables_of
 put-ones-spec 𝓤 𝓛 𝓜 𝓡 =
     entered 𝓤 𝓛.H (triple_of 𝓛 self.signature (self.spec 𝓛 𝓜.mem 𝓡.run))
     (tables 𝓤 𝓛.H 𝓜 𝓡 code.env).C (tables 𝓤 𝓛.H 𝓜 𝓡 code.env).Λ name code.function (code.unfolded 𝓤 𝓛.H 𝓜 𝓡)
-    (meets (uint-arg w64) (λ o w v. Room o w v) (λ o w v o' w'. Wrote o w (oneBits v) o' w') 𝓛 callee.name (tables_of 𝓤 𝓛.H 𝓜 (tables 𝓤 𝓛.H 𝓜 𝓡 code.env))
-    (cited 𝓤 𝓛.H (Put (uint-arg w64) (λ o w v. Room o w v) (λ o w v o' w'. Wrote o w (oneBits v) o' w') 𝓛) 𝓜 𝓡 code.env callee.name callee.routine code.calls-codewords::lent::put-ones (callee-thm.met 𝓤 𝓛 𝓜 𝓡)))
+    (meets (uint_arg w64) (λ o w v. Room o w v) (λ o w v o' w'. Wrote o w (one_bits v) o' w') 𝓛 callee.name (tables_of 𝓤 𝓛.H 𝓜 (tables 𝓤 𝓛.H 𝓜 𝓡 code.env))
+    (cited 𝓤 𝓛.H (Put (uint_arg w64) (λ o w v. Room o w v) (λ o w v o' w'. Wrote o w (one_bits v) o' w') 𝓛) 𝓜 𝓡 code.env callee.name callee.routine code.calls-codewords::lent::put-ones (callee-thm.met 𝓤 𝓛 𝓜 𝓡)))

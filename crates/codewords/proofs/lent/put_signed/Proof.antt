@@ -5,9 +5,9 @@ use denote.Triple.Spec.{triple_of}
 use denote.Triple.Table.{entered, cited}
 use mir.Syntax.{w64}
 use lib.ListN.{length}
-use Rattle.codewords.specs.CodeWord.{codeM}
+use Rattle.codewords.specs.CodeWord.{code_m}
 use Rattle.codewords.specs.Code.Writer.{Room, Wrote}
-use Rattle.codewords.proofs.Lends.{bool-arg, uint-arg}
+use Rattle.codewords.proofs.Lends.{bool_arg, uint_arg}
 use Rattle.codewords.proofs.Lends.Two.{Put, meets}
 use Rattle.codewords.proofs.writer.put_signed.Symbol as callee
 use Rattle.codewords.proofs.writer.put_signed.Met as callee-thm
@@ -21,5 +21,5 @@ unfolding code.routine tables_of
 put-signed-spec 𝓤 𝓛 𝓜 𝓡 =
     entered 𝓤 𝓛.H (triple_of 𝓛 self.signature (self.spec 𝓛 𝓜.mem 𝓡.run))
     (tables 𝓤 𝓛.H 𝓜 𝓡 code.env).C (tables 𝓤 𝓛.H 𝓜 𝓡 code.env).Λ name code.function (code.unfolded 𝓤 𝓛.H 𝓜 𝓡)
-    (meets (uint-arg w64) bool-arg (λ o w m b. Room o w (length (codeM m b)) × (m ≤ 2 ^ 63)) (λ o w m b o' w'. Wrote o w (codeM m b) o' w') 𝓤 𝓛 callee.name (tables_of 𝓤 𝓛.H 𝓜 (tables 𝓤 𝓛.H 𝓜 𝓡 code.env))
-    (cited 𝓤 𝓛.H (Put (uint-arg w64) bool-arg (λ o w m b. Room o w (length (codeM m b)) × (m ≤ 2 ^ 63)) (λ o w m b o' w'. Wrote o w (codeM m b) o' w') 𝓤 𝓛) 𝓜 𝓡 code.env callee.name callee.routine code.calls-codewords::writer::put-signed (callee-thm.met 𝓤 𝓛 𝓜 𝓡)))
+    (meets (uint_arg w64) bool_arg (λ o w m b. Room o w (length (code_m m b)) × (m ≤ 2 ^ 63)) (λ o w m b o' w'. Wrote o w (code_m m b) o' w') 𝓤 𝓛 callee.name (tables_of 𝓤 𝓛.H 𝓜 (tables 𝓤 𝓛.H 𝓜 𝓡 code.env))
+    (cited 𝓤 𝓛.H (Put (uint_arg w64) bool_arg (λ o w m b. Room o w (length (code_m m b)) × (m ≤ 2 ^ 63)) (λ o w m b o' w'. Wrote o w (code_m m b) o' w') 𝓤 𝓛) 𝓜 𝓡 code.env callee.name callee.routine code.calls-codewords::writer::put-signed (callee-thm.met 𝓤 𝓛 𝓜 𝓡)))

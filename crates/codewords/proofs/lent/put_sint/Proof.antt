@@ -6,7 +6,7 @@ use denote.Triple.Table.{entered, cited}
 use mir.Syntax.{w64}
 use Rattle.codewords.specs.CodeWord.{code_s}
 use Rattle.codewords.specs.Code.Writer.{Room, Wrote}
-use Rattle.codewords.proofs.Lends.{sint-arg}
+use Rattle.codewords.proofs.Lends.{sint_arg}
 use Rattle.codewords.proofs.Lends.One.{Put, meets}
 use Rattle.codewords.proofs.writer.put_sint.Symbol as callee
 use Rattle.codewords.proofs.writer.put_sint.Met as callee-thm
@@ -20,5 +20,5 @@ unfolding code.routine tables_of
 put-sint-spec 𝓤 𝓛 𝓜 𝓡 =
     entered 𝓤 𝓛.H (triple_of 𝓛 self.signature (self.spec 𝓛 𝓜.mem 𝓡.run))
     (tables 𝓤 𝓛.H 𝓜 𝓡 code.env).C (tables 𝓤 𝓛.H 𝓜 𝓡 code.env).Λ name code.function (code.unfolded 𝓤 𝓛.H 𝓜 𝓡)
-    (meets (sint-arg w64) (λ o w v. Room o w (length (code_s v))) (λ o w v o' w'. Wrote o w (code_s v) o' w') 𝓤 𝓛 callee.name (tables_of 𝓤 𝓛.H 𝓜 (tables 𝓤 𝓛.H 𝓜 𝓡 code.env))
-    (cited 𝓤 𝓛.H (Put (sint-arg w64) (λ o w v. Room o w (length (code_s v))) (λ o w v o' w'. Wrote o w (code_s v) o' w') 𝓤 𝓛) 𝓜 𝓡 code.env callee.name callee.routine code.calls-codewords::writer::put-sint (callee-thm.met 𝓤 𝓛 𝓜 𝓡)))
+    (meets (sint_arg w64) (λ o w v. Room o w (length (code_s v))) (λ o w v o' w'. Wrote o w (code_s v) o' w') 𝓤 𝓛 callee.name (tables_of 𝓤 𝓛.H 𝓜 (tables 𝓤 𝓛.H 𝓜 𝓡 code.env))
+    (cited 𝓤 𝓛.H (Put (sint_arg w64) (λ o w v. Room o w (length (code_s v))) (λ o w v o' w'. Wrote o w (code_s v) o' w') 𝓤 𝓛) 𝓜 𝓡 code.env callee.name callee.routine code.calls-codewords::writer::put-sint (callee-thm.met 𝓤 𝓛 𝓜 𝓡)))

@@ -2,7 +2,7 @@
 use mathlib.Core.List.{append-nil}
 use native.Mathlib.Omega.{arith}
 use borrow.Author.Rules.{rules}
-use Rattle.codewords.specs.Bit.{zeroBits}
+use Rattle.codewords.specs.Bit.{zero_bits}
 use Rattle.codewords.specs.Laws.Bit.{length-lit, lit-zeros}
 use Rattle.codewords.specs.Bytes.{padding}
 use Rattle.codewords.specs.Laws.Writer.{wrote_then, room_after}
@@ -44,7 +44,7 @@ returns c =
     let p = (after-put-short' c.before.before).put-short.ensures in
     let f = c.before.before.flush.ensures in
     record {
-      wrote = rw (append-nil (zeroBits k)) at (wrote_then st.pre.sound (rw (lit-zeros k) at p) f.wrote);
+      wrote = rw (append-nil (zero_bits k)) at (wrote_then st.pre.sound (rw (lit-zeros k) at p) f.wrote);
       whole = omega (arith, p.place, f.wrote.place, f.part, length-lit k 0);
     }
 

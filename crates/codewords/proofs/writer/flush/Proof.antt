@@ -8,13 +8,13 @@ use borrow.Author.Rules.{rules}
 use lib.ListN.{set}
 use lib.Pow.{pow_pos}
 use Rattle.laws.specs.Code.Laid.{Lays}
-use Rattle.laws.specs.Laws.Laid.{lays-start, lays-on, lays-first}
+use Rattle.laws.specs.Laws.Laid.{lays_start, lays_on, lays_first}
 use Rattle.codewords.specs.Bit.{lit}
-use Rattle.codewords.specs.Laws.Bit.{length-lit, lit-none, byte-up, one_shl}
+use Rattle.codewords.specs.Laws.Bit.{length-lit, lit-none, byte_up, one_shl}
 use Rattle.codewords.specs.Bytes.{to_bytes}
-use Rattle.codewords.specs.Laws.Byte.{pack-none, length-toBytes, bytes-more}
-use Rattle.codewords.specs.Code.Writer.{pendingOf}
-use Rattle.codewords.specs.Laws.Writer.{wrote-bits}
+use Rattle.codewords.specs.Laws.Byte.{pack-none, length-to_bytes, bytes_more}
+use Rattle.codewords.specs.Code.Writer.{pending_of}
+use Rattle.codewords.specs.Laws.Writer.{wrote_bits}
 use Rattle.codewords.proofs.writer.flush.Statement.{statement}
 use Rattle.codewords.proofs.writer.flush.Tie as tie
 use Rattle.codewords.proofs.writer.flush.Reads as reads
@@ -34,7 +34,7 @@ again : {o o₁ : List ℕ} {at place : ℕ} (n k x : ℕ) → 8 ≤ k → k ≤
 again {o} {o₁} {at} {place} n k x h l m p =
     let y = x / 2 ^ (k - 8) in
     let e : n - (k - 8) ≡ n - k + 8 = omega arith in
-    rw (e, bytes-more (n - k) y m, byte-up x k h) (lays-on p (lays-first (y % 256) (lays-start (set o₁ place (y % 256)) (place + 1))))
+    rw (e, bytes_more (n - k) y m, byte_up x k h) (lays_on p (lays_first (y % 256) (lays_start (set o₁ place (y % 256)) (place + 1))))
 
 k_lt : (c : tie.At-loop invariant-loop decreases-loop) → c.loop.k < 32
 k_lt c = omega (arith, c.loop.invariant.0, c.before.requires.sound.part)
@@ -45,13 +45,13 @@ place_is c =
     let w = c.before.args.w in
     let l = c.loop in
     let n = w.pending_bits - l.k in
-    omega (arith, l.invariant.1.1.next, length-toBytes (lit n (w.pending / 2 ^ l.k)), length-lit n (w.pending / 2 ^ l.k))
+    omega (arith, l.invariant.1.1.next, length-to_bytes (lit n (w.pending / 2 ^ l.k)), length-lit n (w.pending / 2 ^ l.k))
 
 loop-holds : tie.Need-loop-init invariant-loop decreases-loop
 loop-holds c =
     let n = c.args.w.pending_bits in
     let none : n - n ≡ 0 = omega arith in
-    (omega arith, (omega arith, rw (none, lit-none (c.args.w.pending / 2 ^ n), pack-none 7 0) (lays-start _ _)))
+    (omega arith, (omega arith, rw (none, lit-none (c.args.w.pending / 2 ^ n), pack-none 7 0) (lays_start _ _)))
 
 cast-out : tie.Need-overflow-cast-out invariant-loop decreases-loop
 cast-out c = omega (arith, k_lt c.before)
@@ -105,7 +105,7 @@ returns c =
     rw (one_shl l.k (omega arith))
     (record {
       wrote =
-          wrote-bits n (n - l.k) l.k w.pending (append-nil (pendingOf w)) (omega (arith, l.invariant.0)) (omega arith)
+          wrote_bits n (n - l.k) l.k w.pending (append-nil (pending_of w)) (omega (arith, l.invariant.0)) (omega arith)
           (omega (arith, place_is (t), l.invariant.1.0)) l.invariant.1.1.is;
       part = h;
     })

@@ -1,6 +1,6 @@
 -- `codewords::writer::put_bit` meets its contract.
 use borrow.Author.Rules.{rules}
-use Rattle.codewords.specs.Laws.Bit.{lit-bit}
+use Rattle.codewords.specs.Laws.Bit.{lit_bit}
 use Rattle.codewords.proofs.writer.put_bit.Statement.{statement}
 use Rattle.codewords.proofs.writer.put_bit.Tie as tie
 use Rattle.codewords.proofs.writer.put_bit.Reads as reads
@@ -21,7 +21,7 @@ same_length : tie.Need-same-length
 same_length c = search rules
 
 returns : tie.Need-returns
-returns c = rw (lit-bit (begin c.before.before).args.bit) at c.before.before.put-short.ensures
+returns c = rw (lit_bit (begin c.before.before).args.bit) at c.before.before.put-short.ensures
 
 pub put-bit-spec : {M : Type 1} → statement M
 put-bit-spec = tie.close (tie.spec cast-put-short put-short-requires same_length returns)

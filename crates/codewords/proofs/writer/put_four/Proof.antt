@@ -6,7 +6,7 @@ use native.Mathlib.Omega.{arith}
 use borrow.Author.Rules.{rules}
 use lib.ListN.{set, length-set}
 use Rattle.laws.specs.Code.Laid.{laid}
-use Rattle.codewords.specs.Laws.Byte.{bytes-four}
+use Rattle.codewords.specs.Laws.Byte.{bytes_four}
 use Rattle.codewords.proofs.writer.put_four.Statement.{statement}
 use Rattle.codewords.proofs.writer.put_four.Tie as tie
 use Rattle.codewords.proofs.writer.put_four.Reads as reads
@@ -58,7 +58,7 @@ same_length : tie.Need-same-length
 same_length c = simp length-set
 
 returns : tie.Need-returns
-returns c = rw (bytes-four c.args.x) (four c.args.out.now c.args.at _ _ _ _)
+returns c = rw (bytes_four c.args.x) (four c.args.out.now c.args.at _ _ _ _)
 
 pub put-four-spec : {M : Type 1} → statement M
 put-four-spec =

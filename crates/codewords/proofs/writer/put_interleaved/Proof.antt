@@ -9,11 +9,11 @@ use native.Mathlib.Omega.{arith}
 use borrow.Author.Rules.{rules}
 use Rattle.codewords.specs.declared.writer.BitWriter.{BitWriter}
 use Rattle.codewords.specs.Bit.{lit}
-use Rattle.codewords.specs.Laws.Bit.{length-lit, lit-none, lit-split, byte-up}
+use Rattle.codewords.specs.Laws.Bit.{length-lit, lit-none, lit_split, byte_up}
 use Rattle.codewords.specs.CodeWord.{interleaved}
-use Rattle.codewords.specs.Code.Spread.{spreadBits}
+use Rattle.codewords.specs.Code.Spread.{spread_bits}
 use Rattle.codewords.specs.Laws.Code.{interleaved-none, interleaved-append, length-interleaved}
-use Rattle.codewords.specs.Laws.Word.{interleaved-spread, word-lit}
+use Rattle.codewords.specs.Laws.Word.{interleaved-spread, word_lit}
 use Rattle.codewords.specs.Code.Writer.{Sound, Room, Wrote}
 use Rattle.codewords.specs.Laws.Writer.{wrote_none, wrote_then, room_after}
 use Rattle.codewords.proofs.writer.put_interleaved.Statement.{statement}
@@ -30,19 +30,19 @@ abbrev decreases-loop : tie.decreases-loop
 decreases-loop out₀ x n i₀ s₀ out i s = i
 
 -- eight pairs more
-again : {o o₁ o₂ : List ℕ} {w s₁ s₂ : BitWriter} (n i x r : ℕ) → 8 ≤ i → i ≤ n → Sound w → r ≡ spreadBits 8 (x / 2 ^ (i - 8))
+again : {o o₁ o₂ : List ℕ} {w s₁ s₂ : BitWriter} (n i x r : ℕ) → 8 ≤ i → i ≤ n → Sound w → r ≡ spread_bits 8 (x / 2 ^ (i - 8))
     → Wrote o w (interleaved (lit (n - i) (x / 2 ^ i))) o₁ s₁ → Wrote o₁ s₁ (lit 16 r) o₂ s₂
     → Wrote o w (interleaved (lit (n - (i - 8)) (x / 2 ^ (i - 8)))) o₂ s₂
 again n i x r h l s f inv q =
     let y = x / 2 ^ (i - 8) in
     let e : n - (i - 8) ≡ n - i + 8 = omega arith in
-    rw (e, lit-split (n - i) 8 y, byte-up x i h, interleaved-append, interleaved-spread 8 8 y (le_refl 8)) (wrote_then s inv (rw f at q))
+    rw (e, lit_split (n - i) 8 y, byte_up x i h, interleaved-append, interleaved-spread 8 8 y (le_refl 8)) (wrote_then s inv (rw f at q))
 
 -- the pairs from place i on, and then the others
 parts : (n i x : ℕ) → i ≤ n → interleaved (lit n x) ++ (true ∷ []) ≡ interleaved (lit (n - i) (x / 2 ^ i)) ++ (interleaved (lit i x) ++ (true ∷ []))
 parts n i x l =
     let e : n ≡ n - i + i = omega arith in
-    ap (λ (k : ℕ). interleaved (lit k x) ++ (true ∷ [])) e ∙ rw (lit-split (n - i) i x, interleaved-append, append_assoc)
+    ap (λ (k : ℕ). interleaved (lit k x) ++ (true ∷ [])) e ∙ rw (lit_split (n - i) i x, interleaved-append, append_assoc)
 
 -- earlier states
 abbrev begin : tie.After-loop invariant-loop decreases-loop → tie.Start invariant-loop decreases-loop
@@ -130,7 +130,7 @@ returns c =
     let st = begin (after-loop c.before.before) in
     let l = (after-loop c.before.before).before.loop in
     let r = (after-spread2 c).spread2 in
-    rw (parts st.args.n l.i st.args.x l.inv.0, word-lit l.i st.args.x (after-loop c.before.before).loop-test.left)
+    rw (parts st.args.n l.i st.args.x l.inv.0, word_lit l.i st.args.x (after-loop c.before.before).loop-test.left)
     (wrote_then st.pre.0.sound l.inv.1 (rw r.ensures.0 at c.before.before.put-short2.ensures))
 
 pub put-interleaved-spec : {M : Type 1} → statement M

@@ -5,7 +5,7 @@ use Prim.Native.Nat.{ℕ, ◌+◌, ◌-◌, ◌/◌, ◌^◌, ◌≤◌}
 use native.Mathlib.Omega.{arith}
 use borrow.Author.Rules.{rules}
 use Rattle.codewords.specs.Bit.{lit}
-use Rattle.codewords.specs.Laws.Bit.{length-lit, lit-split}
+use Rattle.codewords.specs.Laws.Bit.{length-lit, lit_split}
 use Rattle.codewords.specs.Laws.Writer.{wrote_then, room_after}
 use Rattle.codewords.proofs.writer.put_nbits.Statement.{statement}
 use Rattle.codewords.proofs.writer.put_nbits.Tie as tie
@@ -17,7 +17,7 @@ use Rattle.codewords.proofs.writer.put_short.Reads as put-short-reads
 halves : (n v : ℕ) → 32 ≤ n → lit n v ≡ lit (n - 32) (v / 2 ^ 32) ++ lit 32 v
 halves n v h =
     let e : n ≡ n - 32 + 32 = omega arith in
-    ap (λ (k : ℕ). lit k v) e ∙ lit-split (n - 32) 32 v
+    ap (λ (k : ℕ). lit k v) e ∙ lit_split (n - 32) 32 v
 
 -- earlier states
 abbrev begin : tie.After-put-short2 → tie.Start

@@ -5,8 +5,8 @@ use mathlib.Core.List.{List}
 use Prim.Native.Nat.{ℕ, ◌+◌, ◌-◌, ◌^◌, ◌≤◌}
 use lib.ListN.{replicate-append-replicate, length-replicate}
 use Rattle.codewords.specs.declared.writer.BitWriter.{BitWriter}
-use Rattle.codewords.specs.Bit.{lit, oneBits}
-use Rattle.codewords.specs.Laws.Bit.{lit-ones}
+use Rattle.codewords.specs.Bit.{lit, one_bits}
+use Rattle.codewords.specs.Laws.Bit.{lit_ones}
 use Rattle.codewords.specs.Code.Writer.{Sound, Room, Wrote}
 use Rattle.codewords.specs.Laws.Writer.{wrote_none, wrote_then, room_after}
 use native.Mathlib.Omega.{arith}
@@ -17,17 +17,17 @@ use Rattle.codewords.proofs.writer.put_ones.Lts as lts
 use Rattle.codewords.proofs.writer.put_short.Reads as put-short-reads
 
 abbrev invariant-loop : tie.invariant-loop
-invariant-loop out₀ n left₀ s₀ out left s = (left ≤ n) × Wrote out₀ s₀ (oneBits (n - left)) out s
+invariant-loop out₀ n left₀ s₀ out left s = (left ≤ n) × Wrote out₀ s₀ (one_bits (n - left)) out s
 
 abbrev decreases-loop : tie.decreases-loop
 decreases-loop out₀ n left₀ s₀ out left s = left
 
 -- k more of the ones that are left
 more : {o o₁ o₂ : List ℕ} {w s₁ s₂ : BitWriter} (n left k : ℕ) → k ≤ left → k ≤ 32 → left ≤ n → Sound w
-    → Wrote o w (oneBits (n - left)) o₁ s₁ → Wrote o₁ s₁ (lit k (2 ^ 32 - 1)) o₂ s₂ → Wrote o w (oneBits (n - (left - k))) o₂ s₂
+    → Wrote o w (one_bits (n - left)) o₁ s₁ → Wrote o₁ s₁ (lit k (2 ^ 32 - 1)) o₂ s₂ → Wrote o w (one_bits (n - (left - k))) o₂ s₂
 more n left k h g l s p q =
     let e : n - (left - k) ≡ n - left + k = omega arith in
-    rw (e, ← replicate-append-replicate) (wrote_then s p (rw (lit-ones k 32 g) at q))
+    rw (e, ← replicate-append-replicate) (wrote_then s p (rw (lit_ones k 32 g) at q))
 
 -- earlier states
 abbrev at-loop : tie.After-put-short invariant-loop decreases-loop → tie.At-loop invariant-loop decreases-loop

@@ -5,8 +5,8 @@ use Prim.Native.Nat.{◌+◌, ◌-◌, ◌*◌, ◌%◌, ◌^◌, ◌≤◌, ◌
 use native.Mathlib.Omega.{arith}
 use borrow.Author.Rules.{rules}
 use lib.Pow.{pow_pos, pow_mono}
-use Rattle.codewords.specs.Laws.Bit.{lit-join, one_shl}
-use Rattle.codewords.specs.Laws.Writer.{joined, joined-lt, wrote-few, wrote-bits}
+use Rattle.codewords.specs.Laws.Bit.{lit_join, one_shl}
+use Rattle.codewords.specs.Laws.Writer.{joined, joined-lt, wrote_few, wrote_bits}
 use Rattle.codewords.proofs.writer.put_short.Statement.{statement}
 use Rattle.codewords.proofs.writer.put_short.Tie as tie
 use Rattle.codewords.proofs.writer.put_short.Reads as reads
@@ -24,8 +24,8 @@ else1 c = let t = c.before.before in t.before.before
 size_is : (c : tie.Start) → 1 * 2 ^ c.args.n % 2 ^ 64 ≡ 2 ^ c.args.n
 size_is c = one_shl c.args.n (omega (arith, c.requires.1))
 
-rest-is : (c : tie.Start) → let j = c.args.w.pending_bits + c.args.n - 32 in 1 * 2 ^ j % 2 ^ 64 ≡ 2 ^ j
-rest-is c = one_shl _ (omega (arith, c.requires))
+rest_is : (c : tie.Start) → let j = c.args.w.pending_bits + c.args.n - 32 in 1 * 2 ^ j % 2 ^ 64 ≡ 2 ^ j
+rest_is c = one_shl _ (omega (arith, c.requires))
 
 -- the number fits a word
 fits : (c : tie.Start) → joined c.args.w c.args.n c.args.v < 2 ^ 63
@@ -53,7 +53,7 @@ returns : tie.Need-returns
 returns c =
     let t = c.before.before in
     let s = t.before.before in
-    rw (size_is s) (wrote-few s.args.out.now s.args.w s.args.n s.args.v s.requires.0.sound c.if1.true)
+    rw (size_is s) (wrote_few s.args.out.now s.args.w s.args.n s.args.v s.requires.0.sound c.if1.true)
 
 cast-put-four : tie.Need-overflow-cast-put-four
 cast-put-four c = search rules
@@ -76,7 +76,7 @@ add-t17 c = search rules
 rem-t12 : tie.Need-nonzero-rem-t12
 rem-t12 c =
     let s = (after-struct-known c.before.before).before.before in
-    rw (rest-is s) (pow_pos _)
+    rw (rest_is s) (pow_pos _)
 
 same_length : tie.Need-same-length
 same_length c = search rules
@@ -87,8 +87,8 @@ returns-2 c =
     let a = s.args in
     let k = a.w.pending_bits + a.n in
     let h : 32 ≤ k = (else1 c).if1.false in
-    rw (size_is s, rest-is s)
-    (wrote-bits k 32 (k - 32) (joined a.w a.n a.v) (sym (lit-join a.w.pending_bits a.w.pending a.n a.v))
+    rw (size_is s, rest_is s)
+    (wrote_bits k 32 (k - 32) (joined a.w a.n a.v) (sym (lit_join a.w.pending_bits a.w.pending a.n a.v))
     (omega arith) (omega (arith, s.pre)) (omega arith) (rw (size_is s) at c.before.before.put_four.ensures))
 
 pub put-short-spec : {M : Type 1} → statement M

@@ -7,8 +7,8 @@ use native.Mathlib.Omega.{arith}
 use borrow.Author.Rules.{rules}
 use lib.ListN.{length, length-append}
 use Rattle.codewords.specs.Laws.Bit.{length-lit}
-use Rattle.codewords.specs.CodeWord.{codeU, codeM}
-use Rattle.codewords.specs.Laws.Code.{codeM-pos}
+use Rattle.codewords.specs.CodeWord.{code_u, code_m}
+use Rattle.codewords.specs.Laws.Code.{code_m-pos}
 use Rattle.codewords.specs.Laws.Writer.{wrote_then, room_after}
 use Rattle.codewords.proofs.writer.put_signed.Statement.{statement}
 use Rattle.codewords.proofs.writer.put_signed.Tie as tie
@@ -20,13 +20,13 @@ use Rattle.codewords.proofs.writer.put_short.Reads as put-short-reads
 use Rattle.codewords.proofs.writer.word_of.Reads as word-of-reads
 
 -- the word of a magnitude that is not 0, and the sign bit
-signed : (m : ℕ) (b : Bool) → 511 ≤ m → codeM m b ≡ codeU (m + 1 - 1) ++ (b ∷ [])
+signed : (m : ℕ) (b : Bool) → 511 ≤ m → code_m m b ≡ code_u (m + 1 - 1) ++ (b ∷ [])
 signed m b h =
     let e : m ≡ m + 1 - 1 = omega arith in
-    codeM-pos m b (omega arith) ∙ ap (λ (k : ℕ). codeU k ++ (b ∷ [])) e
+    code_m-pos m b (omega arith) ∙ ap (λ (k : ℕ). code_u k ++ (b ∷ [])) e
 
-length-is : (m : ℕ) (b : Bool) → 511 ≤ m → length (codeM m b) ≡ length (codeU (m + 1 - 1)) + 1
-length-is m b h = ap length (signed m b h) ∙ length-append (codeU (m + 1 - 1)) (b ∷ [])
+length_is : (m : ℕ) (b : Bool) → 511 ≤ m → length (code_m m b) ≡ length (code_u (m + 1 - 1)) + 1
+length_is m b h = ap length (signed m b h) ∙ length-append (code_u (m + 1 - 1)) (b ∷ [])
 
 -- earlier states
 abbrev after-slice-known : tie.After-put-code → tie.After-slice-known
@@ -62,13 +62,13 @@ put-code-requires c κs =
     let t = c.before.before in
     let st = t.before in
     let r = st.requires.0 in
-    (record { sound = r.sound; room = omega (arith, r.room, length-is st.args.m st.args.minus c.before.if1.false) }, omega arith)
+    (record { sound = r.sound; room = omega (arith, r.room, length_is st.args.m st.args.minus c.before.if1.false) }, omega arith)
 
 put-bit-requires : tie.Need-put-bit-requires
 put-bit-requires c κs =
     let st = (after-slice-known (after-put-code c)).before in
     room_after 1 st.pre.0 (after-put-code c).put-code.ensures
-    (omega (arith, length-is st.args.m st.args.minus (after-put-code c).before.before.if1.false))
+    (omega (arith, length_is st.args.m st.args.minus (after-put-code c).before.before.if1.false))
 
 same-length-2 : tie.Need-same-length-2
 same-length-2 c = search rules

@@ -2,7 +2,7 @@
 use mathlib.Core.Path.{◌≡◌, ◌∙◌}
 use Prim.Native.Nat.{◌%◌}
 use native.Mathlib.Omega.{arith}
-use Rattle.codewords.specs.Code.Spread.{spreadBits}
+use Rattle.codewords.specs.Code.Spread.{spread_bits}
 use Rattle.codewords.specs.Laws.Word.{steps, spread-lt, spread-mod, spread-steps}
 use Rattle.codewords.proofs.writer.spread.Statement.{statement}
 use Rattle.codewords.proofs.writer.spread.Tie as tie
@@ -12,7 +12,7 @@ use Rattle.codewords.proofs.writer.spread.Lts as lts
 returns : tie.Need-returns
 returns c =
     let b = c.args.b in
-    let e : steps (b % 256) ≡ spreadBits 8 b = spread-steps (b % 256) (omega arith) ∙ spread-mod 8 b in
+    let e : steps (b % 256) ≡ spread_bits 8 b = spread-steps (b % 256) (omega arith) ∙ spread-mod 8 b in
     (e, rw e (spread-lt 8 b))
 
 pub spread-spec : {M : Type 1} → statement M

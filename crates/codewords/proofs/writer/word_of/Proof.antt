@@ -5,9 +5,9 @@ use native.Mathlib.Omega.{arith}
 use borrow.Author.Rules.{rules}
 use lib.Count.{count_leading_zeros}
 use Rattle.codewords.specs.Bit.{lit}
-use Rattle.codewords.specs.Laws.Bit.{val-lt, byte-val}
-use Rattle.codewords.specs.CodeWord.{log2, codeM}
-use Rattle.codewords.specs.Laws.Code.{leading-log2, codeM-zero}
+use Rattle.codewords.specs.Laws.Bit.{val-lt, byte_val}
+use Rattle.codewords.specs.CodeWord.{log2, code_m}
+use Rattle.codewords.specs.Laws.Code.{leading_log2, code_m-zero}
 use Rattle.codewords.specs.Laws.Word.{code-lit}
 use Rattle.codewords.proofs.writer.word_of.Statement.{statement}
 use Rattle.codewords.proofs.writer.word_of.Tie as tie
@@ -24,8 +24,8 @@ record Place (x : ℕ) : Type 0 where
 place : (c : tie.Start) → Place (c.args.m + 1)
 place c =
     let x = c.args.m + 1 in
-    let l = leading-log2 64 x (omega arith) (omega arith) in
-    record { zeros = omega arith; is = omega arith; low = omega (arith, leading-log2 9 x (omega arith) (omega arith)) }
+    let l = leading_log2 64 x (omega arith) (omega arith) in
+    record { zeros = omega arith; is = omega arith; low = omega (arith, leading_log2 9 x (omega arith) (omega arith)) }
 
 add-n : tie.Need-overflow-add-n
 add-n c = search rules
@@ -52,7 +52,7 @@ cast-t12 : tie.Need-overflow-cast-t12
 cast-t12 c = search rules
 
 add-t13 : tie.Need-overflow-add-t13
-add-t13 c = omega (arith, byte-val c.before.before.args.minus, val-lt c.before.before.args.minus)
+add-t13 c = omega (arith, byte_val c.before.before.args.minus, val-lt c.before.before.args.minus)
 
 mul-t14 : tie.Need-overflow-mul-t14
 mul-t14 c = search rules
@@ -64,7 +64,7 @@ returns : tie.Need-returns
 unfolding lit
 returns c =
     let a = c.before.before.args in
-    (sym (ap (λ (m : ℕ). codeM m a.minus) c.if1.true ∙ codeM-zero a.minus), omega arith)
+    (sym (ap (λ (m : ℕ). code_m m a.minus) c.if1.true ∙ code_m-zero a.minus), omega arith)
 
 returns-2 : tie.Need-returns-2
 returns-2 c =

@@ -4,7 +4,7 @@ use native.Mathlib.Omega.{arith}
 use Prim.Native.Nat.{◌-◌}
 use lib.ListN.{take, drop}
 use lib.Seq.{length-take-le}
-use Rattle.jobs.specs.Laws.Job.{lent-to-end}
+use Rattle.jobs.specs.Laws.Job.{lent-to_end}
 use borrow.Author.Rules.{rules}
 use Rattle.jobs.proofs.encode.encode.Statement.{statement}
 use Rattle.jobs.proofs.encode.encode.Tie as tie
@@ -51,7 +51,7 @@ returns : tie.Need-returns
 returns c =
     let a = c.before.before.before.before.before.before.before.before.before.before.before.before.args in
     let l = a.samples.now in
-    lent-to-end (take a.y l) (take (a.c1 - a.y) (drop a.y l)) l a.c1 c.before.before.before.encode-picture.ensures
+    lent-to_end (take a.y l) (take (a.c1 - a.y) (drop a.y l)) l a.c1 c.before.before.before.encode-picture.ensures
 
 pub encode-spec : {M : Type 1} → statement M
 encode-spec =

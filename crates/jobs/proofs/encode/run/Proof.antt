@@ -7,7 +7,7 @@ use lib.ListN.{length, take}
 use lib.Seq.{length-take-le}
 use Rattle.laws.specs.Code.Laid.{Lays}
 use Rattle.jobs.specs.Job.{words_of}
-use Rattle.jobs.specs.Laws.Print.{lays-read}
+use Rattle.jobs.specs.Laws.Print.{lays_read}
 use Rattle.jobs.specs.Laws.Parse.{words_count}
 use Rattle.jobs.specs.Laws.Job.{whole-read, odd-read}
 use borrow.Author.Rules.{rules}
@@ -70,8 +70,8 @@ returns-2 c =
     let st = c.before.before.before.before.before.before.before.before.before.before.before.before.before.before.before.before.before.before.before.before.before.before.before.before.before.before.before in
     let a = st.args in
     let u = c.before.before.before.before.before.before.before.before.before.before.before.before.before.before.before.before.before.before.unpack in
-    let r = c.before.before.before.before.before.before.before.before.before.run-words in
-    let e = lays-read a.words.now (words_of a.bytes.now) u.new.1.0 u.result u.ensures (omega (arith, words_count a.bytes.now, st.requires.0)) in
+    let r = c.before.before.before.before.before.before.before.before.before.run_words in
+    let e = lays_read a.words.now (words_of a.bytes.now) u.new.1.0 u.result u.ensures (omega (arith, words_count a.bytes.now, st.requires.0)) in
     (whole-read a.bytes.now a.out.now a.work.now (take u.result u.new.1.0) a.text.now r.new.1.1.1.1.1.0 r.result c.before.before.before.before.before.before.before.before.before.before.before.before.before.before.before.before.before.before.before.before.if1.false e r.ensures.0 r.ensures.1, r.ensures.1)
 
 pub run_spec : {M : Type 1} → statement M

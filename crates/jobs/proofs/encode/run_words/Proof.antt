@@ -3,7 +3,7 @@ use mathlib.Core.Path.{◌≡◌, sym, ◌∙◌}
 use native.Mathlib.Omega.{arith}
 use lib.ListN.{length}
 use borrow.Author.Tests.{not-true, not-false}
-use Rattle.jobs.specs.Laws.Job.{answer-room, answer-laid, job-laid}
+use Rattle.jobs.specs.Laws.Job.{answer_room, answer_laid, job-laid}
 use borrow.Author.Rules.{rules}
 use Rattle.jobs.proofs.encode.run_words.Statement.{statement}
 use Rattle.jobs.proofs.encode.run_words.Tie as tie
@@ -41,7 +41,7 @@ put-answer-requires c κs =
     let a = st.args in
     let r = c.before.before.before.before.before.before.before.before.before.call in
     let k : length r.last.1.1.1.1.1.0 ≡ length a.out.now = search rules in
-    answer-room a.words.now a.out.now a.work.now r.last.1.1.1.1.1.0 r.last.1.1.1.1.0 r.result (length a.text.now) r.ensures k st.pre.1.1.0 st.pre.1.1.1
+    answer_room a.words.now a.out.now a.work.now r.last.1.1.1.1.1.0 r.last.1.1.1.1.0 r.result (length a.text.now) r.ensures k st.pre.1.1.0 st.pre.1.1.1
 
 same-length-2 : tie.Need-same-length-2
 same-length-2 c = search rules
@@ -65,7 +65,7 @@ returns-2 c =
     let w = c.before.before.before.before.before.before.before.before.before.before.before.before.before.before.before.before.before.before.well-formed in
     let p = c.before.before.put-answer.ensures in
     let t = sym w.ensures ∙ not-false w.result c.before.before.before.before.before.before.before.before.before.before.before.before.before.before.before.before.before.if1.left in
-    (answer-laid a.words.now a.out.now a.work.now r.last.1.1.1.1.1.0 r.last.1.1.1.1.0 r.result t r.ensures p.0, p.1)
+    (answer_laid a.words.now a.out.now a.work.now r.last.1.1.1.1.1.0 r.last.1.1.1.1.0 r.result t r.ensures p.0, p.1)
 
 pub run-words-spec : {M : Type 1} → statement M
 run-words-spec =

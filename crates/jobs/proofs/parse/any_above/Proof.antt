@@ -4,16 +4,16 @@ use mathlib.Core.Path.{◌≡◌, refl, ◌∙◌}
 use mathlib.Core.List.{map}
 use Prim.Native.Nat.{◌-◌, ◌≤◌}
 use lib.ListN.{length, drop}
-use Rattle.unit.specs.Refusal.{anyAbove}
-use Rattle.jobs.specs.Job.{contentOf}
-use Rattle.picture.specs.Laws.Refusal.{above-here, above-next, above-none}
-use Rattle.jobs.specs.Laws.Parse.{contents-count, content-at}
+use Rattle.unit.specs.Refusal.{any_above}
+use Rattle.jobs.specs.Job.{content_of}
+use Rattle.picture.specs.Laws.Refusal.{above_here, above_next, above_none}
+use Rattle.jobs.specs.Laws.Parse.{contents_count, content_at}
 use native.Mathlib.Omega.{arith}
 use Rattle.jobs.proofs.parse.any_above.Statement.{statement}
 use Rattle.jobs.proofs.parse.any_above.Tie as tie
 
 abbrev invariant-loop : tie.invariant-loop
-invariant-loop words n i₀ i = (i ≤ length words) × (anyAbove 65535 (drop i (map contentOf words)) ≡ anyAbove 65535 (map contentOf words))
+invariant-loop words n i₀ i = (i ≤ length words) × (any_above 65535 (drop i (map content_of words)) ≡ any_above 65535 (map content_of words))
 
 abbrev decreases-loop : tie.decreases-loop
 decreases-loop words n i₀ i = length words - i
@@ -34,7 +34,7 @@ returns : tie.Need-returns invariant-loop decreases-loop
 returns c =
     let ws = c.before.before.before.before.before.before.args.words.now in
     let l = c.before.before.before.before.loop in
-    above-here 65535 (map contentOf ws) l.i (rw (contents-count ws) c.before.before.before.loop-test.true) (rw (c.before.content-of.ensures ∙ content-at ws l.i) at c.if1.true) ∙ l.invariant.1
+    above_here 65535 (map content_of ws) l.i (rw (contents_count ws) c.before.before.before.loop-test.true) (rw (c.before.content-of.ensures ∙ content_at ws l.i) at c.if1.true) ∙ l.invariant.1
 
 add-i : tie.Need-overflow-add-i invariant-loop decreases-loop
 add-i c = omega arith
@@ -46,13 +46,13 @@ loop-again : tie.Need-loop-preserved invariant-loop decreases-loop
 loop-again c =
     let ws = c.before.before.before.before.before.before.args.words.now in
     let l = c.before.before.before.before.loop in
-    (omega arith, above-next 65535 (map contentOf ws) l.i (rw (contents-count ws) c.before.before.before.loop-test.true) (rw (c.before.content-of.ensures ∙ content-at ws l.i) at c.if1.false) ∙ l.invariant.1)
+    (omega arith, above_next 65535 (map content_of ws) l.i (rw (contents_count ws) c.before.before.before.loop-test.true) (rw (c.before.content-of.ensures ∙ content_at ws l.i) at c.if1.false) ∙ l.invariant.1)
 
 returns-2 : tie.Need-returns-2 invariant-loop decreases-loop
 returns-2 c =
     let ws = c.before.before.before.args.words.now in
     let l = c.before.loop in
-    above-none 65535 (map contentOf ws) l.i (rw (contents-count ws) c.loop-test.false) ∙ l.invariant.1
+    above_none 65535 (map content_of ws) l.i (rw (contents_count ws) c.loop-test.false) ∙ l.invariant.1
 
 pub any-above-spec : {M : Type 1} → statement M
 any-above-spec =

@@ -1,5 +1,5 @@
 -- `parse::ends_of` meets its contract.
-use Rattle.jobs.specs.Laws.Parse.{ends-are}
+use Rattle.jobs.specs.Laws.Parse.{ends_are}
 use borrow.Author.Rules.{rules}
 use Rattle.jobs.proofs.parse.ends_of.Statement.{statement}
 use Rattle.jobs.proofs.parse.ends_of.Tie as tie
@@ -26,7 +26,7 @@ returns c =
     let e3 = c.before.before.run-end3 in
     let e4 = c.before.run-end4 in
     let e5 = c.run-end5 in
-    ends-are c.before.before.before.before.before.before.args.words.now e1.result e2.result e3.result e4.result e5.result e1.ensures.0 e2.ensures.0 e3.ensures.0 e4.ensures.0 e5.ensures.0
+    ends_are c.before.before.before.before.before.before.args.words.now e1.result e2.result e3.result e4.result e5.result e1.ensures.0 e2.ensures.0 e3.ensures.0 e4.ensures.0 e5.ensures.0
 
 pub ends-of-spec : {M : Type 1} → statement M
 ends-of-spec =

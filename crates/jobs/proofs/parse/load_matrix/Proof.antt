@@ -4,21 +4,21 @@ use mathlib.Core.List.{map}
 use Prim.Native.Nat.{◌-◌, ◌≤◌}
 use lib.ListN.{length, take}
 use Rattle.laws.specs.Code.Laid.{Lays}
-use Rattle.laws.specs.Laws.Laid.{lays-start}
-use Rattle.jobs.specs.Job.{contentOf}
-use Rattle.jobs.specs.Laws.Parse.{fill-next, fill-all, contents-count, content-at}
+use Rattle.laws.specs.Laws.Laid.{lays_start}
+use Rattle.jobs.specs.Job.{content_of}
+use Rattle.jobs.specs.Laws.Parse.{fill-next, fill_all, contents_count, content_at}
 use native.Mathlib.Omega.{arith}
 use Rattle.jobs.proofs.parse.load_matrix.Statement.{statement}
 use Rattle.jobs.proofs.parse.load_matrix.Tie as tie
 
 abbrev invariant-loop : tie.invariant-loop
-invariant-loop words matrix₀ n i₀ matrix i = (i ≤ length words) × Lays matrix₀ 0 (take i (map contentOf words)) matrix i
+invariant-loop words matrix₀ n i₀ matrix i = (i ≤ length words) × Lays matrix₀ 0 (take i (map content_of words)) matrix i
 
 abbrev decreases-loop : tie.decreases-loop
 decreases-loop words matrix₀ n i₀ matrix i = length words - i
 
 loop-holds : tie.Need-loop-init invariant-loop decreases-loop
-loop-holds c = (omega arith, lays-start c.before.before.args.matrix.now 0)
+loop-holds c = (omega arith, lays_start c.before.before.args.matrix.now 0)
 
 mul-content-of : tie.Need-overflow-mul-content-of invariant-loop decreases-loop
 mul-content-of c = omega arith
@@ -46,7 +46,7 @@ loop-again c =
     let ws = c.before.before.before.before.before.before.args.words.now in
     let l = c.before.before.before.loop in
     let t = c.before.before.loop-test.true in
-    (omega arith, fill-next (map contentOf ws) l.i c.content-of.result (rw (contents-count ws) t) (c.content-of.ensures ∙ content-at ws l.i) l.invariant.1)
+    (omega arith, fill-next (map content_of ws) l.i c.content-of.result (rw (contents_count ws) t) (c.content-of.ensures ∙ content_at ws l.i) l.invariant.1)
 
 same_length : tie.Need-same-length invariant-loop decreases-loop
 same_length c = c.before.loop.invariant.1.size
@@ -55,7 +55,7 @@ returns : tie.Need-returns invariant-loop decreases-loop
 returns c =
     let ws = c.before.before.before.before.args.words.now in
     let l = c.before.loop in
-    fill-all (map contentOf ws) l.i (length ws) (contents-count ws) (omega (arith, l.invariant.0, c.loop-test.false)) l.invariant.1
+    fill_all (map content_of ws) l.i (length ws) (contents_count ws) (omega (arith, l.invariant.0, c.loop-test.false)) l.invariant.1
 
 pub load-matrix-spec : {M : Type 1} → statement M
 load-matrix-spec =

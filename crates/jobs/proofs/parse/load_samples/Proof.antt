@@ -4,21 +4,21 @@ use mathlib.Core.List.{map}
 use Prim.Native.Nat.{◌-◌, ◌≤◌}
 use lib.ListN.{length, take}
 use Rattle.laws.specs.Code.Laid.{Lays}
-use Rattle.laws.specs.Laws.Laid.{lays-start}
-use Rattle.jobs.specs.Job.{contentOf}
-use Rattle.jobs.specs.Laws.Parse.{fill-next, fill-all, contents-count, content-at, content-small}
+use Rattle.laws.specs.Laws.Laid.{lays_start}
+use Rattle.jobs.specs.Job.{content_of}
+use Rattle.jobs.specs.Laws.Parse.{fill-next, fill_all, contents_count, content_at, content_small}
 use native.Mathlib.Omega.{arith}
 use Rattle.jobs.proofs.parse.load_samples.Statement.{statement}
 use Rattle.jobs.proofs.parse.load_samples.Tie as tie
 
 abbrev invariant-loop : tie.invariant-loop
-invariant-loop words samples₀ n i₀ samples i = (i ≤ length words) × Lays samples₀ 0 (take i (map contentOf words)) samples i
+invariant-loop words samples₀ n i₀ samples i = (i ≤ length words) × Lays samples₀ 0 (take i (map content_of words)) samples i
 
 abbrev decreases-loop : tie.decreases-loop
 decreases-loop words samples₀ n i₀ samples i = length words - i
 
 loop-holds : tie.Need-loop-init invariant-loop decreases-loop
-loop-holds c = (omega arith, lays-start c.before.before.args.samples.now 0)
+loop-holds c = (omega arith, lays_start c.before.before.args.samples.now 0)
 
 mul-content-of : tie.Need-overflow-mul-content-of invariant-loop decreases-loop
 mul-content-of c = omega arith
@@ -30,7 +30,7 @@ content-of-requires : tie.Need-content-of-requires invariant-loop decreases-loop
 content-of-requires c κs = tt
 
 cast-samples : tie.Need-overflow-cast-samples invariant-loop decreases-loop
-cast-samples c = omega (arith, c.content-of.ensures, content-small c.before.before.before.before.before.before.args.words.now c.before.before.before.loop.i c.before.before.before.before.before.before.requires.1)
+cast-samples c = omega (arith, c.content-of.ensures, content_small c.before.before.before.before.before.before.args.words.now c.before.before.before.loop.i c.before.before.before.before.before.before.requires.1)
 
 mul-samples : tie.Need-overflow-mul-samples invariant-loop decreases-loop
 mul-samples c = omega arith
@@ -49,7 +49,7 @@ loop-again c =
     let ws = c.before.before.before.before.before.before.args.words.now in
     let l = c.before.before.before.loop in
     let t = c.before.before.loop-test.true in
-    (omega arith, fill-next (map contentOf ws) l.i c.content-of.result (rw (contents-count ws) t) (c.content-of.ensures ∙ content-at ws l.i) l.invariant.1)
+    (omega arith, fill-next (map content_of ws) l.i c.content-of.result (rw (contents_count ws) t) (c.content-of.ensures ∙ content_at ws l.i) l.invariant.1)
 
 same_length : tie.Need-same-length invariant-loop decreases-loop
 same_length c = c.before.loop.invariant.1.size
@@ -58,7 +58,7 @@ returns : tie.Need-returns invariant-loop decreases-loop
 returns c =
     let ws = c.before.before.before.before.args.words.now in
     let l = c.before.loop in
-    fill-all (map contentOf ws) l.i (length ws) (contents-count ws) (omega (arith, l.invariant.0, c.loop-test.false)) l.invariant.1
+    fill_all (map content_of ws) l.i (length ws) (contents_count ws) (omega (arith, l.invariant.0, c.loop-test.false)) l.invariant.1
 
 pub load-samples-spec : {M : Type 1} → statement M
 load-samples-spec =

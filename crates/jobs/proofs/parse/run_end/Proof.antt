@@ -2,14 +2,14 @@
 use mathlib.Core.Path.{◌≡◌, refl, sym, ◌∙◌}
 use Prim.Native.Nat.{◌-◌, ◌≤◌}
 use lib.ListN.{length}
-use Rattle.jobs.specs.Code.Steps.{runEnd}
-use Rattle.jobs.specs.Laws.Parse.{run-stop, run-next, run-over}
+use Rattle.jobs.specs.Code.Steps.{run_end}
+use Rattle.jobs.specs.Laws.Parse.{run_stop, run-next, run_over}
 use native.Mathlib.Omega.{arith}
 use Rattle.jobs.proofs.parse.run_end.Statement.{statement}
 use Rattle.jobs.proofs.parse.run_end.Tie as tie
 
 abbrev invariant-loop : tie.invariant-loop
-invariant-loop words from kind n i₀ i = (i ≤ length words) × (runEnd kind words i ≡ runEnd kind words from)
+invariant-loop words from kind n i₀ i = (i ≤ length words) × (run_end kind words i ≡ run_end kind words from)
 
 abbrev decreases-loop : tie.decreases-loop
 decreases-loop words from kind n i₀ i = length words - i
@@ -30,7 +30,7 @@ returns : tie.Need-returns invariant-loop decreases-loop
 returns c =
     let a = c.before.before.before.before.before.before.args in
     let l = c.before.before.before.before.loop in
-    (run-stop a.kind a.words.now l.i c.before.before.before.loop-test.true (λ e. c.if1.true (c.before.kind-of.ensures ∙ e)) ∙ l.invariant.1, l.invariant.0)
+    (run_stop a.kind a.words.now l.i c.before.before.before.loop-test.true (λ e. c.if1.true (c.before.kind-of.ensures ∙ e)) ∙ l.invariant.1, l.invariant.0)
 
 add-i : tie.Need-overflow-add-i invariant-loop decreases-loop
 add-i c = omega arith
@@ -48,7 +48,7 @@ returns-2 : tie.Need-returns-2 invariant-loop decreases-loop
 returns-2 c =
     let a = c.before.before.before.args in
     let l = c.before.loop in
-    (run-over a.kind a.words.now l.i c.loop-test.false ∙ l.invariant.1, l.invariant.0)
+    (run_over a.kind a.words.now l.i c.loop-test.false ∙ l.invariant.1, l.invariant.0)
 
 pub run-end-spec : {M : Type 1} → statement M
 run-end-spec =

@@ -6,7 +6,7 @@ use lib.ListN.{length, take}
 use lib.Seq.{length-take-le}
 use borrow.Author.Tests.{not-true, not-false}
 use Rattle.unit.specs.Words.{known}
-use Rattle.jobs.specs.Laws.Parse.{Parted, parted, settings-long, order-unknown, order-endless, order-uncounted, order-last}
+use Rattle.jobs.specs.Laws.Parse.{Parted, parted, settings_long, order_unknown, order_endless, order_uncounted, order_last}
 use native.Mathlib.Omega.{arith}
 use borrow.Author.Rules.{rules}
 use Rattle.jobs.proofs.parse.well_formed.Statement.{statement}
@@ -20,7 +20,7 @@ from st = parted st.args.words.now st.args.e st.requires
 enough : (st : tie.Start) → known (take st.args.e.settings st.args.words.now) ≡ true → 21 ≤ length st.args.words.now
 enough st k =
     let q = from st in
-    omega (arith, settings-long st.args.words.now st.args.e st.requires k, q.to-matrix, q.to-y, q.to-c1, q.to-c2, q.within)
+    omega (arith, settings_long st.args.words.now st.args.e st.requires k, q.to-matrix, q.to_y, q.to_c1, q.to_c2, q.within)
 
 slice-aggregate-known : tie.Need-slice-aggregate-known
 slice-aggregate-known c =
@@ -36,7 +36,7 @@ returns : tie.Need-returns
 returns c =
     let st = c.before.before.before.before in
     let a = st.args in
-    order-unknown a.words.now a.e st.requires (sym c.before.known.ensures ∙ not-true c.before.known.result c.if1.true)
+    order_unknown a.words.now a.e st.requires (sym c.before.known.ensures ∙ not-true c.before.known.result c.if1.true)
 
 is-end-requires : tie.Need-is-end-requires
 is-end-requires c κs = search rules
@@ -45,7 +45,7 @@ returns-2 : tie.Need-returns-2
 returns-2 c =
     let st = c.before.before.before.before.before.before in
     let a = st.args in
-    order-endless a.words.now a.e st.requires (sym c.before.before.before.known.ensures ∙ not-false c.before.before.before.known.result c.before.before.if1.false) (sym c.before.is-end.ensures ∙ not-true c.before.is-end.result c.if2.true)
+    order_endless a.words.now a.e st.requires (sym c.before.before.before.known.ensures ∙ not-false c.before.before.before.known.result c.before.before.if1.false) (sym c.before.is-end.ensures ∙ not-true c.before.is-end.result c.if2.true)
 
 shared-slice-read-counted : tie.Need-shared-slice-read-counted
 shared-slice-read-counted c = omega (arith, enough c.before.before.before.before.before.before.before (sym c.before.before.before.before.known.ensures ∙ not-false c.before.before.before.before.known.result c.before.before.before.if1.false))
@@ -62,7 +62,7 @@ sub-counted c = omega (arith, (from c.before.before.before.before.before.before.
 sub-counted-2 : tie.Need-overflow-sub-counted-2
 sub-counted-2 c =
     let q = from c.before.before.before.before.before.before.before.before.before in
-    omega (arith, q.to-y, q.to-c1, q.to-c2)
+    omega (arith, q.to_y, q.to_c1, q.to_c2)
 
 counted-requires : tie.Need-counted-requires
 counted-requires c κs = search rules
@@ -71,27 +71,27 @@ returns-3 : tie.Need-returns-3
 returns-3 c =
     let st = c.before.before.before.before.before.before.before.before.before.before.before in
     let a = st.args in
-    order-uncounted a.words.now a.e st.requires (sym c.before.before.before.before.before.before.before.before.known.ensures ∙ not-false c.before.before.before.before.before.before.before.before.known.result c.before.before.before.before.before.before.before.if1.false) (sym c.before.before.before.before.before.before.is-end.ensures ∙ not-false c.before.before.before.before.before.before.is-end.result c.before.before.before.before.before.if2.false) (sym c.before.counted.ensures ∙ not-true c.before.counted.result c.if3.true)
+    order_uncounted a.words.now a.e st.requires (sym c.before.before.before.before.before.before.before.before.known.ensures ∙ not-false c.before.before.before.before.before.before.before.before.known.result c.before.before.before.before.before.before.before.if1.false) (sym c.before.before.before.before.before.before.is-end.ensures ∙ not-false c.before.before.before.before.before.before.is-end.result c.before.before.before.before.before.if2.false) (sym c.before.counted.ensures ∙ not-true c.before.counted.result c.if3.true)
 
 mul-any-above : tie.Need-overflow-mul-any-above
 mul-any-above c =
     let q = from c.before.before.before.before.before.before.before.before.before.before.before in
-    omega (arith, q.to-matrix, q.to-y, q.to-c1, q.to-c2, q.within)
+    omega (arith, q.to-matrix, q.to_y, q.to_c1, q.to_c2, q.within)
 
 sub-any-above : tie.Need-overflow-sub-any-above
 sub-any-above c =
     let q = from c.before.before.before.before.before.before.before.before.before.before.before in
-    omega (arith, q.to-matrix, q.to-y, q.to-c1, q.to-c2, q.within)
+    omega (arith, q.to-matrix, q.to_y, q.to_c1, q.to_c2, q.within)
 
 part-any-above-start : tie.Need-slice-bounds-any-above-start
 part-any-above-start c =
     let q = from c.before.before.before.before.before.before.before.before.before.before.before in
-    omega (arith, q.to-matrix, q.to-y, q.to-c1, q.to-c2, q.within)
+    omega (arith, q.to-matrix, q.to_y, q.to_c1, q.to_c2, q.within)
 
 part-any-above-end : tie.Need-slice-bounds-any-above-end
 part-any-above-end c =
     let q = from c.before.before.before.before.before.before.before.before.before.before.before in
-    omega (arith, q.to-matrix, q.to-y, q.to-c1, q.to-c2, q.within)
+    omega (arith, q.to-matrix, q.to_y, q.to_c1, q.to_c2, q.within)
 
 any-above-requires : tie.Need-any-above-requires
 any-above-requires c κs = search rules
@@ -100,7 +100,7 @@ returns-4 : tie.Need-returns-4
 returns-4 c =
     let st = c.before.before.before.before.before.before.before.before.before.before.before.before.before in
     let a = st.args in
-    ap not c.any-above.ensures ∙ order-last a.words.now a.e st.requires (sym c.before.before.before.before.before.before.before.before.before.before.known.ensures ∙ not-false c.before.before.before.before.before.before.before.before.before.before.known.result c.before.before.before.before.before.before.before.before.before.if1.false) (sym c.before.before.before.before.before.before.before.before.is-end.ensures ∙ not-false c.before.before.before.before.before.before.before.before.is-end.result c.before.before.before.before.before.before.before.if2.false) (sym c.before.before.before.counted.ensures ∙ not-false c.before.before.before.counted.result c.before.before.if3.false)
+    ap not c.any-above.ensures ∙ order_last a.words.now a.e st.requires (sym c.before.before.before.before.before.before.before.before.before.before.known.ensures ∙ not-false c.before.before.before.before.before.before.before.before.before.before.known.result c.before.before.before.before.before.before.before.before.before.if1.false) (sym c.before.before.before.before.before.before.before.before.is-end.ensures ∙ not-false c.before.before.before.before.before.before.before.before.is-end.result c.before.before.before.before.before.before.before.if2.false) (sym c.before.before.before.counted.ensures ∙ not-false c.before.before.before.counted.result c.before.before.if3.false)
 
 pub well-formed-spec : {M : Type 1} → statement M
 well-formed-spec =

@@ -3,8 +3,8 @@ use mathlib.Core.Path.{sym, ap}
 use native.Mathlib.Omega.{arith}
 use lib.ListN.{length}
 use borrow.Author.Rules.{rules}
-use Rattle.laws.specs.Laws.Laid.{lays-on}
-use Rattle.jobs.specs.Laws.Print.{lays-same, decimal-one, decimal-more, decimal-room}
+use Rattle.laws.specs.Laws.Laid.{lays_on}
+use Rattle.jobs.specs.Laws.Print.{lays_same, decimal-one, decimal-more, decimal_room}
 use Prim.Native.Nat.{ℕ, ◌<◌}
 use borrow.Fn.Kinds.{In}
 use borrow.Fn.PlainCycle.{Measures, is, falls, and}
@@ -44,13 +44,13 @@ put-number-same-length : (t : ℕ) → put-number-lts.Need-same-length (claims t
 put-number-same-length t c = search rules
 
 put-number-returns : (t : ℕ) → put-number-lts.Need-returns (claims t) (put-number-at t) put-number.Post
-put-number-returns t c = lays-same (sym (decimal-one c.before.before.before.before.before.before.args.n c.before.before.before.before.if1.true)) c.before.before.put.ensures
+put-number-returns t c = lays_same (sym (decimal-one c.before.before.before.before.before.before.args.n c.before.before.before.before.if1.true)) c.before.before.put.ensures
 
 put-number-put-number-requires : (t : ℕ) → put-number-lts.Need-put-number-requires (claims t) (put-number-at t) put-number.Post
 put-number-put-number-requires t c κs =
     let st = c.before.before.before in
     let h = c.before.if1.false in
-    (omega (arith, st.requires.0, h), omega (arith, st.requires.1, decimal-room st.args.n h))
+    (omega (arith, st.requires.0, h), omega (arith, st.requires.1, decimal_room st.args.n h))
 
 put-number-cast-put-2 : (t : ℕ) → put-number-lts.Need-overflow-cast-put-2 (claims t) (put-number-at t) put-number.Post
 put-number-cast-put-2 t c = search rules
@@ -62,14 +62,14 @@ put-number-put-requires-2 : (t : ℕ) → put-number-lts.Need-put-requires-2 (cl
 put-number-put-requires-2 t c κs =
     let st = c.before.before.before.before.before.before.before in
     let p = c.before.before.before.put-number.ensures in
-    omega (arith, st.requires.1, p.next, p.size, decimal-room st.args.n c.before.before.before.before.before.if1.false)
+    omega (arith, st.requires.1, p.next, p.size, decimal_room st.args.n c.before.before.before.before.before.if1.false)
 
 put-number-same-length-2 : (t : ℕ) → put-number-lts.Need-same-length-2 (claims t) (put-number-at t) put-number.Post
 put-number-same-length-2 t c = search rules
 
 put-number-returns-2 : (t : ℕ) → put-number-lts.Need-returns-2 (claims t) (put-number-at t) put-number.Post
 put-number-returns-2 t c =
-    lays-same (sym (decimal-more c.before.before.before.before.before.before.before.before.before.before.args.n c.before.before.before.before.before.before.before.before.if1.false)) (lays-on c.before.before.before.before.before.before.put-number.ensures c.before.before.put2.ensures)
+    lays_same (sym (decimal-more c.before.before.before.before.before.before.before.before.before.before.args.n c.before.before.before.before.before.before.before.before.if1.false)) (lays_on c.before.before.before.before.before.before.put-number.ensures c.before.before.put2.ensures)
 
 pub +put-number-spec : {M : Type 1} → statement M
 +put-number-spec = close μ-put-number λ t. put-number-lts.spec (claims t)

@@ -3,7 +3,7 @@ use mathlib.Core.Path.{sym}
 use native.Mathlib.Omega.{arith}
 use lib.ListN.{length, take}
 use lib.Seq.{length-take-le}
-use Rattle.jobs.specs.Laws.Print.{length-bytes, accepted-room, refused-laid, accepted-laid}
+use Rattle.jobs.specs.Laws.Print.{length_bytes, accepted_room, refused_laid, accepted_laid}
 use borrow.Author.Rules.{rules}
 use Rattle.jobs.proofs.print.put_answer.Statement.{statement}
 use Rattle.jobs.proofs.print.put_answer.Tie as tie
@@ -27,14 +27,14 @@ slice-aggregate-put-bytes : tie.Need-slice-aggregate-put-bytes
 slice-aggregate-put-bytes c =
     let st = c.before.before.before.before.before.before.before.before.before.before.before.before in
     let g = c.before.before.before.before.before.before.before.before.r2.given in
-    let h = accepted-room g.0.0 (length st.args.out.now) (length st.args.text.now) g.1 st.requires in
+    let h = accepted_room g.0.0 (length st.args.out.now) (length st.args.text.now) g.1 st.requires in
     sym (length-take-le g.0.0.written st.args.out.now h.0)
 
 put-bytes-requires : tie.Need-put-bytes-requires
 put-bytes-requires c κs =
     let st = c.before.before.before.before.before.before.before.before.before.before.before.before in
     let g = c.before.before.before.before.before.before.before.before.r2.given in
-    let h = accepted-room g.0.0 (length st.args.out.now) (length st.args.text.now) g.1 st.requires in
+    let h = accepted_room g.0.0 (length st.args.out.now) (length st.args.text.now) g.1 st.requires in
     let p = c.before.before.before.before.before.put-coded.ensures in
     omega (arith, h.1, p.1, p.0.size, length-take-le g.0.0.written st.args.out.now h.0)
 
@@ -46,7 +46,7 @@ returns c =
     let g = c.before.before.before.before.before.r.given in
     let st = c.before.before.before.before.before.before.before.before.before in
     let v = c.before.before.put-value.ensures in
-    (refused-laid g.0.0 st.args.out.now g.1 v.0, omega (arith, v.1, v.0.size, st.requires.1))
+    (refused_laid g.0.0 st.args.out.now g.1 v.0, omega (arith, v.1, v.0.size, st.requires.1))
 
 same-length-2 : tie.Need-same-length-2
 same-length-2 c = search rules
@@ -57,9 +57,9 @@ returns-2 c =
     let st = c.before.before.before.before.before.before.before.before.before.before.before.before.before.before.before in
     let p = c.before.before.before.before.before.before.before.before.put-coded.ensures in
     let q = c.before.before.put-bytes.ensures in
-    let h = accepted-room g.0.0 (length st.args.out.now) (length st.args.text.now) g.1 st.requires in
+    let h = accepted_room g.0.0 (length st.args.out.now) (length st.args.text.now) g.1 st.requires in
     let bs = take g.0.0.written st.args.out.now in
-    (accepted-laid g.0.0 st.args.out.now g.1 p.0 q, omega (arith, h.1, p.1, p.0.size, q.next, q.size, length-bytes bs, length-take-le g.0.0.written st.args.out.now h.0))
+    (accepted_laid g.0.0 st.args.out.now g.1 p.0 q, omega (arith, h.1, p.1, p.0.size, q.next, q.size, length_bytes bs, length-take-le g.0.0.written st.args.out.now h.0))
 
 pub put-answer-spec : {M : Type 1} → statement M
 put-answer-spec =

@@ -1,5 +1,5 @@
 -- `print::put_job` meets its contract.
-use Rattle.laws.specs.Laws.Laid.{lays-on}
+use Rattle.laws.specs.Laws.Laid.{lays_on}
 use borrow.Author.Rules.{rules}
 use Rattle.jobs.proofs.print.put_job.Statement.{statement}
 use Rattle.jobs.proofs.print.put_job.Tie as tie
@@ -20,7 +20,7 @@ same_length : tie.Need-same-length
 same_length c = search rules
 
 returns : tie.Need-returns
-returns c = lays-on (lays-on (lays-on c.before.before.before.before.before.before.before.before.before.before.before.before.before.before.put.ensures c.before.before.before.before.before.before.before.before.before.before.put2.ensures) c.before.before.before.before.before.before.put3.ensures) c.before.before.put4.ensures
+returns c = lays_on (lays_on (lays_on c.before.before.before.before.before.before.before.before.before.before.before.before.before.before.put.ensures c.before.before.before.before.before.before.before.before.before.before.put2.ensures) c.before.before.before.before.before.before.put3.ensures) c.before.before.put4.ensures
 
 pub put-job-spec : {M : Type 1} → statement M
 put-job-spec =

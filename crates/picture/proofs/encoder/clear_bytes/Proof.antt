@@ -3,7 +3,7 @@ use mathlib.Core.Path.{◌≡◌, refl, ◌∙◌}
 use mathlib.Core.List.{◌++◌}
 use Prim.Native.Nat.{◌-◌, ◌≤◌}
 use lib.ListN.{length, drop, replicate, length-set}
-use Rattle.picture.specs.Laws.Encoded.{zeros-turn, zeros-all}
+use Rattle.picture.specs.Laws.Encoded.{zeros-turn, zeros_all}
 use native.Mathlib.Omega.{arith}
 use Rattle.picture.proofs.encoder.clear_bytes.Statement.{statement}
 use Rattle.picture.proofs.encoder.clear_bytes.Tie as tie
@@ -41,7 +41,7 @@ returns : tie.Need-returns invariant-loop decreases-loop
 returns c =
     let l = c.before.loop in
     let a = c.before.before.args.a.now in
-    l.invariant.2 ∙ zeros-all a l.i (omega arith)
+    l.invariant.2 ∙ zeros_all a l.i (omega arith)
 
 pub clear-bytes-spec : {M : Type 1} → statement M
 clear-bytes-spec =

@@ -1,5 +1,5 @@
 -- `encoder::clear_refused` meets its contract.
-use Rattle.picture.specs.Laws.Encoded.{cleared-refused}
+use Rattle.picture.specs.Laws.Encoded.{cleared_refused}
 use borrow.Author.Rules.{rules}
 use Rattle.picture.proofs.encoder.clear_refused.Statement.{statement}
 use Rattle.picture.proofs.encoder.clear_refused.Tie as tie
@@ -33,7 +33,7 @@ returns-2 : tie.Need-returns-2
 returns-2 c =
     let a = (begin (after-enum-told2 c)).args in
     let e = (after-enum-told2 c).enum-told2.given in
-    cleared-refused a.r e.0.0 a.out.now _ e.1 c.before.before.clear-bytes.ensures
+    cleared_refused a.r e.0.0 a.out.now _ e.1 c.before.before.clear-bytes.ensures
 
 pub clear-refused-spec : {M : Type 1} → statement M
 clear-refused-spec =

@@ -3,12 +3,12 @@ use mathlib.Core.Path.{◌≡◌, refl, sym, ap, ◌∙◌}
 use Prim.Native.Nat.{ℕ, ◌+◌, ◌≤◌}
 use native.Mathlib.Omega.{arith}
 use lib.ListN.{length}
-use Rattle.unit.specs.Limits.{unitLimit}
+use Rattle.unit.specs.Limits.{unit_limit}
 use Rattle.unit.specs.Laws.Demand.{not-long}
-use Rattle.picture.specs.Code.Matrix.{lentIn}
+use Rattle.picture.specs.Code.Matrix.{lent_in}
 use Rattle.picture.specs.Code.Head.{CanCarry}
-use Rattle.picture.specs.Laws.Analysed.{called-arranged, called-carry}
-use Rattle.picture.specs.Laws.LowLink.{Worked, low-refused, low-ready, low-written}
+use Rattle.picture.specs.Laws.Analysed.{called_arranged, called_carry}
+use Rattle.picture.specs.Laws.LowLink.{Worked, low_refused, low_ready, low_written}
 use borrow.Author.Rules.{rules}
 use Rattle.picture.proofs.encoder.code_low.Statement.{statement}
 use Rattle.picture.proofs.encoder.code_low.Tie as tie
@@ -32,28 +32,28 @@ abbrev long : tie.After-coding-refusal → ℕ
 long c = c.before.overhead.result + (counted c).numerator.result
 
 worked : (c : tie.After-coding-refusal) → let a = (begin c).args in
-    Worked a.s (lentIn a.m) a.p a.work.now (counted c).numerator.result c.before.before.slice-count.result (long c)
+    Worked a.s (lent_in a.m) a.p a.work.now (counted c).numerator.result c.before.before.slice_count_lem.result (long c)
 worked c =
     let n = (counted c).numerator in
     record {
       coding = (begin c).requires.1;
       numerator = n.ensures;
-      slices = c.before.before.slice-count.ensures.0;
+      slices = c.before.before.slice_count_lem.ensures.0;
       long = ap (λ (k : ℕ). k + n.result) c.before.overhead.ensures.0;
     }
 
 carry : (c : tie.Start) → CanCarry c.args.s c.args.m
-carry c = called-carry c.requires.0 c.requires.1.called
+carry c = called_carry c.requires.0 c.requires.1.called
 
 -- it fits the output, and 32 bits
-fits : (c : tie.After-coding-refusal) → c.coding-refusal.result ≡ 0 → (long c ≤ length (begin c).args.out.now) × (long c ≤ unitLimit)
+fits : (c : tie.After-coding-refusal) → c.coding-refusal.result ≡ 0 → (long c ≤ length (begin c).args.out.now) × (long c ≤ unit_limit)
 fits c e = not-long (length (begin c).args.out.now) (long c) (sym c.coding-refusal.ensures ∙ e)
 
 numerator-requires : tie.Need-numerator-requires
 numerator-requires c κs = carry c.before
 
 slice-count-requires : tie.Need-slice-count-requires
-slice-count-requires c κs = let h = c.before.before.requires.1 in rw h.picture (called-arranged h.called)
+slice-count-requires c κs = let h = c.before.before.requires.1 in rw h.picture (called_arranged h.called)
 
 overhead-requires : tie.Need-overhead-requires
 overhead-requires c κs = let n = c.before in carry n.before.before
@@ -70,7 +70,7 @@ coding-refusal-requires c κs = search rules
 returns : tie.Need-returns
 returns c =
     let t = c.before in
-    (low-refused (worked t) (begin t).args.out.now t.coding-refusal.result t.coding-refusal.ensures (λ e. omega (arith, c.if1.true)), refl)
+    (low_refused (worked t) (begin t).args.out.now t.coding-refusal.result t.coding-refusal.ensures (λ e. omega (arith, c.if1.true)), refl)
 
 cast-put-header : tie.Need-overflow-cast-put-header
 cast-put-header c = let f = fits c.before.before c.before.if1.false in omega arith
@@ -89,7 +89,7 @@ put-ld-slices-requires c κs =
     let e = h.before.before in
     let t = e.before in
     let f = fits t e.if1.false in
-    (low-ready (worked t), omega (arith, t.before.overhead.ensures.0, h.put-header.ensures.0, f.0, o.out.given))
+    (low_ready (worked t), omega (arith, t.before.overhead.ensures.0, h.put-header.ensures.0, f.0, o.out.given))
 
 cast-t12 : tie.Need-overflow-cast-t12
 cast-t12 c =
@@ -113,7 +113,7 @@ returns-2 c =
     let t = e.before in
     let h = g.put-header in
     let r = l.put-ld-slices in (
-      low-written (worked t) (begin t).args.out.now h.last.0 r.new.0 h.result r.result.at r.result.cut_slices
+      low_written (worked t) (begin t).args.out.now h.last.0 r.new.0 h.result r.result.at r.result.cut_slices
           (sym t.coding-refusal.ensures ∙ e.if1.left) h.ensures.0 h.ensures.1 r.ensures.0 r.ensures.1.0,
       c.work.given,
     )

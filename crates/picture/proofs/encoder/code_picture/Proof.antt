@@ -1,8 +1,8 @@
 -- `encoder::code_picture` meets its contract.
 use mathlib.Core.Path.{◌∙◌}
 use Rattle.unit.specs.Three.{planes}
-use Rattle.unit.specs.Laws.Valid.{levels-few}
-use Rattle.picture.specs.Code.Matrix.{lentIn}
+use Rattle.unit.specs.Laws.Valid.{levels_few}
+use Rattle.picture.specs.Code.Matrix.{lent_in}
 use Rattle.picture.specs.Code.Analysed.{Called}
 use Rattle.picture.specs.Laws.Analysed.{called, ready, codes-lent}
 use borrow.Author.Rules.{rules}
@@ -28,7 +28,7 @@ begin c =
     b.before
 
 -- the call with the matrix that is made of the lent one
-called_of : (c : tie.After-carried-of) → Called (begin (analysed c)).args.s (lentIn c.Carried-of.result)
+called_of : (c : tie.After-carried-of) → Called (begin (analysed c)).args.s (lent_in c.Carried-of.result)
 called_of c = called (begin (analysed c)).requires c.Carried-of.ensures
 
 analyse-requires : tie.Need-analyse-requires
@@ -41,7 +41,7 @@ carried-of-requires : tie.Need-carried-of-requires
 carried-of-requires c κs =
     let v = (begin c.before).requires in
     let s = (begin c.before).args.s in
-    (v.matrix, levels-few s v.shape)
+    (v.matrix, levels_few s v.shape)
 
 picture-of-requires : tie.Need-picture-of-requires
 picture-of-requires c κs = (c.Carried-of.ensures.carries, called_of c)

@@ -4,7 +4,7 @@ use native.Mathlib.Omega.{arith}
 use Rattle.unit.specs.Laws.Valid.{valid}
 use Rattle.unit.specs.Laws.Demand.{Typed}
 use Rattle.unit.specs.Three.{planes}
-use Rattle.picture.specs.Laws.Encoded.{typed-by, encodes-refused, encodes-coded}
+use Rattle.picture.specs.Laws.Encoded.{typed_by, encodes_refused, encodes_coded}
 use borrow.Author.Rules.{rules}
 use Rattle.picture.proofs.encoder.encode_picture.Statement.{statement}
 use Rattle.picture.proofs.encoder.encode_picture.Tie as tie
@@ -48,7 +48,7 @@ typed : (c : tie.After-shared-slice-known4) → let a = (begin c.before).args in
 typed c =
     let st = begin c.before in
     let a = st.args in
-    typed-by a.s (planes a.y.now a.c1.now a.c2.now) (omega (arith, st.good)) (omega (arith, st.good))
+    typed_by a.s (planes a.y.now a.c1.now a.c2.now) (omega (arith, st.good)) (omega (arith, st.good))
     (λ n. omega (arith, c.before.before.shared-slice-known2.given n)) (λ n. omega (arith, c.before.shared-slice-known3.given n))
     (λ n. omega (arith, c.shared-slice-known4.given n))
 
@@ -62,7 +62,7 @@ returns : tie.Need-returns
 returns c =
     let a = (begin (after-shared-slice-known4 c.before).before).args in
     let n = c.before.refusal in
-    encodes-refused a.s a.matrix.now (planes a.y.now a.c1.now a.c2.now) a.out.now a.work.now n.result (typed (after-shared-slice-known4 c.before)) n.ensures
+    encodes_refused a.s a.matrix.now (planes a.y.now a.c1.now a.c2.now) a.out.now a.work.now n.result (typed (after-shared-slice-known4 c.before)) n.ensures
     (λ e. omega (arith, c.if1.true))
 
 code-picture-requires : tie.Need-code-picture-requires
@@ -92,7 +92,7 @@ returns-2 c =
     let n = (else1 c.before.before).before.refusal in
     let e : n.result ≡ 0 = omega (arith, (else1 c.before.before).if1.false) in
     let r = (after-code-picture (after-clear c.before.before)).code-picture in
-    encodes-coded a.s a.matrix.now p a.out.now a.work.now r.last.1.1.1.1.1.1.0 c.before.before.clear-refused.new.0
+    encodes_coded a.s a.matrix.now p a.out.now a.work.now r.last.1.1.1.1.1.1.0 c.before.before.clear-refused.new.0
     r.last.1.1.1.1.1.0 (after-clear c.before.before).clear.new.0 r.result (typed (after-shared-slice-known4 (else1 c.before.before).before)) (sym n.ensures ∙ e) r.ensures.0 r.ensures.1
     (after-clear c.before.before).clear.ensures c.before.before.clear-refused.ensures
 

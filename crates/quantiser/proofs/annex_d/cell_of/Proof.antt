@@ -1,6 +1,6 @@
 -- `quantiser::annex_d::cell_of` meets its contract.
 use borrow.Author.Rules.{rules}
-use Rattle.quantiser.specs.Laws.Cell.{PlaceAt, place, cell-past}
+use Rattle.quantiser.specs.Laws.Cell.{PlaceAt, place, cell_past}
 use Rattle.quantiser.proofs.annex_d.cell_of.Statement.{statement}
 use Rattle.quantiser.proofs.annex_d.cell_of.Tie as tie
 use Rattle.quantiser.proofs.annex_d.cell_of.Reads as reads
@@ -11,7 +11,7 @@ at : (c : tie.Else1) → PlaceAt c.before.args.depth c.before.args.depth-ho
 at c = place c.before.args.depth c.before.args.depth-ho c.if1.false
 
 returns : tie.Need-returns
-returns c = cell-past c.before.args.depth c.before.args.depth-ho c.if1.true
+returns c = cell_past c.before.args.depth c.before.args.depth-ho c.if1.true
 
 mul-start : tie.Need-overflow-mul-start
 mul-start c = search rules

@@ -1,6 +1,6 @@
 -- `quantiser::annex_d::default_quant_matrix` meets its contract.
 use borrow.Author.Rules.{rules}
-use Rattle.quantiser.specs.Laws.Cell.{no_table, no-matrix, is-matrix}
+use Rattle.quantiser.specs.Laws.Cell.{no_table, no_matrix_lem, is_matrix}
 use Rattle.quantiser.proofs.annex_d.default_quant_matrix.Statement.{statement}
 use Rattle.quantiser.proofs.annex_d.default_quant_matrix.Tie as tie
 use Rattle.quantiser.proofs.annex_d.default_quant_matrix.Reads as reads
@@ -21,12 +21,12 @@ matrix-at-requires c κs = search rules
 returns : tie.Need-returns
 returns c =
     let p = c.before.before.before in
-    is-matrix _ _ _ _ _ p.before.table_of.ensures _ p.cell-of.ensures c.before.before.if1.true c.before.if2.true _ c.matrix-at.ensures
+    is_matrix _ _ _ _ _ p.before.table_of.ensures _ p.cell-of.ensures c.before.before.if1.true c.before.if2.true _ c.matrix-at.ensures
 
 returns-2 : tie.Need-returns-2
 returns-2 c =
     let p = c.before.before in
-    no-matrix _ _ _ _ _ p.before.table_of.ensures _ p.cell-of.ensures c.before.if1.true c.if2.false
+    no_matrix_lem _ _ _ _ _ p.before.table_of.ensures _ p.cell-of.ensures c.before.if1.true c.if2.false
 
 returns-3 : tie.Need-returns-3
 returns-3 c = no_table _ _ _ _ _ c.before.before.table_of.ensures c.if1.false

@@ -3,8 +3,8 @@ use mathlib.Core.Path.{◌≡◌, refl}
 use Prim.Native.Nat.{◌-◌, ◌≤◌}
 use native.Mathlib.Omega.{arith}
 use borrow.Author.Rules.{rules}
-use Rattle.quantiser.specs.Code.Cells.{matrixAt}
-use Rattle.quantiser.specs.Laws.Cell.{filled, filled-turn, filled-all}
+use Rattle.quantiser.specs.Code.Cells.{matrix_at}
+use Rattle.quantiser.specs.Laws.Cell.{filled, filled-turn, filled_all}
 use Rattle.quantiser.proofs.annex_d.matrix_at.Statement.{statement}
 use Rattle.quantiser.proofs.annex_d.matrix_at.Tie as tie
 use Rattle.quantiser.proofs.annex_d.matrix_at.Reads as reads
@@ -12,7 +12,7 @@ use Rattle.quantiser.proofs.annex_d.matrix_at.Lts as lts
 use Rattle.quantiser.proofs.annex_d.value_at.Reads as value-at-reads
 
 abbrev invariant-loop : tie.invariant-loop
-invariant-loop table cell values₀ i₀ values i = (i ≤ 14) × (values ≡ filled (matrixAt table cell) i)
+invariant-loop table cell values₀ i₀ values i = (i ≤ 14) × (values ≡ filled (matrix_at table cell) i)
 
 abbrev decreases-loop : tie.decreases-loop
 decreases-loop table cell values₀ i₀ values i = 14 - i
@@ -45,7 +45,7 @@ returns : tie.Need-returns invariant-loop decreases-loop
 returns c =
     let s = c.before.before in
     let l = c.before.loop in
-    filled-all s.args.table s.args.cell s.requires.0 s.requires.1 l.values l.i (omega arith) l.invariant.1
+    filled_all s.args.table s.args.cell s.requires.0 s.requires.1 l.values l.i (omega arith) l.invariant.1
 
 pub matrix-at-spec : {M : Type 1} → statement M
 matrix-at-spec =

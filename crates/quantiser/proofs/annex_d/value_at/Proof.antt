@@ -5,8 +5,8 @@ use Prim.Native.Nat.{◌+◌, ◌*◌}
 use lib.ListN.{get_or}
 use borrow.Author.Rules.{rules}
 use Rattle.laws.specs.Rows.{span}
-use Rattle.quantiser.specs.Code.Cells.{allTables, matrixAt}
-use Rattle.quantiser.specs.Laws.Cell.{numbersAt, number_at}
+use Rattle.quantiser.specs.Code.Cells.{all_tables, matrix_at}
+use Rattle.quantiser.specs.Laws.Cell.{numbers_at, number_at}
 use Rattle.quantiser.proofs.annex_d.value_at.Statement.{statement}
 use Rattle.quantiser.proofs.annex_d.value_at.Tie as tie
 use Rattle.quantiser.proofs.annex_d.value_at.Reads as reads
@@ -32,11 +32,11 @@ wide-requires : tie.Need-wide-requires
 wide-requires c κs = search rules
 
 returns : tie.Need-returns
-unfolding numbersAt matrixAt flatten allTables
+unfolding numbers_at matrix_at flatten all_tables
 returns c =
     let s = c.before.before in
     let a = s.args in
-    let e : c.wide.result ≡ get_or (get_or (span numbersAt 0 8) a.table []) (a.cell * 14 + a.i) 0 = c.wide.ensures in
+    let e : c.wide.result ≡ get_or (get_or (span numbers_at 0 8) a.table []) (a.cell * 14 + a.i) 0 = c.wide.ensures in
     e ∙ number_at a.table a.cell a.i s.requires.0 s.requires.1.0 s.requires.1.1
 
 pub value-at-spec : {M : Type 1} → statement M

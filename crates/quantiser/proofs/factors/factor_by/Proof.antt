@@ -1,7 +1,7 @@
 -- `quantiser::factors::factor_by` meets its contract.
 use native.Mathlib.Omega.{arith}
 use borrow.Author.Rules.{rules}
-use Rattle.quantiser.specs.Laws.Cap.{factorBy-rest}
+use Rattle.quantiser.specs.Laws.Cap.{factor_by_rest}
 use Rattle.quantiser.proofs.factors.factor_by.Statement.{statement}
 use Rattle.quantiser.proofs.factors.factor_by.Tie as tie
 use Rattle.quantiser.proofs.factors.factor_by.Reads as reads
@@ -38,7 +38,7 @@ add-result-3 : tie.Need-overflow-add-result-3
 add-result-3 c = search rules
 
 returns-4 : tie.Need-returns-4
-returns-4 c = let a = c.before.before.before.args in factorBy-rest a.remainder a.base (omega arith)
+returns-4 c = let a = c.before.before.before.args in factor_by_rest a.remainder a.base (omega arith)
 
 pub factor-by-spec : {M : Type 1} → statement M
 factor-by-spec =

@@ -3,8 +3,8 @@
 use borrow.Author.Rules.{rules}
 use Rattle.laws.specs.Laws.Rows.{table}
 use Rattle.quantiser.specs.Standard.{factor}
-use Rattle.quantiser.specs.Quant.{cap, quantFactor}
-use Rattle.quantiser.specs.Laws.Cap.{is-factor}
+use Rattle.quantiser.specs.Quant.{cap, quant_factor}
+use Rattle.quantiser.specs.Laws.Cap.{is_factor}
 use Rattle.quantiser.proofs.factors.table_at.Statement.{statement}
 use Rattle.quantiser.proofs.factors.table_at.Tie as tie
 use Rattle.quantiser.proofs.factors.table_at.Reads as reads
@@ -17,8 +17,8 @@ array-read-result : tie.Need-array-read-result
 array-read-result c = search rules
 
 returns : tie.Need-returns
-unfolding quantFactor cap factor
-returns c = is-factor c.args.index _ (table quantFactor 256 c.args.index 0 (search rules))
+unfolding quant_factor cap factor
+returns c = is_factor c.args.index _ (table quant_factor 256 c.args.index 0 (search rules))
 
 pub table-at-spec : {M : Type 1} → statement M
 table-at-spec = tie.close (tie.spec mul-result array-read-result returns)

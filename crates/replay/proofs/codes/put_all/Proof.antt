@@ -15,21 +15,21 @@ use Rattle.codewords.proofs.bitio.put_ones.Reads as put-ones-reads
 use Rattle.replay.proofs.codes.put_one.Reads as put-one-reads
 
 -- a case's bits fit the 24 bytes
-ones-room : (c : tie.Start) → Room c.args.out.now (record { at = 0; pending = 0; pending_bits = 0 }) 192
-ones-room c = record { sound = record { part = omega arith; small = omega arith }; room = omega (arith, c.requires.0) }
+ones_room : (c : tie.Start) → Room c.args.out.now (record { at = 0; pending = 0; pending_bits = 0 }) 192
+ones_room c = record { sound = record { part = omega arith; small = omega arith }; room = omega (arith, c.requires.0) }
 
 end-room : (c : tie.After-slice-known3) → Room c.before.before.put_one.new.0 c.before.before.put_one.result 8
 end-room c =
     let st = c.before.before.before.before.before.before.before.before.before in
     let p = c.before.before.before.before.before.before.put-ones.ensures in
-    let r = room_after 185 (ones-room st) p (omega (arith, st.requires.1.0, length-replicate st.args.s true)) in
+    let r = room_after 185 (ones_room st) p (omega (arith, st.requires.1.0, length-replicate st.args.s true)) in
     room_after 8 r c.before.before.put_one.ensures (omega (arith, short st.args.p st.requires.1.1))
 
 put-ones-requires : tie.Need-put-ones-requires
 put-ones-requires c κs = search rules
 
 put-one-requires : tie.Need-put-one-requires
-put-one-requires c κs = (room_after _ (ones-room c.before.before.before.before.before.before) c.before.before.before.put-ones.ensures (omega (arith, c.before.before.before.before.before.before.requires.1.0, short c.before.before.before.before.before.before.args.p c.before.before.before.before.before.before.requires.1.1, length-replicate c.before.before.before.before.before.before.args.s true)), c.before.before.before.before.before.before.requires.1.1)
+put-one-requires c κs = (room_after _ (ones_room c.before.before.before.before.before.before) c.before.before.before.put-ones.ensures (omega (arith, c.before.before.before.before.before.before.requires.1.0, short c.before.before.before.before.before.before.args.p c.before.before.before.before.before.before.requires.1.1, length-replicate c.before.before.before.before.before.before.args.s true)), c.before.before.before.before.before.before.requires.1.1)
 
 mul-bits : tie.Need-overflow-mul-bits
 mul-bits c = omega (arith, end-room c)

@@ -1,7 +1,7 @@
 use Rattle.std.proofs.Common.{arith, to_z-of_z, w64}
 use mir.Facts.{to_z_pos}
 use Rattle.laws.specs.Laws.Machine.{Below, below, Plain, plain}
-use Rattle.laws.specs.Laws.Wrap.{ofZ-lt}
+use Rattle.laws.specs.Laws.Wrap.{of_z_lt}
 use Rattle.wavelet.proofs.arith.bits.Statement.{statement}
 use Rattle.wavelet.proofs.arith.bits.Tie as tie
 
@@ -18,7 +18,7 @@ cast-result-2 : tie.Need-overflow-cast-result-2
 cast-result-2 c = rw (to_z-of_z c.before.ranges.a) ((pls c).sign, (pls c).ranges)
 
 returns : tie.Need-returns
-returns c = rw (to_z_pos w64 (neg c).low) (omega (arith, ofZ-lt c.before.args.a c.before.ranges.a))
+returns c = rw (to_z_pos w64 (neg c).low) (omega (arith, of_z_lt c.before.args.a c.before.ranges.a))
 
 returns-2 : tie.Need-returns-2
 returns-2 c = rw (to_z-of_z c.before.ranges.a) (pls c).same

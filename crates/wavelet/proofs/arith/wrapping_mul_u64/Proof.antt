@@ -2,7 +2,7 @@
 -- product.
 use Rattle.std.proofs.Common.{ℕ, ◌+◌, ◌*◌, ◌/◌, ◌%◌, ◌^◌, ap, ◌∙◌, arith, rules}
 use Rattle.laws.specs.Laws.Machine.{product-fits}
-use Rattle.wavelet.specs.Laws.Product.{by-halves}
+use Rattle.wavelet.specs.Laws.Product.{by_halves}
 use Rattle.wavelet.proofs.arith.wrapping_mul_u64.Statement.{statement}
 use Rattle.wavelet.proofs.arith.wrapping_mul_u64.Tie as tie
 
@@ -24,7 +24,7 @@ wrapping-add-u64-requires-2 c κs = search rules
 returns : tie.Need-returns
 returns c =
     let a = c.before.before.args in
-    c.wrapping-add-u642.ensures ∙ ap (λ (z : ℕ). (z * 2 ^ 32 % 2 ^ 64 + a.x % 2 ^ 32 * (a.y % 2 ^ 32)) % 2 ^ 64) c.before.wrapping-add-u64.ensures ∙ by-halves a.x a.y
+    c.wrapping-add-u642.ensures ∙ ap (λ (z : ℕ). (z * 2 ^ 32 % 2 ^ 64 + a.x % 2 ^ 32 * (a.y % 2 ^ 32)) % 2 ^ 64) c.before.wrapping-add-u64.ensures ∙ by_halves a.x a.y
 
 pub wrapping-mul-u64-spec : {M : Type 1} → statement M
 wrapping-mul-u64-spec =

@@ -1,7 +1,7 @@
 -- `component::analyse_component` meets its contract.
 use Rattle.std.proofs.Common.{◌*◌, ◌/◌, ◌∙◌, rules}
 use Rattle.wavelet.specs.Pad.{padded}
-use Rattle.wavelet.specs.Laws.Walk.{deep-both, deep-across, place_down, quarter-area, half-area, walk-both, walk-across}
+use Rattle.wavelet.specs.Laws.Walk.{deep_both, deep_across, place_down, quarter_area, half_area, walk_both, walk_across}
 use Rattle.wavelet.specs.Laws.Component.{padded-none}
 use Rattle.wavelet.proofs.component.analyse_component.Statement.{statement}
 use Rattle.wavelet.proofs.component.analyse_component.Tie as tie
@@ -36,8 +36,8 @@ dwt-requires c κs =
     let st = begin (after-vh-component c).before.before in
     let a = st.args in
     let level = (after-vh-component c).vh-component in (
-      (deep-both a.t.k a.t.d a.c.ph a.c.pw a.t.ih a.t.iv (after-vh-component c).before.before.if1.true st.pre.deep).1,
-      place_down a.n a.off (a.c.ph * a.c.pw) (a.c.ph / 2 * (a.c.pw / 2)) a.work.now level.last.0 st.pre.place (quarter-area a.c.ph a.c.pw) level.kept.0,
+      (deep_both a.t.k a.t.d a.c.ph a.c.pw a.t.ih a.t.iv (after-vh-component c).before.before.if1.true st.pre.deep).1,
+      place_down a.n a.off (a.c.ph * a.c.pw) (a.c.ph / 2 * (a.c.pw / 2)) a.work.now level.last.0 st.pre.place (quarter_area a.c.ph a.c.pw) level.kept.0,
     )
 
 h-component-requires : tie.Need-h-component-requires
@@ -52,8 +52,8 @@ dwt-requires-2 c κs =
     let a = st.args in
     let level = (after-h-component c).h-component in
     let flat = (else1 (after-h-component c)).if1.false in (
-      (deep-across a.t.k a.t.d a.c.ph a.c.pw a.t.ih a.t.iv flat (after-h-component c).before.before.if2.true st.pre.deep).1,
-      place_down a.n a.off (a.c.ph * a.c.pw) (a.c.ph * (a.c.pw / 2)) a.work.now level.last.0 st.pre.place (half-area a.c.ph a.c.pw) level.kept.0,
+      (deep_across a.t.k a.t.d a.c.ph a.c.pw a.t.ih a.t.iv flat (after-h-component c).before.before.if2.true st.pre.deep).1,
+      place_down a.n a.off (a.c.ph * a.c.pw) (a.c.ph * (a.c.pw / 2)) a.work.now level.last.0 st.pre.place (half_area a.c.ph a.c.pw) level.kept.0,
     )
 
 add-to : tie.Need-overflow-add-to
@@ -91,8 +91,8 @@ returns c =
     let level = (after-vh-component c.before.before).vh-component in
     let rest = c.before.dwt in
     rest.ensures
-    ∙ walk-both a.t.ih a.t.iv a.t.k a.t.d a.c.ph a.c.pw a.n a.off (padded a.samples.now a.c.offset a.c.w a.c.h) a.work.now level.last.0 some
-    (deep-both a.t.k a.t.d a.c.ph a.c.pw a.t.ih a.t.iv some st.pre.deep).0 st.pre.place level.ensures
+    ∙ walk_both a.t.ih a.t.iv a.t.k a.t.d a.c.ph a.c.pw a.n a.off (padded a.samples.now a.c.offset a.c.w a.c.h) a.work.now level.last.0 some
+    (deep_both a.t.k a.t.d a.c.ph a.c.pw a.t.ih a.t.iv some st.pre.deep).0 st.pre.place level.ensures
 
 same-length-2 : tie.Need-same-length-2
 same-length-2 c = search rules
@@ -106,8 +106,8 @@ returns-2 c =
     let level = (after-h-component c.before.before).h-component in
     let rest = c.before.dwt2 in
     rest.ensures
-    ∙ walk-across a.t.ih a.t.iv a.t.k a.t.d a.c.ph a.c.pw a.n a.off (padded a.samples.now a.c.offset a.c.w a.c.h) a.work.now level.last.0 flat some
-    (deep-across a.t.k a.t.d a.c.ph a.c.pw a.t.ih a.t.iv flat some st.pre.deep).0 st.pre.place level.ensures
+    ∙ walk_across a.t.ih a.t.iv a.t.k a.t.d a.c.ph a.c.pw a.n a.off (padded a.samples.now a.c.offset a.c.w a.c.h) a.work.now level.last.0 flat some
+    (deep_across a.t.k a.t.d a.c.ph a.c.pw a.t.ih a.t.iv flat some st.pre.deep).0 st.pre.place level.ensures
 
 same-length-3 : tie.Need-same-length-3
 same-length-3 c = search rules

@@ -1,6 +1,6 @@
 -- `component::analyse_components` meets its contract.
 use Rattle.std.proofs.Common.{◌*◌, rules}
-use Rattle.wavelet.specs.Laws.Component.{three-are}
+use Rattle.wavelet.specs.Laws.Component.{three_are}
 use Rattle.wavelet.proofs.component.analyse_components.Statement.{statement}
 use Rattle.wavelet.proofs.component.analyse_components.Tie as tie
 
@@ -46,7 +46,7 @@ returns c =
     let x = (after-analyse-component (after-analyse-component2 c.before)).analyse-component in
     let y = (after-analyse-component2 c.before).analyse-component2 in
     let z = c.before.analyse-component3 in
-    three-are a.n (a.luma.ph * a.luma.pw) (a.colour.ph * a.colour.pw) a.work.now x.last.0 y.last.0 z.new.0 _ _ _ st.pre.fits x.kept.0 y.kept.0 x.ensures y.ensures z.ensures
+    three_are a.n (a.luma.ph * a.luma.pw) (a.colour.ph * a.colour.pw) a.work.now x.last.0 y.last.0 z.new.0 _ _ _ st.pre.fits x.kept.0 y.kept.0 x.ensures y.ensures z.ensures
 
 pub analyse-components-spec : {M : Type 1} → statement M
 analyse-components-spec =

@@ -3,19 +3,19 @@ use Rattle.std.proofs.Common.{◌≡◌, ℕ, ◌+◌, ◌-◌, ◌*◌, ◌≤�
 use Rattle.laws.specs.Rows.{row}
 use Rattle.laws.specs.Laws.Window.{length-lent, put-lent, Parts, parts_first}
 use Rattle.laws.specs.Wrap.{wrap}
-use Rattle.wavelet.specs.Filters.{filterOf}
+use Rattle.wavelet.specs.Filters.{filter_of}
 use Rattle.wavelet.specs.Planes.{raise}
 use Rattle.wavelet.specs.Laws.Plane.{bits-le}
 use Rattle.wavelet.specs.Pad.{padded}
-use Rattle.wavelet.specs.Code.Pad.{paddedRow}
+use Rattle.wavelet.specs.Code.Pad.{padded_row}
 use Rattle.wavelet.specs.Laws.Pad.{row_from}
-use Rattle.wavelet.specs.Laws.Level.{row_of, rows-room, rows_next, rows_all}
+use Rattle.wavelet.specs.Laws.Level.{row_of, rows_room, rows_next, rows_all}
 use Rattle.wavelet.specs.Laws.Component.{lent-long}
 use Rattle.wavelet.proofs.component.pad_rows.Statement.{statement}
 use Rattle.wavelet.proofs.component.pad_rows.Tie as tie
 
 abbrev invariant-loop : tie.invariant-loop
-invariant-loop work₀ samples index w pw ph offset last bits n₀ at₀ work n at = Parts (row_of index (λ y. paddedRow 0 samples offset w (min y last * w)) pw) work₀ 0 ph pw work n at
+invariant-loop work₀ samples index w pw ph offset last bits n₀ at₀ work n at = Parts (row_of index (λ y. padded_row 0 samples offset w (min y last * w)) pw) work₀ 0 ph pw work n at
 
 abbrev decreases-loop : tie.decreases-loop
 decreases-loop work₀ samples index w pw ph offset last bits n₀ at₀ work n at = ph - n
@@ -43,7 +43,7 @@ room c =
     let a = st.args in
     let l = c.before.loop in
     let q = st.pre.0 in
-    let r = rows-room a.index (padded a.samples.now a.c.offset a.c.w a.c.h) a.work.now a.c.ph a.c.pw q.room l.work l.n l.at l.invariant c.loop-test.true in
+    let r = rows_room a.index (padded a.samples.now a.c.offset a.c.w a.c.h) a.work.now a.c.ph a.c.pw q.room l.work l.n l.at l.invariant c.loop-test.true in
     record { fits = omega (arith, r, q.room); source = row_from a.samples.now a.c.w a.c.h l.n q.some.1 q.whole }
 
 -- the slice with one more row written
@@ -136,8 +136,8 @@ loop-again c =
     let e = length-lent l.at a.c.pw l.work (omega (arith, room i, l.inv.long)) in
     let bits = (at-loop (after-pad-row c.before).before).before.filter-shift in
     let from_is = (after-pad-row c.before).before.before.least.ensures in
-    let row_is : r.last.0 ≡ row a.c.pw (λ x. raise wrap (filterOf a.index).bits (f l.n x)) =
-    r.ensures ∙ ap₂ (λ (m from : ℕ). row m (paddedRow bits.result s a.c.offset a.c.w (from * a.c.w))) e from_is
+    let row_is : r.last.0 ≡ row a.c.pw (λ x. raise wrap (filter_of a.index).bits (f l.n x)) =
+    r.ensures ∙ ap₂ (λ (m from : ℕ). row m (padded_row bits.result s a.c.offset a.c.w (from * a.c.w))) e from_is
     ∙ ap (λ (b : ℕ). row a.c.pw (λ x. raise wrap b (f l.n x))) bits.ensures in
     rows_next a.index f a.work.now a.c.ph a.c.pw st.pre.0.room l.work l.n l.at l.inv i.loop-test.taken r.last.0 _ c.before.analyse.new.0 row_is (put-lent l.at a.c.pw r.last.0 l.work) c.before.analyse.ensures
 

@@ -1,8 +1,8 @@
 -- `component::vh_component` meets its contract.
 use Rattle.std.proofs.Common.{ℕ, ◌*◌, ◌≤◌, arith, rules}
 use Rattle.wavelet.specs.Pad.{padded}
-use Rattle.wavelet.specs.Laws.Level.{vh-level}
-use Rattle.wavelet.specs.Laws.Walk.{deep-both, place_down}
+use Rattle.wavelet.specs.Laws.Level.{vh_level}
+use Rattle.wavelet.specs.Laws.Walk.{deep_both, place_down}
 use Rattle.wavelet.proofs.component.vh_component.Statement.{statement}
 use Rattle.wavelet.proofs.component.vh_component.Tie as tie
 
@@ -27,8 +27,8 @@ vh-bands-requires c κs =
     let r = c.before.before.pad-rows in
     let m : ℕ = a.c.ph * a.c.pw in
     let same : m ≤ m = omega arith in (
-      (deep-both a.t.k a.t.d a.c.ph a.c.pw a.t.ih a.t.iv st.pre.1 q.deep).0,
-      (place_down a.n a.off m m a.work.now r.new.0 q.place same r.auto.0, q.deep.iv-le),
+      (deep_both a.t.k a.t.d a.c.ph a.c.pw a.t.ih a.t.iv st.pre.1 q.deep).0,
+      (place_down a.n a.off m m a.work.now r.new.0 q.place same r.auto.0, q.deep.iv_le),
     )
 
 same_length : tie.Need-same-length
@@ -39,8 +39,8 @@ returns c =
     let st = begin c.before.before in
     let a = st.args in
     let r = (after-pad-rows c.before).pad-rows in
-    let b = c.before.vh-bands in
-    vh-level a.n a.off a.c.ph a.c.pw a.work.now st.pre.0.place a.t.ih a.t.iv (padded a.samples.now a.c.offset a.c.w a.c.h) r.last.0 b.new.0
+    let b = c.before.vh_bands in
+    vh_level a.n a.off a.c.ph a.c.pw a.work.now st.pre.0.place a.t.ih a.t.iv (padded a.samples.now a.c.offset a.c.w a.c.h) r.last.0 b.new.0
     r.ensures b.ensures
 
 pub vh-component-spec : {M : Type 1} → statement M

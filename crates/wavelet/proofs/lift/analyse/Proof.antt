@@ -3,17 +3,17 @@ use Rattle.std.proofs.Common.{◌≡◌, ℕ, ◌+◌, ◌*◌, ◌≤◌, List,
 use Rattle.laws.specs.Wrap.{wrap}
 use Rattle.wavelet.specs.Lifting.{analysis}
 use Rattle.wavelet.specs.Laws.Lifting.{analysis-none}
-use Rattle.wavelet.specs.Filters.{filterOf}
+use Rattle.wavelet.specs.Filters.{filter_of}
 use Rattle.wavelet.specs.Laws.Table.{in_table}
 use Rattle.wavelet.specs.Laws.Run.{analysis-turn}
 use Rattle.wavelet.proofs.lift.analyse.Statement.{statement}
 use Rattle.wavelet.proofs.lift.analyse.Tie as tie
 
 record I (xs : List ℤ) (i : ℕ) (ys : List ℤ) (k : ℕ) : Type 0 where
-  k-le : k ≤ length (filterOf i).stages
-  room : 2 * i + length (filterOf i).stages ≤ 16
+  k_le : k ≤ length (filter_of i).stages
+  room : 2 * i + length (filter_of i).stages ≤ 16
   long : length ys ≡ length xs
-  now-is : ys ≡ analysis wrap (drop k (filterOf i).stages) xs
+  now_is : ys ≡ analysis wrap (drop k (filter_of i).stages) xs
 
 abbrev invariant-loop : tie.invariant-loop
 invariant-loop row₀ index k₀ row k = I row₀ index row k
@@ -36,10 +36,10 @@ loop-holds c =
     let st = c.before in
     let e = c.stage-count.ensures in
     record {
-      k-le = omega arith;
+      k_le = omega arith;
       room = (in_table st.args.index st.requires.0).room;
       long = refl;
-      now-is = rw e (sym (analysis-none wrap (filterOf st.args.index).stages st.args.row.now));
+      now_is = rw e (sym (analysis-none wrap (filter_of st.args.index).stages st.args.row.now));
     }
 
 sub-k : tie.Need-overflow-sub-k invariant-loop decreases-loop
@@ -69,10 +69,10 @@ loop-again c =
     let s = (after-stage c).stage in
     let z = c.before.lift in
     record {
-      k-le = omega (arith, l.inv.k-le);
+      k_le = omega (arith, l.inv.k_le);
       room = l.inv.room;
       long = z.auto.0 ∙ l.inv.long;
-      now-is = analysis-turn st.args.index l.k s.result st.args.row.now l.row _ st.pre.0 (after-stage c).before.loop-test.true l.inv.k-le s.ensures.is l.inv.now-is z.ensures;
+      now_is = analysis-turn st.args.index l.k s.result st.args.row.now l.row _ st.pre.0 (after-stage c).before.loop-test.true l.inv.k_le s.ensures.is l.inv.now_is z.ensures;
     }
 
 same_length : tie.Need-same-length invariant-loop decreases-loop
@@ -84,7 +84,7 @@ returns c =
     let l = c.before.loop in
     let st = t.before in
     let e : l.k ≡ 0 = omega arith in
-    l.invariant.now-is ∙ ap (λ (k : ℕ). analysis wrap (drop k (filterOf st.args.index).stages) st.args.row.now) e
+    l.invariant.now_is ∙ ap (λ (k : ℕ). analysis wrap (drop k (filter_of st.args.index).stages) st.args.row.now) e
 
 pub analyse-spec : {M : Type 1} → statement M
 analyse-spec =

@@ -3,7 +3,7 @@ use Rattle.std.proofs.Common.{◌≡◌, ℕ, ◌-◌, ◌/◌, ◌≤◌, Bool,
 use Rattle.laws.specs.Wrap.{wrap}
 use Rattle.wavelet.specs.Lifting.{Stage, lifted}
 use Rattle.wavelet.specs.Laws.Lifting.{lifted-zero}
-use Rattle.wavelet.specs.Code.Table.{stageOf}
+use Rattle.wavelet.specs.Code.Table.{stage_of}
 use Rattle.wavelet.specs.Laws.Run.{row-runs, ran-lifted}
 use Rattle.wavelet.proofs.lift.lift.Statement.{statement}
 use Rattle.wavelet.proofs.lift.lift.Tie as tie
@@ -11,10 +11,10 @@ use Rattle.wavelet.proofs.lift.lift.Tie as tie
 record I (a₀ : List ℤ) (st : Stage) (plus : Bool) (a : List ℤ) (n : ℕ) : Type 0 where
   n-le : n ≤ length a₀ / 2
   long : length a ≡ length a₀
-  now-is : a ≡ lifted wrap st plus n a₀
+  now_is : a ≡ lifted wrap st plus n a₀
 
 abbrev invariant-loop : tie.invariant-loop
-invariant-loop a₀ s plus len half n₀ a n = I a₀ (stageOf s) plus a n
+invariant-loop a₀ s plus len half n₀ a n = I a₀ (stage_of s) plus a n
 
 abbrev decreases-loop : tie.decreases-loop
 decreases-loop a₀ s plus len half n₀ a n = length a₀ / 2 - n
@@ -30,7 +30,7 @@ abbrev after-places : tie.After-run invariant-loop decreases-loop → tie.After-
 after-places c = let t = c.before.before in t.before
 
 loop-holds : tie.Need-loop-init invariant-loop decreases-loop
-loop-holds c = record { n-le = omega arith; long = refl; now-is = lifted-zero wrap (stageOf c.args.s) c.args.plus c.args.a.now }
+loop-holds c = record { n-le = omega arith; long = refl; now_is = lifted-zero wrap (stage_of c.args.s) c.args.plus c.args.a.now }
 
 run-length-requires : tie.Need-run-length-requires invariant-loop decreases-loop
 run-length-requires c κs = (c.before.before.requires.0, (c.before.before.requires.1, c.loop-test.true))
@@ -45,7 +45,7 @@ add-k : tie.Need-overflow-add-k invariant-loop decreases-loop
 add-k c = omega arith
 
 run-requires : tie.Need-run-requires invariant-loop decreases-loop
-unfolding stageOf
+unfolding stage_of
 run-requires c κs =
     let st = begin (after-run-length c) in
     let a = st.args in
@@ -59,7 +59,7 @@ loop-less : tie.Need-loop-smaller invariant-loop decreases-loop
 loop-less c = omega (arith, (after-run-length c.before.before).run_length.ensures.some)
 
 loop-again : tie.Need-loop-preserved invariant-loop decreases-loop
-unfolding stageOf
+unfolding stage_of
 loop-again c =
     let st = begin (after-run-length c.before.before) in
     let a = st.args in
@@ -70,7 +70,7 @@ loop-again c =
     record {
       n-le = omega (arith, m.ensures.fits);
       long = r.auto.0 ∙ l.inv.long;
-      now-is = r.ensures ∙ ran-lifted a.s o.result (length a.a.now) l.n m.result st.pre.0 o.ensures m.ensures a.plus a.a.now l.a refl l.inv.now-is;
+      now_is = r.ensures ∙ ran-lifted a.s o.result (length a.a.now) l.n m.result st.pre.0 o.ensures m.ensures a.plus a.a.now l.a refl l.inv.now_is;
     }
 
 same_length : tie.Need-same-length invariant-loop decreases-loop
@@ -81,7 +81,7 @@ returns c =
     let l = c.before.loop in
     let a = c.before.before.args in
     let e : l.n ≡ length a.a.now / 2 = omega arith in
-    l.invariant.now-is ∙ ap (λ (m : ℕ). lifted wrap (stageOf a.s) a.plus m a.a.now) e
+    l.invariant.now_is ∙ ap (λ (m : ℕ). lifted wrap (stage_of a.s) a.plus m a.a.now) e
 
 pub lift-spec : {M : Type 1} → statement M
 lift-spec =

@@ -1,6 +1,6 @@
 -- `lift::run_length` meets its contract.
 use Rattle.std.proofs.Common.{◌∙◌, arith, rules}
-use Rattle.wavelet.specs.Laws.Run.{moves-one, moves_more}
+use Rattle.wavelet.specs.Laws.Run.{moves_one, moves_more}
 use Rattle.wavelet.proofs.lift.run_length.Statement.{statement}
 use Rattle.wavelet.proofs.lift.run_length.Tie as tie
 
@@ -11,7 +11,7 @@ returns : tie.Need-returns
 returns c =
     let t = c.before.before in
     let st = t.before in
-    moves-one st.args.s st.args.len st.args.n st.requires.1.1
+    moves_one st.args.s st.args.len st.args.n st.requires.1.1
 
 add-monus : tie.Need-overflow-add-monus
 add-monus c = search rules

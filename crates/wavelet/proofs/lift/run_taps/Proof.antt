@@ -5,8 +5,8 @@ use Rattle.laws.specs.Wrap.{wrap}
 use Rattle.laws.specs.Rows.{at}
 use Rattle.wavelet.specs.Lifting.{Stage, scaled, change}
 use Rattle.wavelet.specs.Laws.Lifting.{dot-take}
-use Rattle.wavelet.specs.Code.Table.{stageOf}
-use Rattle.wavelet.specs.Code.Run.{tapsTo, value_of, ran}
+use Rattle.wavelet.specs.Code.Table.{stage_of}
+use Rattle.wavelet.specs.Code.Run.{taps_to, value_of, ran}
 use Rattle.wavelet.specs.Laws.Run.{ran-none, ran-turn}
 use Rattle.wavelet.proofs.lift.run_taps.Statement.{statement}
 use Rattle.wavelet.proofs.lift.run_taps.Tie as tie
@@ -14,10 +14,10 @@ use Rattle.wavelet.proofs.lift.run_taps.Tie as tie
 record I (a₀ : List ℤ) (st : Stage) (plus : Bool) (o : List ℕ) (p count step : ℕ) (a : List ℤ) (i : ℕ) : Type 0 where
   i-le : i ≤ count
   long : length a ≡ length a₀
-  now-is : a ≡ ran st plus o p step i a₀
+  now_is : a ≡ ran st plus o p step i a₀
 
 abbrev invariant-loop : tie.invariant-loop
-invariant-loop a₀ s plus o p count step i₀ a i = I a₀ (stageOf s) plus o p count step a i
+invariant-loop a₀ s plus o p count step i₀ a i = I a₀ (stage_of s) plus o p count step a i
 
 abbrev decreases-loop : tie.decreases-loop
 decreases-loop a₀ s plus o p count step i₀ a i = count - i
@@ -33,7 +33,7 @@ writes : (c : tie.In-loop invariant-loop decreases-loop) → c.before.before.arg
 writes c = rw c.before.loop.invariant.long (c.before.before.requires.writes c.before.loop.i c.loop-test.true)
 
 loop-holds : tie.Need-loop-init invariant-loop decreases-loop
-loop-holds c = record { i-le = omega arith; long = refl; now-is = ran-none (stageOf c.args.s) c.args.plus c.args.o c.args.p c.args.step c.args.a.now }
+loop-holds c = record { i-le = omega arith; long = refl; now_is = ran-none (stage_of c.args.s) c.args.plus c.args.o c.args.p c.args.step c.args.a.now }
 
 mul-x : tie.Need-overflow-mul-x invariant-loop decreases-loop
 mul-x c = omega (arith, writes c)
@@ -73,7 +73,7 @@ loop-less : tie.Need-loop-smaller invariant-loop decreases-loop
 loop-less c = omega arith
 
 loop-again : tie.Need-loop-preserved invariant-loop decreases-loop
-unfolding stageOf
+unfolding stage_of
 loop-again c =
     let st = (in-loop c.before.before).before.before in
     let l = (in-loop c.before.before).before.loop in
@@ -87,14 +87,14 @@ loop-again c =
     let fv : SFits w64 (at l.a (a.p + x)) = sfits_of c.before.v.given in
     let e1 = simp (to_z-of_z, ft) at d.ensures in
     let e2 = simp (to_z-of_z, fv, fd) at c.change.ensures in
-    let sum : t.result ≡ tapsTo (stageOf s).taps a.o x l.a (length (stageOf s).taps) =
-    t.ensures ∙ dot-take wrap s.taps s.count (λ j. at l.a (get_or a.o j 0 + x)) (omega (arith, st.pre.legal.long, st.pre.legal.count-le)) in
-    let v : to_z w64 (of_z w64 c.change.result) ≡ value_of (stageOf s) a.plus a.o a.p x l.a =
-    to_z-of_z (sfits_of c.change.type-inv) ∙ e2 ∙ ap (change wrap a.plus (at l.a (a.p + x))) (e1 ∙ ap (scaled wrap (stageOf s)) sum) in
+    let sum : t.result ≡ taps_to (stage_of s).taps a.o x l.a (length (stage_of s).taps) =
+    t.ensures ∙ dot-take wrap s.taps s.count (λ j. at l.a (get_or a.o j 0 + x)) (omega (arith, st.pre.legal.long, st.pre.legal.count_le)) in
+    let v : to_z w64 (of_z w64 c.change.result) ≡ value_of (stage_of s) a.plus a.o a.p x l.a =
+    to_z-of_z (sfits_of c.change.type-inv) ∙ e2 ∙ ap (change wrap a.plus (at l.a (a.p + x))) (e1 ∙ ap (scaled wrap (stage_of s)) sum) in
     record {
       i-le = omega arith;
       long = simp length-set l.inv.long;
-      now-is = ap (set l.a (a.p + x)) v ∙ ran-turn s a.plus a.o a.p a.count a.step l.i a.a.now l.a st.pre (in-loop c.before.before).loop-test.taken l.inv.now-is;
+      now_is = ap (set l.a (a.p + x)) v ∙ ran-turn s a.plus a.o a.p a.count a.step l.i a.a.now l.a st.pre (in-loop c.before.before).loop-test.taken l.inv.now_is;
     }
 
 same_length : tie.Need-same-length invariant-loop decreases-loop
@@ -105,7 +105,7 @@ returns c =
     let l = c.before.loop in
     let a = c.before.before.args in
     let e : l.i ≡ a.count = omega arith in
-    l.invariant.now-is ∙ ap (λ (m : ℕ). ran (stageOf a.s) a.plus a.o a.p a.step m a.a.now) e
+    l.invariant.now_is ∙ ap (λ (m : ℕ). ran (stage_of a.s) a.plus a.o a.p a.step m a.a.now) e
 
 pub run-taps-spec : {M : Type 1} → statement M
 run-taps-spec =

@@ -4,8 +4,8 @@ use borrow.Author.Rules.{sfits_of}
 use Rattle.laws.specs.Wrap.{wrap}
 use Rattle.laws.specs.Rows.{at}
 use Rattle.wavelet.specs.Lifting.{Stage, scaled, change}
-use Rattle.wavelet.specs.Code.Table.{stageOf}
-use Rattle.wavelet.specs.Code.Run.{tapsTo, value_of, ran, twoTaps, twoPlaces}
+use Rattle.wavelet.specs.Code.Table.{stage_of}
+use Rattle.wavelet.specs.Code.Run.{taps_to, value_of, ran, two_taps, two_places}
 use Rattle.wavelet.specs.Laws.Run.{ran-none, ran-turn, two-sum}
 use Rattle.wavelet.proofs.lift.run_two.Statement.{statement}
 use Rattle.wavelet.proofs.lift.run_two.Tie as tie
@@ -13,10 +13,10 @@ use Rattle.wavelet.proofs.lift.run_two.Tie as tie
 record I (a₀ : List ℤ) (st : Stage) (plus : Bool) (o : List ℕ) (p count step : ℕ) (a : List ℤ) (n : ℕ) : Type 0 where
   n-le : n ≤ count
   long : length a ≡ length a₀
-  now-is : a ≡ ran st plus o p step n a₀
+  now_is : a ≡ ran st plus o p step n a₀
 
 abbrev invariant-loop : tie.invariant-loop
-invariant-loop a₀ plus t shift i j p count step n₀ a n = I a₀ (stageOf (twoTaps (to_z w64 t) shift)) plus (twoPlaces i j) p count step a n
+invariant-loop a₀ plus t shift i j p count step n₀ a n = I a₀ (stage_of (two_taps (to_z w64 t) shift)) plus (two_places i j) p count step a n
 
 abbrev decreases-loop : tie.decreases-loop
 decreases-loop a₀ plus t shift i j p count step n₀ a n = count - n
@@ -33,11 +33,11 @@ after-wrapping-mul-i64 c = let t = c.before.before in t.before
 
 -- the invariant has the tap by its bits: what m updates leave is the same
 same-tap : (c : tie.Start invariant-loop decreases-loop) (m : ℕ)
-    → ran (stageOf (twoTaps (to_z w64 (of_z w64 c.args.t)) c.args.shift)) c.args.plus (twoPlaces c.args.i c.args.j) c.args.p c.args.step m c.args.a.now
-    ≡ ran (stageOf (twoTaps c.args.t c.args.shift)) c.args.plus (twoPlaces c.args.i c.args.j) c.args.p c.args.step m c.args.a.now
+    → ran (stage_of (two_taps (to_z w64 (of_z w64 c.args.t)) c.args.shift)) c.args.plus (two_places c.args.i c.args.j) c.args.p c.args.step m c.args.a.now
+    ≡ ran (stage_of (two_taps c.args.t c.args.shift)) c.args.plus (two_places c.args.i c.args.j) c.args.p c.args.step m c.args.a.now
 same-tap c m =
     let a = c.args in
-    ap (λ (z : ℤ). ran (stageOf (twoTaps z a.shift)) a.plus (twoPlaces a.i a.j) a.p a.step m a.a.now) (to_z-of_z c.ranges.t)
+    ap (λ (z : ℤ). ran (stage_of (two_taps z a.shift)) a.plus (two_places a.i a.j) a.p a.step m a.a.now) (to_z-of_z c.ranges.t)
 
 writes : (c : tie.In-loop invariant-loop decreases-loop) → c.before.before.args.p + c.before.before.args.step * c.before.loop.n < length c.before.loop.a
 writes c = rw c.before.loop.invariant.long (c.before.before.requires.writes c.before.loop.n c.loop-test.true)
@@ -51,7 +51,7 @@ reads-j c = rw c.before.loop.invariant.long (c.before.before.requires.inside c.b
 loop-holds : tie.Need-loop-init invariant-loop decreases-loop
 loop-holds c =
     let a = c.args in
-    record { n-le = omega arith; long = refl; now-is = ran-none (stageOf (twoTaps (to_z w64 (of_z w64 a.t)) a.shift)) a.plus (twoPlaces a.i a.j) a.p a.step a.a.now }
+    record { n-le = omega arith; long = refl; now_is = ran-none (stage_of (two_taps (to_z w64 (of_z w64 a.t)) a.shift)) a.plus (two_places a.i a.j) a.p a.step a.a.now }
 
 mul-x : tie.Need-overflow-mul-x invariant-loop decreases-loop
 mul-x c = omega (arith, writes c)
@@ -108,14 +108,14 @@ loop-less : tie.Need-loop-smaller invariant-loop decreases-loop
 loop-less c = omega arith
 
 loop-again : tie.Need-loop-preserved invariant-loop decreases-loop
-unfolding stageOf
+unfolding stage_of
 loop-again c =
     let turn = (after-v c.before.before).before.before in
     let st = turn.before.before in
     let l = turn.before.loop in
     let a = st.args in
-    let s = twoTaps a.t a.shift in
-    let o = twoPlaces a.i a.j in
+    let s = two_taps a.t a.shift in
+    let o = two_places a.i a.j in
     let x = a.step * l.n in
     let b = (after-wrapping-mul-i64 c).before.wrapping-add-i64 in
     let m = (after-wrapping-mul-i64 c).wrapping-mul-i64 in
@@ -130,14 +130,14 @@ loop-again c =
     let e2 = simp (to_z-of_z, st.fits.t, fb) at m.ensures in
     let e3 = simp (to_z-of_z, fm) at d.ensures in
     let e4 = simp (to_z-of_z, fw, fd) at c.change.ensures in
-    let sum : m.result ≡ tapsTo (stageOf s).taps o x l.a (length (stageOf s).taps) =
+    let sum : m.result ≡ taps_to (stage_of s).taps o x l.a (length (stage_of s).taps) =
     e2 ∙ ap (λ (z : ℤ). wrap (a.t *ℤ z)) e1 ∙ two-sum a.t a.shift a.i a.j x l.a in
-    let v : to_z w64 (of_z w64 c.change.result) ≡ value_of (stageOf s) a.plus o a.p x l.a =
-    to_z-of_z (sfits_of c.change.type-inv) ∙ e4 ∙ ap (change wrap a.plus (at l.a (a.p + x))) (e3 ∙ ap (scaled wrap (stageOf s)) sum) in
+    let v : to_z w64 (of_z w64 c.change.result) ≡ value_of (stage_of s) a.plus o a.p x l.a =
+    to_z-of_z (sfits_of c.change.type-inv) ∙ e4 ∙ ap (change wrap a.plus (at l.a (a.p + x))) (e3 ∙ ap (scaled wrap (stage_of s)) sum) in
     record {
       n-le = omega arith;
       long = simp length-set l.inv.long;
-      now-is = ap (set l.a (a.p + x)) v ∙ ran-turn s a.plus o a.p a.count a.step l.n a.a.now l.a st.pre turn.loop-test.taken (l.inv.now-is ∙ same-tap st l.n) ∙ sym (same-tap st (l.n + 1));
+      now_is = ap (set l.a (a.p + x)) v ∙ ran-turn s a.plus o a.p a.count a.step l.n a.a.now l.a st.pre turn.loop-test.taken (l.inv.now_is ∙ same-tap st l.n) ∙ sym (same-tap st (l.n + 1));
     }
 
 same_length : tie.Need-same-length invariant-loop decreases-loop
@@ -148,7 +148,7 @@ returns c =
     let l = c.before.loop in
     let a = c.before.before.args in
     let e : l.n ≡ a.count = omega arith in
-    l.invariant.now-is ∙ same-tap c.before.before l.n ∙ ap (λ (m : ℕ). ran (stageOf (twoTaps a.t a.shift)) a.plus (twoPlaces a.i a.j) a.p a.step m a.a.now) e
+    l.invariant.now_is ∙ same-tap c.before.before l.n ∙ ap (λ (m : ℕ). ran (stage_of (two_taps a.t a.shift)) a.plus (two_places a.i a.j) a.p a.step m a.a.now) e
 
 pub run-two-spec : {M : Type 1} → statement M
 run-two-spec =

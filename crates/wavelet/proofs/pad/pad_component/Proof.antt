@@ -1,10 +1,10 @@
 -- `pad::pad_component` meets its contract. The loop's invariant: the first n rows are there.
 use Rattle.std.proofs.Common.{◌≡◌, ℕ, ◌+◌, ◌-◌, ◌*◌, ◌≤◌, min, length, ap, ◌∙◌, ap₂, arith}
 use Rattle.laws.specs.Rows.{row}
-use Rattle.laws.specs.Laws.Window.{length-lent, Parts, parts_first, parts-room, lent-next}
+use Rattle.laws.specs.Laws.Window.{length-lent, Parts, parts_first, parts_room, lent-next}
 use Rattle.wavelet.specs.Pad.{padded}
-use Rattle.wavelet.specs.Code.Pad.{paddedRow}
-use Rattle.wavelet.specs.Laws.Pad.{row_from, length-padded, padded-all}
+use Rattle.wavelet.specs.Code.Pad.{padded_row}
+use Rattle.wavelet.specs.Laws.Pad.{row_from, length-padded, padded_all}
 use Rattle.wavelet.proofs.pad.pad_component.Statement.{statement}
 use Rattle.wavelet.proofs.pad.pad_component.Tie as tie
 
@@ -30,7 +30,7 @@ room c =
     let st = begin c in
     let a = st.args in
     let l = c.before.loop in
-    let r = parts-room _ a.plane.now 0 a.ph a.pw l.plane l.n l.at l.invariant (omega (arith, st.pre.long)) c.loop-test.true in
+    let r = parts_room _ a.plane.now 0 a.ph a.pw l.plane l.n l.at l.invariant (omega (arith, st.pre.long)) c.loop-test.true in
     record { fits = omega (arith, r, st.pre.long); source = row_from a.samples.now a.w a.h l.n st.pre.some.1 st.pre.whole }
 
 sub-last : tie.Need-overflow-sub-last invariant-loop decreases-loop
@@ -83,7 +83,7 @@ loop-again c =
     let s = a.samples.now in
     let e = length-lent l.at a.pw l.plane (omega (arith, room i, l.inv.long)) in
     let f : c.before.pad-row.new.0 ≡ row a.pw (padded s a.offset a.w a.h l.n) =
-    c.before.pad-row.ensures ∙ ap₂ (λ (m from : ℕ). row m (paddedRow 0 s a.offset a.w (from * a.w))) e (after-least c).least.ensures in
+    c.before.pad-row.ensures ∙ ap₂ (λ (m from : ℕ). row m (padded_row 0 s a.offset a.w (from * a.w))) e (after-least c).least.ensures in
     lent-next (λ y. row a.pw (padded s a.offset a.w a.h y)) a.plane.now 0 a.ph a.pw l.plane l.n l.at (length-padded s a.offset a.w a.h a.pw) l.inv (omega (arith, st.pre.long)) i.loop-test.taken c.before.pad-row.new.0 f
 
 same_length : tie.Need-same-length invariant-loop decreases-loop
@@ -94,7 +94,7 @@ returns c =
     let t = c.before.before in
     let a = t.before.args in
     let l = c.before.loop in
-    padded-all a.samples.now a.offset a.w a.h a.pw a.ph a.plane.now l.plane l.n l.at t.before.requires.long l.invariant (omega arith)
+    padded_all a.samples.now a.offset a.w a.h a.pw a.ph a.plane.now l.plane l.n l.at t.before.requires.long l.invariant (omega arith)
 
 pub pad-component-spec : {M : Type 1} → statement M
 pad-component-spec =

@@ -4,10 +4,10 @@ use native.Mathlib.Nat.{min-le_left, min-le_right}
 use borrow.Author.Rules.{sfits_of}
 use Rattle.laws.specs.Wrap.{wrap}
 use Rattle.laws.specs.Rows.{row}
-use Rattle.laws.specs.Laws.Chunks.{fill-all}
+use Rattle.laws.specs.Laws.Chunks.{fill_all}
 use Rattle.wavelet.specs.Planes.{raise}
-use Rattle.wavelet.specs.Code.Pad.{paddedRow}
-use Rattle.wavelet.specs.Laws.Pad.{Filled, filled_next, filled-again, past-samples, padded-in, padded-behind}
+use Rattle.wavelet.specs.Code.Pad.{padded_row}
+use Rattle.wavelet.specs.Laws.Pad.{Filled, filled_next, filled_again, past_samples, padded_in_lem, padded-behind}
 use Rattle.wavelet.proofs.pad.pad_row.Statement.{statement}
 use Rattle.wavelet.proofs.pad.pad_row.Tie as tie
 
@@ -65,7 +65,7 @@ add-last : tie.Need-overflow-add-last invariant-loop decreases-loop invariant-lo
 add-last c = omega arith
 
 loop-holds : tie.Need-loop-init invariant-loop decreases-loop invariant-loop2 decreases-loop2
-loop-holds c = (omega arith, record { long = refl; now-is = refl })
+loop-holds c = (omega arith, record { long = refl; now_is = refl })
 
 add-p : tie.Need-overflow-add-p invariant-loop decreases-loop invariant-loop2 decreases-loop2
 add-p c = omega (arith, room c)
@@ -104,7 +104,7 @@ loop-again c =
       omega arith,
       filled_next a.bits s a.offset a.w a.from a.dst.now l.dst l.k _ r.fits l.inv.1
           (to_z-of_z (sfits_of c.raised.type-inv) ∙ c.raised.ensures ∙ ap (raise wrap a.bits) (to_z-of_z (sfits_of c.before.centred.type-inv) ∙ c.before.centred.ensures)
-          ∙ padded-in a.bits s a.offset a.w a.from l.k r.inside),
+          ∙ padded_in_lem a.bits s a.offset a.w a.from l.k r.inside),
     )
 
 mul-s-2 : tie.Need-overflow-mul-s-2 invariant-loop decreases-loop invariant-loop2 decreases-loop2
@@ -125,7 +125,7 @@ loop2-holds c =
     let a = st.args in
     let l = (at-loop'' c).loop in (
       (omega arith, omega (arith, l.inv.0, (at-loop'' c).before.least.ensures, min-le_left (length a.dst.now) a.w)),
-      filled-again a.bits a.samples.now a.offset a.w a.from a.dst.now l.dst l.k l.inv.1,
+      filled_again a.bits a.samples.now a.offset a.w a.from a.dst.now l.dst l.k l.inv.1,
     )
 
 mul-y-2 : tie.Need-overflow-mul-y-2 invariant-loop decreases-loop invariant-loop2 decreases-loop2
@@ -149,7 +149,7 @@ loop2-again c =
     let y = c.before.before.raised2 in
     let z = (after-centred2 c).centred2 in
     let s = a.samples.now in
-    let past = past-samples (length a.dst.now) a.w l.k (omega (arith, (at-loop (after-centred2 c)).before.least.ensures, l.invariant.0)) c.loop2-test.true in (
+    let past = past_samples (length a.dst.now) a.w l.k (omega (arith, (at-loop (after-centred2 c)).before.least.ensures, l.invariant.0)) c.loop2-test.true in (
       omega arith,
       filled_next a.bits s a.offset a.w a.from l1.dst l.dst l.k _ (omega (arith, l1.inv.1.long)) l.invariant.1
           (to_z-of_z (sfits_of y.type-inv) ∙ y.ensures ∙ ap (raise wrap a.bits) (to_z-of_z (sfits_of z.ok) ∙ z.ensures) ∙ padded-behind a.bits s a.offset a.w a.from l.k past),
@@ -164,9 +164,9 @@ returns c =
     let a = st.args in
     let l = c.before.loop2 in
     let l1 = (at-loop'' c.before.before).loop in
-    let f = paddedRow a.bits a.samples.now a.offset a.w a.from in
+    let f = padded_row a.bits a.samples.now a.offset a.w a.from in
     let long = l1.inv.1.long in
-    l.invariant.1.now-is ∙ fill-all f l1.dst l.k (omega (arith, long)) ∙ ap (λ (n : ℕ). row n f) long
+    l.invariant.1.now_is ∙ fill_all f l1.dst l.k (omega (arith, long)) ∙ ap (λ (n : ℕ). row n f) long
 
 pub pad-row-spec : {M : Type 1} → statement M
 pad-row-spec =

@@ -1,5 +1,5 @@
 -- `pad::padded_side` meets its contract.
-use Rattle.wavelet.specs.RowCall.{rowLimit}
+use Rattle.wavelet.specs.RowCall.{row_limit}
 use Rattle.std.proofs.Common.{◌≡◌, ℕ, ◌+◌, ◌-◌, ◌*◌, ◌%◌, ◌^◌, ◌≤◌, div-mul-le_self, arith, rules}
 use Rattle.wavelet.specs.Laws.Pad.{scale-le}
 use Rattle.wavelet.proofs.pad.padded_side.Statement.{statement}
@@ -8,13 +8,13 @@ use Rattle.wavelet.proofs.pad.padded_side.Tie as tie
 record Scale (n s : ℕ) : Type 0 where
   is : 1 * 2 ^ n % 2 ^ 64 ≡ 2 ^ n
   low : 1 ≤ 2 ^ n
-  high : 2 ^ n ≤ rowLimit
-  side-le : s ≤ rowLimit
+  high : 2 ^ n ≤ row_limit
+  side_le : s ≤ row_limit
 
 scale : (c : tie.Start) → Scale c.args.depth c.args.side
 scale c =
     let b = scale-le c.args.depth c.requires.1 in
-    record { is = omega arith; low = b.0; high = b.1; side-le = c.requires.0 }
+    record { is = omega arith; low = b.0; high = b.1; side_le = c.requires.0 }
 
 shl-scale : tie.Need-overflow-shl-scale
 shl-scale c = search rules

@@ -1,13 +1,13 @@
 -- `plane::band` meets its contract. The loop's invariant: the first n rows of the band are there.
 use Rattle.std.proofs.Common.{ℕ, ◌+◌, ◌-◌, ◌*◌, ◌≤◌, length, mul-le-mul_left, arith}
 use Rattle.laws.specs.Laws.Window.{Parts, parts_all}
-use Rattle.wavelet.specs.Code.Copy.{bandRow}
-use Rattle.wavelet.specs.Laws.Copy.{band-first, band-room, band-copies, band-turn}
+use Rattle.wavelet.specs.Code.Copy.{band_row}
+use Rattle.wavelet.specs.Laws.Copy.{band-first, band_room, band_copies, band-turn}
 use Rattle.wavelet.proofs.plane.band.Statement.{statement}
 use Rattle.wavelet.proofs.plane.band.Tie as tie
 
 abbrev invariant-loop : tie.invariant-loop
-invariant-loop work₀ to a b from jump e n₀ at₀ work n at = Parts (bandRow work₀ b from jump) work₀ to a b work n (to + at)
+invariant-loop work₀ to a b from jump e n₀ at₀ work n at = Parts (band_row work₀ b from jump) work₀ to a b work n (to + at)
 
 abbrev decreases-loop : tie.decreases-loop
 decreases-loop work₀ to a b from jump e n₀ at₀ work n at = a - n
@@ -25,7 +25,7 @@ room c =
     let st = c.before.before in
     let a = st.args in
     let l = c.before.loop in
-    let r = band-room a.work.now a.to a.a a.b a.from a.jump st.requires l.work l.n l.at l.invariant c.loop-test.true in
+    let r = band_room a.work.now a.to a.a a.b a.from a.jump st.requires l.work l.n l.at l.invariant c.loop-test.true in
     record { jumps = mul-le-mul_left a.jump l.invariant.n-le; fits = omega (arith, r, st.requires.fits) }
 
 mul-e : tie.Need-overflow-mul-e invariant-loop decreases-loop
@@ -49,7 +49,7 @@ copy-into-requires c κs =
     let st = t.before in
     let a = st.args in
     let l = t.loop in
-    (band-copies a.work.now a.to a.a a.b a.from a.jump st.requires l.work l.n l.at l.invariant c.before.loop-test.true, omega arith)
+    (band_copies a.work.now a.to a.a a.b a.from a.jump st.requires l.work l.n l.at l.invariant c.before.loop-test.true, omega arith)
 
 add_at : tie.Need-overflow-add-at invariant-loop decreases-loop
 add_at c = let t = c.before.before in omega (arith, room t.before)
@@ -74,7 +74,7 @@ returns : tie.Need-returns invariant-loop decreases-loop
 returns c =
     let a = c.before.before.args in
     let l = c.before.loop in
-    parts_all (bandRow a.work.now a.b a.from a.jump) a.work.now a.to a.a a.b l.work l.n (a.to + l.at) l.invariant (omega arith)
+    parts_all (band_row a.work.now a.b a.from a.jump) a.work.now a.to a.a a.b l.work l.n (a.to + l.at) l.invariant (omega arith)
 
 pub band-spec : {M : Type 1} → statement M
 band-spec =

@@ -1,14 +1,14 @@
 -- `plane::bands` meets its contract. The loop's invariant: the first n bands are there.
-use Rattle.wavelet.specs.RowCall.{rowLimit}
+use Rattle.wavelet.specs.RowCall.{row_limit}
 use Rattle.std.proofs.Common.{◌+◌, ◌-◌, ◌*◌, ◌/◌, ◌%◌, ◌≤◌, mul-le-mul, arith}
 use Rattle.laws.specs.Laws.Window.{Parts, parts_first}
-use Rattle.wavelet.specs.Code.Copy.{bandOf, BandIn}
-use Rattle.wavelet.specs.Laws.Copy.{bands-in, bands-turn, bands-all}
+use Rattle.wavelet.specs.Code.Copy.{band_of, BandIn}
+use Rattle.wavelet.specs.Laws.Copy.{bands_in, bands-turn, bands_all}
 use Rattle.wavelet.proofs.plane.bands.Statement.{statement}
 use Rattle.wavelet.proofs.plane.bands.Tie as tie
 
 abbrev invariant-loop : tie.invariant-loop
-invariant-loop work₀ to v a w b q count jump n₀ at₀ work n at = Parts (bandOf work₀ v a w) work₀ to (2 * v) (a * (w / 2)) work n at
+invariant-loop work₀ to v a w b q count jump n₀ at₀ work n at = Parts (band_of work₀ v a w) work₀ to (2 * v) (a * (w / 2)) work n at
 
 abbrev decreases-loop : tie.decreases-loop
 decreases-loop work₀ to v a w b q count jump n₀ at₀ work n at = 2 * v - n
@@ -22,11 +22,11 @@ next c =
     let st = c.before.before in
     let a = st.args in
     let l = c.before.loop in
-    bands-in a.work.now a.to a.v a.a a.w st.requires l.work l.n l.at l.invariant c.loop-test.true
+    bands_in a.work.now a.to a.v a.a a.w st.requires l.work l.n l.at l.invariant c.loop-test.true
 
 mul-q : tie.Need-overflow-mul-q invariant-loop decreases-loop
 mul-q c =
-    let b : c.args.w / 2 ≤ rowLimit = omega (arith, c.requires.w_le) in
+    let b : c.args.w / 2 ≤ row_limit = omega (arith, c.requires.w_le) in
     omega (arith, mul-le-mul c.requires.a-le b)
 
 mul-count : tie.Need-overflow-mul-count invariant-loop decreases-loop
@@ -71,7 +71,7 @@ returns c =
     let st = c.before.before in
     let a = st.args in
     let l = c.before.loop in
-    bands-all a.work.now a.to a.v a.a a.w st.requires l.work l.n l.at l.invariant (omega arith)
+    bands_all a.work.now a.to a.v a.a a.w st.requires l.work l.n l.at l.invariant (omega arith)
 
 pub bands-spec : {M : Type 1} → statement M
 bands-spec =

@@ -1,20 +1,20 @@
 -- `plane::columns` meets its contract. The loop's invariant: all stages from k on are undone in every column.
 use Rattle.std.proofs.Common.{◌≡◌, ℕ, ◌+◌, ◌*◌, ◌≤◌, List, length, drop, ℤ, refl, ap, ◌∙◌, arith}
 use Rattle.laws.specs.Wrap.{wrap}
-use Rattle.laws.specs.Plane.{asPlane, asList}
+use Rattle.laws.specs.Plane.{as_plane, as_list}
 use Rattle.wavelet.specs.Lifting.{analysis}
-use Rattle.wavelet.specs.Filters.{filterOf}
-use Rattle.wavelet.specs.Planes.{columnsBy}
+use Rattle.wavelet.specs.Filters.{filter_of}
+use Rattle.wavelet.specs.Planes.{columns_by}
 use Rattle.wavelet.specs.Laws.Table.{in_table}
 use Rattle.wavelet.specs.Laws.Columns.{columns-first, columns-turn}
 use Rattle.wavelet.proofs.plane.columns.Statement.{statement}
 use Rattle.wavelet.proofs.plane.columns.Tie as tie
 
 record I (xs : List ℤ) (h w i : ℕ) (ys : List ℤ) (k : ℕ) : Type 0 where
-  k-le : k ≤ length (filterOf i).stages
-  room : 2 * i + length (filterOf i).stages ≤ 16
+  k_le : k ≤ length (filter_of i).stages
+  room : 2 * i + length (filter_of i).stages ≤ 16
   long : length ys ≡ length xs
-  now-is : ys ≡ asList h w (columnsBy (analysis wrap (drop k (filterOf i).stages)) h w (asPlane w xs))
+  now_is : ys ≡ as_list h w (columns_by (analysis wrap (drop k (filter_of i).stages)) h w (as_plane w xs))
 
 abbrev invariant-loop : tie.invariant-loop
 invariant-loop plane₀ h w index k₀ plane k = I plane₀ h w index plane k
@@ -38,10 +38,10 @@ loop-holds c =
     let a = st.args in
     let e = c.stage-count.ensures in
     record {
-      k-le = omega arith;
+      k_le = omega arith;
       room = (in_table a.index st.requires.1).room;
       long = refl;
-      now-is = rw e (columns-first a.index a.h a.w a.plane.now st.requires.0.long);
+      now_is = rw e (columns-first a.index a.h a.w a.plane.now st.requires.0.long);
     }
 
 sub-k : tie.Need-overflow-sub-k invariant-loop decreases-loop
@@ -73,10 +73,10 @@ loop-again c =
     let s = (after-stage c).stage in
     let z = c.before.lift-columns in
     record {
-      k-le = omega (arith, l.inv.k-le);
+      k_le = omega (arith, l.inv.k_le);
       room = l.inv.room;
       long = z.auto.0 ∙ l.inv.long;
-      now-is = columns-turn a.index l.k s.result a.h a.w a.plane.now l.plane z.new.0 st.pre.1 (after-stage c).before.loop-test.true l.inv.k-le s.ensures.is l.inv.now-is z.ensures;
+      now_is = columns-turn a.index l.k s.result a.h a.w a.plane.now l.plane z.new.0 st.pre.1 (after-stage c).before.loop-test.true l.inv.k_le s.ensures.is l.inv.now_is z.ensures;
     }
 
 same_length : tie.Need-same-length invariant-loop decreases-loop
@@ -88,7 +88,7 @@ returns c =
     let l = c.before.loop in
     let a = t.before.args in
     let e : l.k ≡ 0 = omega arith in
-    l.invariant.now-is ∙ ap (λ (k : ℕ). asList a.h a.w (columnsBy (analysis wrap (drop k (filterOf a.index).stages)) a.h a.w (asPlane a.w a.plane.now))) e
+    l.invariant.now_is ∙ ap (λ (k : ℕ). as_list a.h a.w (columns_by (analysis wrap (drop k (filter_of a.index).stages)) a.h a.w (as_plane a.w a.plane.now))) e
 
 pub columns_spec : {M : Type 1} → statement M
 columns_spec =

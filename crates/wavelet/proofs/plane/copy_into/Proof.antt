@@ -8,7 +8,7 @@ use Rattle.laws.specs.Laws.Window.{put-none, length-put, length-piece}
 use Rattle.laws.specs.Wrap.{wrap}
 use Rattle.wavelet.specs.Planes.{raise}
 use Rattle.wavelet.specs.Code.Copy.{copied}
-use Rattle.wavelet.specs.Laws.Copy.{copy-same, copy-turn}
+use Rattle.wavelet.specs.Laws.Copy.{copy_same, copy_turn}
 use Rattle.wavelet.proofs.plane.copy_into.Statement.{statement}
 use Rattle.wavelet.proofs.plane.copy_into.Tie as tie
 
@@ -16,9 +16,9 @@ length_part : (a e : ℕ) (l : List ℤ) → a ≤ e → e ≤ length l → leng
 length_part a e l h k = length-piece a (e - a) l (omega arith)
 
 record I (l₀ : List ℤ) (bits p len from step : ℕ) (l : List ℤ) (k : ℕ) : Type 0 where
-  k-le : k ≤ len
+  k_le : k ≤ len
   long : length l ≡ length l₀
-  now-is : l ≡ put p k (copied bits l₀ from step k) l₀
+  now_is : l ≡ put p k (copied bits l₀ from step k) l₀
 
 abbrev invariant-loop : tie.invariant-loop
 invariant-loop work₀ a e to len from step bits k₀ work k = I work₀ bits (a + to) len from step work k
@@ -34,7 +34,7 @@ abbrev after-raised : tie.After-work invariant-loop decreases-loop → tie.After
 after-raised c = let t = c.before.before in t.before
 
 loop-holds : tie.Need-loop-init invariant-loop decreases-loop
-loop-holds c = record { k-le = omega arith; long = refl; now-is = put-none _ _ }
+loop-holds c = record { k_le = omega arith; long = refl; now_is = put-none _ _ }
 
 mul-p : tie.Need-overflow-mul-p invariant-loop decreases-loop
 mul-p c = omega (arith, c.before.before.requires.0.inside c.before.loop.k c.loop-test.true)
@@ -93,14 +93,14 @@ loop-again c =
     let s = c.before.store_at in
     let w₀ = a.work.now in
     let fx : SFits w64 x.result = sfits_of x.ok in
-    let read : x.result ≡ at w₀ (a.from + a.step * l.k) = x.ensures ∙ copy-same a.bits w₀ l.work a.a a.e a.to a.len a.from a.step l.k st.pre.0 more l.inv.now-is in
+    let read : x.result ≡ at w₀ (a.from + a.step * l.k) = x.ensures ∙ copy_same a.bits w₀ l.work a.a a.e a.to a.len a.from a.step l.k st.pre.0 more l.inv.now_is in
     let e = simp (to_z-of_z, fx) at y.ensures in
     let v : y.result ≡ raise wrap a.bits (at w₀ (a.from + a.step * l.k)) = e ∙ ap (raise wrap a.bits) read in
-    let n = copy-turn a.bits w₀ l.work s.new.0 _ a.a a.e a.to a.len a.from a.step l.k st.pre.0 more l.inv.now-is (to_z-of_z (sfits_of y.ok) ∙ v) s.ensures in
+    let n = copy_turn a.bits w₀ l.work s.new.0 _ a.a a.e a.to a.len a.from a.step l.k st.pre.0 more l.inv.now_is (to_z-of_z (sfits_of y.ok) ∙ v) s.ensures in
     record {
-      k-le = omega arith;
+      k_le = omega arith;
       long = ap length n ∙ length-put (a.a + a.to) (l.k + 1) (copied a.bits w₀ a.from a.step (l.k + 1)) w₀ (omega (arith, st.pre.0.fits, st.pre.0.part)) (length-span _ 0 (l.k + 1));
-      now-is = n;
+      now_is = n;
     }
 
 same_length : tie.Need-same-length invariant-loop decreases-loop
@@ -111,7 +111,7 @@ returns c =
     let a = c.before.before.args in
     let l = c.before.loop in
     let e : l.k ≡ a.len = omega arith in
-    rw (← e) l.invariant.now-is
+    rw (← e) l.invariant.now_is
 
 pub copy-into-spec : {M : Type 1} → statement M
 copy-into-spec =

@@ -1,20 +1,20 @@
 -- `plane::dwt` meets its contract. The invariant of each loop: what the levels left make is what those left at its
 -- start make.
 use Rattle.std.proofs.Common.{◌≡◌, ◌+◌, ◌-◌, ◌*◌, ◌≤◌, length, ◌∙◌, arith}
-use Rattle.wavelet.specs.Laws.Walk.{coefficientsOf, after, deep-both, deep-across, Walks, turn-both, turn-across, walk-flat, walk_start, walk_end}
+use Rattle.wavelet.specs.Laws.Walk.{coefficients_of, after, deep_both, deep_across, Walks, turn-both, turn-across, walk_flat, walk_start, walk_end}
 use Rattle.wavelet.proofs.plane.dwt.Statement.{statement}
 use Rattle.wavelet.proofs.plane.dwt.Tie as tie
 
 abbrev invariant-loop : tie.invariant-loop
 invariant-loop work₀ n off h w k d ih iv high₀ wide₀ level₀ work high wide level =
-    (k ≤ level) × Walks n off ih iv (length work₀) (after n off (h * w) (coefficientsOf ih iv k d h w) work₀) k (level - k) high wide work
+    (k ≤ level) × Walks n off ih iv (length work₀) (after n off (h * w) (coefficients_of ih iv k d h w) work₀) k (level - k) high wide work
 
 abbrev decreases-loop : tie.decreases-loop
 decreases-loop work₀ n off h w k d ih iv high₀ wide₀ level₀ work high wide level = level
 
 abbrev invariant-loop2 : tie.invariant-loop2
 invariant-loop2 work₀ n off h w k d ih iv high wide₀ level₀ work wide level =
-    Walks n off ih iv (length work₀) (after n off (high * wide₀) (coefficientsOf ih iv level₀ 0 high wide₀) work₀) level 0 high wide work
+    Walks n off ih iv (length work₀) (after n off (high * wide₀) (coefficients_of ih iv level₀ 0 high wide₀) work₀) level 0 high wide work
 
 abbrev decreases-loop2 : tie.decreases-loop2
 decreases-loop2 work₀ n off h w k d ih iv high wide₀ level₀ work wide level = level
@@ -42,11 +42,11 @@ turn2 c = c.before.before
 
 -- after the first loop the levels that are left are horizontal-only
 flat : (c : tie.After-loop invariant-loop decreases-loop invariant-loop2 decreases-loop2) → let l = c.before.loop in let a = c.before.before.args in
-    Walks a.n a.off a.ih a.iv (length a.work.now) (after a.n a.off (a.h * a.w) (coefficientsOf a.ih a.iv a.k a.d a.h a.w) a.work.now) l.level 0 l.high l.wide l.work
+    Walks a.n a.off a.ih a.iv (length a.work.now) (after a.n a.off (a.h * a.w) (coefficients_of a.ih a.iv a.k a.d a.h a.w) a.work.now) l.level 0 l.high l.wide l.work
 flat c =
     let l = c.before.loop in
     let a = c.before.before.args in
-    walk-flat a.n a.off a.ih a.iv (length a.work.now) _ a.k l.level l.high l.wide l.work l.invariant.0 c.loop-test.false l.invariant.1
+    walk_flat a.n a.off a.ih a.iv (length a.work.now) _ a.k l.level l.high l.wide l.work l.invariant.0 c.loop-test.false l.invariant.1
 
 vh-analysis-requires : tie.Need-vh-analysis-requires invariant-loop decreases-loop invariant-loop2 decreases-loop2
 vh-analysis-requires c κs =
@@ -54,7 +54,7 @@ vh-analysis-requires c κs =
     let l = t.before.loop in
     let a = t.before.before.args in
     let v = l.invariant.1 in
-    ((deep-both a.k (l.level - a.k) l.high l.wide a.ih a.iv (omega arith) v.deep).0, (v.place, (v.deep.ih-le, v.deep.iv-le)))
+    ((deep_both a.k (l.level - a.k) l.high l.wide a.ih a.iv (omega arith) v.deep).0, (v.place, (v.deep.ih_le, v.deep.iv_le)))
 
 sub-level : tie.Need-overflow-sub-level invariant-loop decreases-loop invariant-loop2 decreases-loop2
 sub-level c = omega arith
@@ -85,7 +85,7 @@ h-analysis-requires c κs =
     let f = first t.before in
     let a = f.before.args in
     let v = l.invariant in
-    ((deep-across l.level 0 f.loop.high l.wide a.ih a.iv (omega arith) t.loop2-test.true v.deep).0, (v.place, v.deep.ih-le))
+    ((deep_across l.level 0 f.loop.high l.wide a.ih a.iv (omega arith) t.loop2-test.true v.deep).0, (v.place, v.deep.ih_le))
 
 sub-level-2 : tie.Need-overflow-sub-level-2 invariant-loop decreases-loop invariant-loop2 decreases-loop2
 sub-level-2 c = omega arith

@@ -1,8 +1,8 @@
 -- `plane::h_analysis` meets its contract.
 use Rattle.std.proofs.Common.{◌*◌, drop, rules}
 use Rattle.laws.specs.Code.Window.{piece}
-use Rattle.laws.specs.Plane.{asPlane}
-use Rattle.wavelet.specs.Laws.Level.{h-level, rows-there}
+use Rattle.laws.specs.Plane.{as_plane}
+use Rattle.wavelet.specs.Laws.Level.{h_level, rows_there}
 use Rattle.wavelet.proofs.plane.h_analysis.Statement.{statement}
 use Rattle.wavelet.proofs.plane.h_analysis.Tie as tie
 
@@ -34,9 +34,9 @@ returns c =
     let a = st.args in
     let p = st.pre.1.0 in
     let r = (after-rows c.before).rows in
-    let b = c.before.h-bands in
-    h-level a.n a.off a.h a.w a.work.now p a.ih (asPlane a.w (piece a.off (a.h * a.w) (drop a.n a.work.now))) r.last.0 b.new.0 st.pre.0
-    (rows-there a.n a.off a.h a.w a.work.now p a.ih r.last.0 r.ensures) b.ensures
+    let b = c.before.h_bands in
+    h_level a.n a.off a.h a.w a.work.now p a.ih (as_plane a.w (piece a.off (a.h * a.w) (drop a.n a.work.now))) r.last.0 b.new.0 st.pre.0
+    (rows_there a.n a.off a.h a.w a.work.now p a.ih r.last.0 r.ensures) b.ensures
 
 pub h-analysis-spec : {M : Type 1} → statement M
 h-analysis-spec =

@@ -1,5 +1,5 @@
 -- `plane::h_bands` meets its contract.
-use Rattle.wavelet.specs.Laws.Level.{h-bands}
+use Rattle.wavelet.specs.Laws.Level.{h_bands}
 use Rattle.std.proofs.Common.{rules}
 use Rattle.wavelet.proofs.plane.h_bands.Statement.{statement}
 use Rattle.wavelet.proofs.plane.h_bands.Tie as tie
@@ -19,7 +19,7 @@ returns c =
     let st = t.before in
     let a = st.args in
     let b = c.before.bands in
-    h-bands a.n a.off a.h a.w a.work.now st.requires.1 b.new.0 b.ensures
+    h_bands a.n a.off a.h a.w a.work.now st.requires.1 b.new.0 b.ensures
 
 pub h-bands-spec : {M : Type 1} → statement M
 h-bands-spec = tie.close (tie.spec add-bands bands-requires same_length returns)

@@ -1,14 +1,14 @@
 -- `plane::rows` meets its contract. The loop's invariant: the first n rows of the scratch are there.
 use Rattle.std.proofs.Common.{ℕ, ◌+◌, ◌-◌, ◌*◌, ◌≤◌, length, drop, arith}
-use Rattle.laws.specs.Plane.{asPlane}
+use Rattle.laws.specs.Plane.{as_plane}
 use Rattle.laws.specs.Laws.Window.{Parts, parts_first, length-lent}
 use Rattle.wavelet.specs.Laws.Plane.{bits-le}
-use Rattle.wavelet.specs.Laws.Level.{row_of, rows-room, rows-copies, rows-turn, rows_all}
+use Rattle.wavelet.specs.Laws.Level.{row_of, rows_room, rows_copies, rows-turn, rows_all}
 use Rattle.wavelet.proofs.plane.rows.Statement.{statement}
 use Rattle.wavelet.proofs.plane.rows.Tie as tie
 
 abbrev invariant-loop : tie.invariant-loop
-invariant-loop work₀ from h w index bits m n₀ at₀ work n at = Parts (row_of index (asPlane w (drop from work₀)) w) work₀ 0 h w work n at
+invariant-loop work₀ from h w index bits m n₀ at₀ work n at = Parts (row_of index (as_plane w (drop from work₀)) w) work₀ 0 h w work n at
 
 abbrev decreases-loop : tie.decreases-loop
 decreases-loop work₀ from h w index bits m n₀ at₀ work n at = h - n
@@ -31,7 +31,7 @@ room c =
     let a = st.args in
     let l = c.before.loop in
     record {
-      fits = rows-room a.index (asPlane a.w (drop a.from a.work.now)) a.work.now a.h a.w (omega (arith, st.requires.0.fits)) l.work l.n l.at l.invariant c.loop-test.true;
+      fits = rows_room a.index (as_plane a.w (drop a.from a.work.now)) a.work.now a.h a.w (omega (arith, st.requires.0.fits)) l.work l.n l.at l.invariant c.loop-test.true;
       front = st.requires.0.room;
       behind = st.requires.0.fits;
     }
@@ -54,7 +54,7 @@ copy-into-requires c κs =
     let st = t.before in
     let a = st.args in
     let l = t.loop in (
-      rows-copies a.index a.work.now a.from a.h a.w st.requires.0 l.work l.n l.at l.invariant c.before.loop-test.true,
+      rows_copies a.index a.work.now a.from a.h a.w st.requires.0 l.work l.n l.at l.invariant c.before.loop-test.true,
       rw st.requires.1.1 (bits-le a.index st.requires.1.0),
     )
 
@@ -100,7 +100,7 @@ returns : tie.Need-returns invariant-loop decreases-loop
 returns c =
     let a = c.before.before.args in
     let l = c.before.loop in
-    rows_all a.index (asPlane a.w (drop a.from a.work.now)) a.work.now a.h a.w l.work l.n l.at l.invariant (omega arith)
+    rows_all a.index (as_plane a.w (drop a.from a.work.now)) a.work.now a.h a.w l.work l.n l.at l.invariant (omega arith)
 
 pub rows-spec : {M : Type 1} → statement M
 rows-spec =

@@ -1,6 +1,6 @@
 -- `plane::vh_bands` meets its contract.
 use Rattle.std.proofs.Common.{sym, rules}
-use Rattle.wavelet.specs.Laws.Level.{vh-plane, vh-bands, vh-bands-are}
+use Rattle.wavelet.specs.Laws.Level.{vh_plane, vh_bands, vh_bands_are}
 use Rattle.wavelet.proofs.plane.vh_bands.Statement.{statement}
 use Rattle.wavelet.proofs.plane.vh_bands.Tie as tie
 
@@ -18,13 +18,13 @@ slice-aggregate-columns : tie.Need-slice-aggregate-columns
 slice-aggregate-columns c =
     let st = c.before in
     let a = st.args in
-    sym (vh-plane a.n a.off a.h a.w a.work.now st.requires.1.0 st.requires.0).long
+    sym (vh_plane a.n a.off a.h a.w a.work.now st.requires.1.0 st.requires.0).long
 
 columns-requires : tie.Need-columns-requires
 columns-requires c κs =
     let st = c.before in
     let a = st.args in
-    (vh-plane a.n a.off a.h a.w a.work.now st.requires.1.0 st.requires.0, st.requires.1.1)
+    (vh_plane a.n a.off a.h a.w a.work.now st.requires.1.0 st.requires.0, st.requires.1.1)
 
 add-bands : tie.Need-overflow-add-bands
 add-bands c = search rules
@@ -35,7 +35,7 @@ bands-requires c κs =
     let st = t.before.before in
     let a = st.args in
     let g = t.columns in
-    vh-bands a.n a.off a.h a.w a.work.now st.requires.1.0 g.new.0 st.requires.0 g.auto.0
+    vh_bands a.n a.off a.h a.w a.work.now st.requires.1.0 g.new.0 st.requires.0 g.auto.0
 
 same_length : tie.Need-same-length
 same_length c = search rules
@@ -46,7 +46,7 @@ returns c =
     let a = st.args in
     let g = (after-columns c.before).columns in
     let b = c.before.bands in
-    vh-bands-are a.n a.off a.h a.w a.work.now st.pre.1.0 a.iv b.new.0 g.last.0 st.pre.0 g.ensures b.ensures
+    vh_bands_are a.n a.off a.h a.w a.work.now st.pre.1.0 a.iv b.new.0 g.last.0 st.pre.0 g.ensures b.ensures
 
 pub vh-bands-spec : {M : Type 1} → statement M
 vh-bands-spec =

@@ -1,10 +1,10 @@
 -- `coder::analysis::analyse` meets its contract.
 use Prim.Native.Nat.{ℕ, ◌+◌, ◌-◌, ◌*◌}
 use lib.ListN.{drop}
-use Rattle.unit.specs.Laws.Valid.{levels-few}
-use Rattle.unit.specs.Sizes.{lumaSize, colourSize}
+use Rattle.unit.specs.Laws.Valid.{levels_few}
+use Rattle.unit.specs.Sizes.{luma_size, colour_size}
 use Rattle.unit.specs.Three.{planes}
-use Rattle.picture.specs.Laws.Analysis.{padded-asks, taken_is, Taken, taken-of, front-is, components-in, Sampled, front-room, analysed-of}
+use Rattle.picture.specs.Laws.Analysis.{padded_asks, taken_is, Taken, taken_of_lem, front_is, components_in, Sampled, front_room, analysed-of}
 use native.Mathlib.Omega.{arith}
 use borrow.Author.Rules.{rules}
 use Rattle.picture.proofs.coder.analysis.analyse.Statement.{statement}
@@ -62,9 +62,9 @@ known c =
     let y = first.component-of in
     let q = c.before.padded-size2 in
     let u = c.component-of2 in
-    taken-of s (planes a.y.now a.c1.now a.c2.now) a.work.now st.pre y.result u.result
-    (taken_is s (lumaSize s) s.luma_excursion l.result p.result y.result l.ensures p.ensures y.ensures)
-    (taken_is s (colourSize s) s.color_diff_excursion k.result q.result u.result k.ensures q.ensures u.ensures)
+    taken_of_lem s (planes a.y.now a.c1.now a.c2.now) a.work.now st.pre y.result u.result
+    (taken_is s (luma_size s) s.luma_excursion l.result p.result y.result l.ensures p.ensures y.ensures)
+    (taken_is s (colour_size s) s.color_diff_excursion k.result q.result u.result k.ensures q.ensures u.ensures)
 
 luma-size-requires : tie.Need-luma-size-requires
 luma-size-requires c κs = search rules
@@ -76,7 +76,7 @@ padded-size-requires : tie.Need-padded-size-requires
 padded-size-requires c κs =
     let st = sized c in
     let l = c.before.luma-size in
-    padded-asks st.args.s l.result (lumaSize st.args.s) (levels-few st.args.s st.pre.shape) st.pre.luma l.ensures
+    padded_asks st.args.s l.result (luma_size st.args.s) (levels_few st.args.s st.pre.shape) st.pre.luma l.ensures
 
 component-of-requires : tie.Need-component-of-requires
 component-of-requires c κs = search rules
@@ -86,27 +86,27 @@ padded-size-requires-2 c κs =
     let z = sizes c in
     let st = sized z in
     let k = z.colour-size in
-    padded-asks st.args.s k.result (colourSize st.args.s) (levels-few st.args.s st.pre.shape) st.pre.colour k.ensures
+    padded_asks st.args.s k.result (colour_size st.args.s) (levels_few st.args.s st.pre.shape) st.pre.colour k.ensures
 
 component-of-requires-2 : tie.Need-component-of-requires-2
 component-of-requires-2 c κs = search rules
 
 mul-front : tie.Need-overflow-mul-front
-mul-front c = omega (arith, (known c.before).luma-few)
+mul-front c = omega (arith, (known c.before).luma_few)
 
 mul-front-2 : tie.Need-overflow-mul-front-2
-mul-front-2 c = omega (arith, (known c.before.before).colour-few)
+mul-front-2 c = omega (arith, (known c.before.before).colour_few)
 
 add-front : tie.Need-overflow-add-front
-add-front c = let k = known c.before.before in omega (arith, k.luma-few, k.colour-few)
+add-front c = let k = known c.before.before in omega (arith, k.luma_few, k.colour_few)
 
 mul-front-3 : tie.Need-overflow-mul-front-3
-mul-front-3 c = let t = c.before.before in omega (arith, (known t.before).colour-few)
+mul-front-3 c = let t = c.before.before in omega (arith, (known t.before).colour_few)
 
 add-front-2 : tie.Need-overflow-add-front-2
 add-front-2 c =
     let t = c.before.before in
-    let k = known t.before in omega (arith, k.luma-few, k.colour-few)
+    let k = known t.before in omega (arith, k.luma_few, k.colour_few)
 
 cast-t13 : tie.Need-overflow-cast-t13
 cast-t13 c = search rules
@@ -121,7 +121,7 @@ analyse-components-requires c κs =
     let a = st.args in
     let l = at.before.before.component-of.result in
     let u = at.component-of2.result in
-    components-in a.s (planes a.y.now a.c1.now a.c2.now) a.work.now st.pre l u (known at) (l.pw * l.ph + u.pw * u.ph + u.pw * u.ph) (front-is a.s l u (known at))
+    components_in a.s (planes a.y.now a.c1.now a.c2.now) a.work.now st.pre l u (known at) (l.pw * l.ph + u.pw * u.ph + u.pw * u.ph) (front_is a.s l u (known at))
 
 sub-clear : tie.Need-overflow-sub-clear
 sub-clear c = search rules
@@ -135,7 +135,7 @@ part-clear-end c =
     let st = start at in
     let a = st.args in
     let r = c.before.analyse-components in
-    front-room a.s (planes a.y.now a.c1.now a.c2.now) a.work.now r.new.0 st.pre at.before.before.component-of.result at.component-of2.result (known at) r.auto.0
+    front_room a.s (planes a.y.now a.c1.now a.c2.now) a.work.now r.new.0 st.pre at.before.before.component-of.result at.component-of2.result (known at) r.auto.0
 
 clear-requires : tie.Need-clear-requires
 clear-requires c κs = search rules
@@ -154,7 +154,7 @@ returns c =
     let r = (after-analyse-components c.before).analyse-components in
     let z = c.before.clear in
     let n : ℕ = l.pw * l.ph + u.pw * u.ph + u.pw * u.ph in (
-      analysed-of a.s (planes a.y.now a.c1.now a.c2.now) w r.last.0 z.new.0 st.pre (samples (sizes at.before.before).before.before) l u (known at) n (n - 0) (front-is a.s l u (known at)) (omega arith)
+      analysed-of a.s (planes a.y.now a.c1.now a.c2.now) w r.last.0 z.new.0 st.pre (samples (sizes at.before.before).before.before) l u (known at) n (n - 0) (front_is a.s l u (known at)) (omega arith)
           (drop (l.ph * l.pw + u.ph * u.pw + u.ph * u.pw) (drop n w)) r.kept.0 r.ensures z.ensures (same_length c),
       same_length c,
     )

@@ -5,7 +5,7 @@ use Prim.Native.Nat.{◌-◌, ◌≤◌}
 use lib.IntN.{pos}
 use lib.ListN.{length, drop, length-set}
 use Rattle.laws.specs.Rows.{row}
-use Rattle.laws.specs.Laws.Chunks.{fill-turn, fill-all}
+use Rattle.laws.specs.Laws.Chunks.{fill-turn, fill_all}
 use Rattle.picture.specs.Laws.Analysis.{zeros-row}
 use native.Mathlib.Omega.{arith}
 use Rattle.picture.proofs.coder.analysis.clear.Statement.{statement}
@@ -47,7 +47,7 @@ returns : tie.Need-returns invariant-loop decreases-loop
 returns c =
     let l = c.before.loop in
     let a = c.before.before.args.a.now in
-    l.invariant.2 ∙ fill-all (λ k. pos 0) a l.i (omega arith) ∙ zeros-row (length a)
+    l.invariant.2 ∙ fill_all (λ k. pos 0) a l.i (omega arith) ∙ zeros-row (length a)
 
 pub clear_spec : {M : Type 1} → statement M
 clear_spec =

@@ -6,11 +6,11 @@ use Prim.Native.Nat.{ℕ, ◌-◌, ◌^◌, ◌≤◌, ◌<◌}
 use native.Mathlib.Omega.{arith}
 use lib.IntN.{ℤ}
 use lib.ListN.{length}
-use Rattle.picture.specs.Code.Picture.{slicesIn}
-use Rattle.picture.specs.Code.Choice.{planIn, words_to, PlanIn}
+use Rattle.picture.specs.Code.Picture.{slices_in}
+use Rattle.picture.specs.Code.Choice.{plan_in, words_to, PlanIn}
 use Rattle.picture.specs.Code.Passes.{PlansOn, PlansTo}
 use Rattle.picture.specs.Code.Notes.{Notes}
-use Rattle.picture.specs.Laws.HighPlan.{plans-none, plans-more}
+use Rattle.picture.specs.Laws.HighPlan.{plans_none, plans_more}
 use Rattle.picture.proofs.coder.passes.plan_noted_slices.Statement.{statement}
 use Rattle.picture.proofs.coder.passes.plan_noted_slices.Tie as tie
 use Rattle.picture.proofs.coder.passes.plan_noted_slices.Reads as reads
@@ -20,10 +20,10 @@ use Rattle.picture.proofs.coder.slice_coder.SliceCoder.new.Reads as new-reads
 use Rattle.picture.proofs.coder.slice_coder.SliceCoder.plan_noted_slice.Reads as plan-noted-slice-reads
 
 abbrev invariant-loop : tie.invariant-loop
-invariant-loop work₀ p t at slices c₀ k₀ work c k = (k ≤ slicesIn p) × (PlansTo work₀ p t at k c × (work ≡ work₀))
+invariant-loop work₀ p t at slices c₀ k₀ work c k = (k ≤ slices_in p) × (PlansTo work₀ p t at k c × (work ≡ work₀))
 
 abbrev decreases-loop : tie.decreases-loop
-decreases-loop work₀ p t at slices c₀ k₀ work c k = slicesIn p - k
+decreases-loop work₀ p t at slices c₀ k₀ work c k = slices_in p - k
 
 -- earlier states
 abbrev after-new : tie.After-plan-noted-slice-arg invariant-loop decreases-loop → tie.After-new invariant-loop decreases-loop
@@ -42,15 +42,15 @@ loop-holds : tie.Need-loop-init invariant-loop decreases-loop
 loop-holds c =
     let a = c.before.before.args in
     let n = c.new in
-    (omega arith, (plans-none a.work.now a.p a.t a.at n.result n.ensures.0 n.ensures.1.0 n.ensures.1.1.0 n.ensures.1.1.1.0, refl))
+    (omega arith, (plans_none a.work.now a.p a.t a.at n.result n.ensures.0 n.ensures.1.0 n.ensures.1.1.0 n.ensures.1.1.1.0, refl))
 
 plan-noted-slice-requires : tie.Need-plan-noted-slice-requires invariant-loop decreases-loop
 plan-noted-slice-requires c κs =
     let st = (after-new c).before.before in
     let a = st.args in
     let l = c.before.before.loop in
-    let n = (after-new c).before.slice-count in
-    subst (λ (v : List ℤ). PlanIn a.p a.t v × ((l.k < slicesIn a.p) × (Notes v a.p a.t (slicesIn a.p) v
+    let n = (after-new c).before.slice_count_lem in
+    subst (λ (v : List ℤ). PlanIn a.p a.t v × ((l.k < slices_in a.p) × (Notes v a.p a.t (slices_in a.p) v
     × ((l.c.at < 2 ^ 60) × (l.c.words ≡ length (words_to v a.p a.t l.k)))))) (sym l.invariant.1.1) (
       st.pre.0,
       (
@@ -63,17 +63,17 @@ add-k : tie.Need-overflow-add-k invariant-loop decreases-loop
 add-k c = omega arith
 
 loop-less : tie.Need-loop-smaller invariant-loop decreases-loop
-loop-less c = omega (arith, (in-loop c).loop-test.true, (after-new c.before.before).before.slice-count.ensures.0)
+loop-less c = omega (arith, (in-loop c).loop-test.true, (after-new c.before.before).before.slice_count_lem.ensures.0)
 
 loop-again : tie.Need-loop-preserved invariant-loop decreases-loop
 loop-again c =
     let a = (after-new c.before.before).before.before.args in
     let l = (in-loop c).before.loop in
-    let n = (after-new c.before.before).before.slice-count in
-    let k : l.k < slicesIn a.p = omega (arith, (in-loop c).loop-test.true, n.ensures.0) in
+    let n = (after-new c.before.before).before.slice_count_lem in
+    let k : l.k < slices_in a.p = omega (arith, (in-loop c).loop-test.true, n.ensures.0) in
     let s = c.before.plan-noted-slice in
-    let o = subst (λ (v : List ℤ). PlansOn (planIn v a.p a.t l.k) l.c s.result) l.inv.1.1 s.ensures.0 in
-    (omega (arith, k), (plans-more a.work.now a.p a.t a.at l.k l.c s.result l.inv.1.0 o, s.ensures.1 ∙ l.inv.1.1))
+    let o = subst (λ (v : List ℤ). PlansOn (plan_in v a.p a.t l.k) l.c s.result) l.inv.1.1 s.ensures.0 in
+    (omega (arith, k), (plans_more a.work.now a.p a.t a.at l.k l.c s.result l.inv.1.0 o, s.ensures.1 ∙ l.inv.1.1))
 
 same_length : tie.Need-same-length invariant-loop decreases-loop
 same_length c = ap length c.before.loop.invariant.1.1
@@ -83,7 +83,7 @@ returns c =
     let t = c.before.before in
     let a = t.before.before.args in
     let l = c.before.loop in
-    let e : l.k ≡ slicesIn a.p = omega (arith, l.invariant.0, c.loop-test.false, t.before.slice-count.ensures.0) in
+    let e : l.k ≡ slices_in a.p = omega (arith, l.invariant.0, c.loop-test.false, t.before.slice_count_lem.ensures.0) in
     (subst (λ (k : ℕ). PlansTo a.work.now a.p a.t a.at k l.c) e l.invariant.1.0, l.invariant.1.1)
 
 pub plan-noted-slices-spec : {M : Type 1} → statement M

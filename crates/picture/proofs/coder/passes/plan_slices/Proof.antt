@@ -2,11 +2,11 @@
 -- packed and their choices noted.
 use mathlib.Core.Path.{◌≡◌, subst}
 use Prim.Native.Nat.{ℕ, ◌-◌, ◌≤◌, ◌<◌}
-use Rattle.picture.specs.Code.Picture.{slicesIn}
+use Rattle.picture.specs.Code.Picture.{slices_in}
 use Rattle.picture.specs.Code.Passes.{PlansTo}
 use Rattle.picture.specs.Code.Notes.{Notes}
-use Rattle.picture.specs.Laws.HighPlan.{plans-none, plans-more}
-use Rattle.picture.specs.Laws.Noted.{words-room, notes-none, notes-plan, notes-more, plans-noted}
+use Rattle.picture.specs.Laws.HighPlan.{plans_none, plans_more}
+use Rattle.picture.specs.Laws.Noted.{words_room, notes_none, notes_plan, notes_more, plans_noted}
 use native.Mathlib.Omega.{arith}
 use Rattle.picture.proofs.coder.passes.plan_slices.Statement.{statement}
 use Rattle.picture.proofs.coder.passes.plan_slices.Tie as tie
@@ -17,10 +17,10 @@ use Rattle.picture.proofs.coder.slice_coder.SliceCoder.new.Reads as new-reads
 use Rattle.picture.proofs.coder.slice_coder.SliceCoder.plan_hq_slice.Reads as plan-hq-slice-reads
 
 abbrev invariant-loop : tie.invariant-loop
-invariant-loop work₀ p t at slices c₀ k₀ work c k = (k ≤ slicesIn p) × (PlansTo work₀ p t at k c × Notes work₀ p t k work)
+invariant-loop work₀ p t at slices c₀ k₀ work c k = (k ≤ slices_in p) × (PlansTo work₀ p t at k c × Notes work₀ p t k work)
 
 abbrev decreases-loop : tie.decreases-loop
-decreases-loop work₀ p t at slices c₀ k₀ work c k = slicesIn p - k
+decreases-loop work₀ p t at slices c₀ k₀ work c k = slices_in p - k
 
 -- earlier states
 abbrev after-new : tie.After-plan-hq-slice-arg invariant-loop decreases-loop → tie.After-new invariant-loop decreases-loop
@@ -39,36 +39,36 @@ loop-holds : tie.Need-loop-init invariant-loop decreases-loop
 loop-holds c =
     let a = c.before.before.args in
     let n = c.new in
-    (omega arith, (plans-none a.work.now a.p a.t a.at n.result n.ensures.0 n.ensures.1.0 n.ensures.1.1.0 n.ensures.1.1.1.0, notes-none c.before.before.requires.0.small))
+    (omega arith, (plans_none a.work.now a.p a.t a.at n.result n.ensures.0 n.ensures.1.0 n.ensures.1.1.0 n.ensures.1.1.1.0, notes_none c.before.before.requires.0.small))
 
 plan-hq-slice-requires : tie.Need-plan-hq-slice-requires invariant-loop decreases-loop
 plan-hq-slice-requires c κs =
     let st = (after-new c).before.before in
     let l = c.before.before.loop in
-    let n = (after-new c).before.slice-count in
-    let h = notes-plan l.invariant.1.1 st.pre.0 in
+    let n = (after-new c).before.slice_count_lem in
+    let h = notes_plan l.invariant.1.1 st.pre.0 in
     let a = st.args in
-    let k : l.k < slicesIn a.p = omega (arith, c.before.loop-test.true, n.ensures.0) in (
+    let k : l.k < slices_in a.p = omega (arith, c.before.loop-test.true, n.ensures.0) in (
       h,
-      (k, (omega (arith, l.invariant.1.0.near, c.before.loop-test.true, n.ensures.1, st.pre.1), omega (arith, l.invariant.1.0.words, words-room a.work.now a.p a.t l.k st.pre.0.arranged k))),
+      (k, (omega (arith, l.invariant.1.0.near, c.before.loop-test.true, n.ensures.1, st.pre.1), omega (arith, l.invariant.1.0.words, words_room a.work.now a.p a.t l.k st.pre.0.arranged k))),
     )
 
 add-k : tie.Need-overflow-add-k invariant-loop decreases-loop
 add-k c = omega arith
 
 loop-less : tie.Need-loop-smaller invariant-loop decreases-loop
-loop-less c = omega (arith, (in-loop c).loop-test.true, (after-new c.before.before).before.slice-count.ensures.0)
+loop-less c = omega (arith, (in-loop c).loop-test.true, (after-new c.before.before).before.slice_count_lem.ensures.0)
 
 loop-again : tie.Need-loop-preserved invariant-loop decreases-loop
 loop-again c =
     let st = (after-new c.before.before).before.before in
     let a = st.args in
     let l = (in-loop c).before.loop in
-    let n = (after-new c.before.before).before.slice-count in
-    let k : l.k < slicesIn a.p = omega (arith, (in-loop c).loop-test.true, n.ensures.0) in
+    let n = (after-new c.before.before).before.slice_count_lem in
+    let k : l.k < slices_in a.p = omega (arith, (in-loop c).loop-test.true, n.ensures.0) in
     let s = c.before.plan-hq-slice in
-    let o = plans-noted l.k l.c s.result st.pre.0 k l.inv.1.1 s.ensures.0 in
-    (omega (arith, k), (plans-more a.work.now a.p a.t a.at l.k l.c s.result l.inv.1.0 o, notes-more l.k l.c.words st.pre.0 k l.inv.1.1 l.inv.1.0.words s.ensures.1.0 s.ensures.1.1))
+    let o = plans_noted l.k l.c s.result st.pre.0 k l.inv.1.1 s.ensures.0 in
+    (omega (arith, k), (plans_more a.work.now a.p a.t a.at l.k l.c s.result l.inv.1.0 o, notes_more l.k l.c.words st.pre.0 k l.inv.1.1 l.inv.1.0.words s.ensures.1.0 s.ensures.1.1))
 
 same_length : tie.Need-same-length invariant-loop decreases-loop
 same_length c = c.before.loop.invariant.1.1.size
@@ -78,7 +78,7 @@ returns c =
     let t = c.before.before in
     let a = t.before.before.args in
     let l = c.before.loop in
-    let e : l.k ≡ slicesIn a.p = omega (arith, l.invariant.0, c.loop-test.false, t.before.slice-count.ensures.0) in
+    let e : l.k ≡ slices_in a.p = omega (arith, l.invariant.0, c.loop-test.false, t.before.slice_count_lem.ensures.0) in
     (subst (λ (k : ℕ). PlansTo a.work.now a.p a.t a.at k l.c) e l.invariant.1.0, subst (λ (k : ℕ). Notes a.work.now a.p a.t k l.work) e l.invariant.1.1)
 
 pub plan-slices-spec : {M : Type 1} → statement M

@@ -9,10 +9,10 @@ use lib.ListN.{length, length-append}
 use Rattle.laws.specs.Laws.Chunks.{chunks-none, chunks-more}
 use Rattle.laws.specs.Code.Laid.{Lays}
 use Rattle.codewords.specs.Bytes.{to_bytes}
-use Rattle.picture.specs.Code.Picture.{slicesIn}
-use Rattle.picture.specs.Code.Choice.{planIn, highRuns, words_in, words_to, PlanIn}
+use Rattle.picture.specs.Code.Picture.{slices_in}
+use Rattle.picture.specs.Code.Choice.{plan_in, high_runs, words_in, words_to, PlanIn}
 use Rattle.picture.specs.Code.Notes.{Notes}
-use Rattle.picture.specs.Laws.HighSlice.{slices-none, slices-room, slices-next, slices-all}
+use Rattle.picture.specs.Laws.HighSlice.{slices-none, slices_room, slices-next, slices_all}
 use Rattle.picture.proofs.coder.passes.put_hq_slices.Statement.{statement}
 use Rattle.picture.proofs.coder.passes.put_hq_slices.Tie as tie
 use Rattle.picture.proofs.coder.passes.put_hq_slices.Reads as reads
@@ -23,7 +23,7 @@ use Rattle.picture.proofs.coder.slice_coder.SliceCoder.new.Reads as new-reads
 
 abbrev invariant-loop : tie.invariant-loop
 invariant-loop out₀ at work₀ p t slices c₀ k₀ out work c k =
-    (k ≤ slices) × (Lays out₀ at (highRuns work₀ p t k) out c.at × ((c.cut_slices ≡ 0) × ((c.words ≡ length (words_to work₀ p t k)) × (work ≡ work₀))))
+    (k ≤ slices) × (Lays out₀ at (high_runs work₀ p t k) out c.at × ((c.cut_slices ≡ 0) × ((c.words ≡ length (words_to work₀ p t k)) × (work ≡ work₀))))
 
 abbrev decreases-loop : tie.decreases-loop
 decreases-loop out₀ at work₀ p t slices c₀ k₀ out work c k = slices - k
@@ -67,10 +67,10 @@ code-hq-slice-requires c κs =
     let st = begin (at-loop c) in
     let a = st.args in
     let v = (at-loop c).loop in
-    let l : v.k < slicesIn a.p = omega (arith, c.before.before.loop-test.true, (at-loop c).before.before.slice-count.ensures.0) in
-    subst (λ (w : List ℤ). PlanIn a.p a.t w × ((v.k < slicesIn a.p) × (Notes w a.p a.t (slicesIn a.p) w
-    × ((v.c.words ≡ length (words_to w a.p a.t v.k)) × (v.c.at + length (to_bytes (planIn w a.p a.t v.k).bits) ≤ length v.out))))) (sym v.inv.1.1.1.1)
-    (st.pre.0, (l, (st.pre.1.0, (v.inv.1.1.1.0, slices-room a.work.now a.p a.t v.k v.inv.1.0 (slicesIn a.p) l st.pre.1.1))))
+    let l : v.k < slices_in a.p = omega (arith, c.before.before.loop-test.true, (at-loop c).before.before.slice_count_lem.ensures.0) in
+    subst (λ (w : List ℤ). PlanIn a.p a.t w × ((v.k < slices_in a.p) × (Notes w a.p a.t (slices_in a.p) w
+    × ((v.c.words ≡ length (words_to w a.p a.t v.k)) × (v.c.at + length (to_bytes (plan_in w a.p a.t v.k).bits) ≤ length v.out))))) (sym v.inv.1.1.1.1)
+    (st.pre.0, (l, (st.pre.1.0, (v.inv.1.1.1.0, slices_room a.work.now a.p a.t v.k v.inv.1.0 (slices_in a.p) l st.pre.1.1))))
 
 add-k : tie.Need-overflow-add-k invariant-loop decreases-loop
 add-k c = omega arith
@@ -84,7 +84,7 @@ loop-again c =
     let v = (at-loop (after-code-hq-slice c).before).loop in
     let e = v.inv.1.1.1.1 in
     let s = (after-code-hq-slice c).code-hq-slice in
-    let o = subst (λ (w : List ℤ). Lays v.out v.c.at (to_bytes (planIn w a.p a.t v.k).bits) s.last.1.0 s.result.at) e s.ensures.0 in
+    let o = subst (λ (w : List ℤ). Lays v.out v.c.at (to_bytes (plan_in w a.p a.t v.k).bits) s.last.1.0 s.result.at) e s.ensures.0 in
     let F = words_in a.work.now a.p a.t in
     let n = s.ensures.1.1.1.0 ∙ ap (λ (w : List ℤ). v.c.words + length (words_in w a.p a.t v.k)) e in (
       omega (arith, (in-loop (after-code-hq-slice c)).loop-test.taken),
@@ -110,8 +110,8 @@ returns : tie.Need-returns invariant-loop decreases-loop
 returns c =
     let a = (begin c.before).args in
     let v = c.before.loop in
-    let e : v.k ≡ slicesIn a.p = omega (arith, v.invariant.0, c.loop-test.false, (after-slice-count c).slice-count.ensures.0) in
-    (slices-all a.work.now a.p a.t v.k v.invariant.1.0 (slicesIn a.p) e, (v.invariant.1.1.0, v.invariant.1.1.1.1))
+    let e : v.k ≡ slices_in a.p = omega (arith, v.invariant.0, c.loop-test.false, (after-slice-count c).slice_count_lem.ensures.0) in
+    (slices_all a.work.now a.p a.t v.k v.invariant.1.0 (slices_in a.p) e, (v.invariant.1.1.0, v.invariant.1.1.1.1))
 
 pub put-hq-slices-spec : {M : Type 1} → statement M
 put-hq-slices-spec =

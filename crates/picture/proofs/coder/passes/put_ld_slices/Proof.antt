@@ -2,8 +2,8 @@
 use mathlib.Core.Path.{◌≡◌, ap, ◌∙◌}
 use Prim.Native.Nat.{◌-◌, ◌<◌}
 use lib.ListN.{length}
-use Rattle.picture.specs.Code.Picture.{slicesIn}
-use Rattle.picture.specs.Laws.LowSlice.{Coded, coded_none, coded_in, coded-room, coded-more, work-size}
+use Rattle.picture.specs.Code.Picture.{slices_in}
+use Rattle.picture.specs.Laws.LowSlice.{Coded, coded_none, coded_in, coded_room, coded-more, work_size}
 use native.Mathlib.Omega.{arith}
 use Rattle.picture.proofs.coder.passes.put_ld_slices.Statement.{statement}
 use Rattle.picture.proofs.coder.passes.put_ld_slices.Tie as tie
@@ -47,8 +47,8 @@ code-ld-slice-requires : tie.Need-code-ld-slice-requires invariant-loop decrease
 code-ld-slice-requires c κs =
     let st = begin (at-loop c) in
     let h = (at-loop c).loop.invariant in
-    let l : (at-loop c).loop.k < slicesIn st.args.p = omega (arith, c.before.before.loop-test.true, (at-loop c).before.before.slice-count.ensures.0) in
-    (coded_in st.pre.0 h l, (l, (h.few, coded-room st.pre.0 h l st.pre.1)))
+    let l : (at-loop c).loop.k < slices_in st.args.p = omega (arith, c.before.before.loop-test.true, (at-loop c).before.before.slice_count_lem.ensures.0) in
+    (coded_in st.pre.0 h l, (l, (h.few, coded_room st.pre.0 h l st.pre.1)))
 
 add-k : tie.Need-overflow-add-k invariant-loop decreases-loop
 add-k c = omega arith
@@ -60,7 +60,7 @@ loop-again : tie.Need-loop-preserved invariant-loop decreases-loop
 loop-again c =
     let st = begin (at-loop (after-code-ld-slice c).before) in
     let e = (after-code-ld-slice c).code-ld-slice.ensures in
-    let l : (at-loop (after-code-ld-slice c).before).loop.k < slicesIn st.args.p = omega (arith, (in-loop (after-code-ld-slice c)).loop-test.taken, (at-loop (after-code-ld-slice c).before).before.before.slice-count.ensures.0) in
+    let l : (at-loop (after-code-ld-slice c).before).loop.k < slices_in st.args.p = omega (arith, (in-loop (after-code-ld-slice c)).loop-test.taken, (at-loop (after-code-ld-slice c).before).before.before.slice_count_lem.ensures.0) in
     coded-more st.pre.0 (at-loop (after-code-ld-slice c).before).loop.inv l e.0 e.1.0 e.1.1.0 e.1.1.1.0
 
 same_length : tie.Need-same-length invariant-loop decreases-loop
@@ -69,14 +69,14 @@ same_length c = c.before.loop.invariant.lays.size
 same-length-2 : tie.Need-same-length-2 invariant-loop decreases-loop
 same-length-2 c =
     let a = (begin c.before).args in
-    ap length c.before.loop.invariant.work ∙ work-size a.p a.n a.work.now c.before.loop.k
+    ap length c.before.loop.invariant.work ∙ work_size a.p a.n a.work.now c.before.loop.k
 
 returns : tie.Need-returns invariant-loop decreases-loop
 returns c =
     let a = (begin c.before).args in
     let h = c.before.loop.invariant in
-    let e : c.before.loop.k ≡ slicesIn a.p = omega (arith, h.many, c.loop-test.false, (after-slice-count c).slice-count.ensures.0) in
-    let g : Coded a.p a.n a.work.now a.out.now a.at (slicesIn a.p) c.before.loop.work c.before.loop.out c.before.loop.c = rw e at h in
+    let e : c.before.loop.k ≡ slices_in a.p = omega (arith, h.many, c.loop-test.false, (after-slice-count c).slice_count_lem.ensures.0) in
+    let g : Coded a.p a.n a.work.now a.out.now a.at (slices_in a.p) c.before.loop.work c.before.loop.out c.before.loop.c = rw e at h in
     (g.lays, (g.cuts, g.work))
 
 pub put-ld-slices-spec : {M : Type 1} → statement M

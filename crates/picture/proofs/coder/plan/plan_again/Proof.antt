@@ -3,11 +3,11 @@ use mathlib.Core.Path.{refl, sym, ap, ◌∙◌, subst}
 use mathlib.Core.List.{List}
 use lib.IntN.{ℤ}
 use Rattle.picture.specs.declared.high.size.Terms.{Terms}
-use Rattle.picture.specs.Code.Matrix.{lentIn}
-use Rattle.picture.specs.Code.Picture.{slicesIn}
-use Rattle.picture.specs.Code.Choice.{termsOf}
+use Rattle.picture.specs.Code.Matrix.{lent_in}
+use Rattle.picture.specs.Code.Picture.{slices_in}
+use Rattle.picture.specs.Code.Choice.{terms_of}
 use Rattle.picture.specs.Code.Notes.{Notes}
-use Rattle.picture.specs.Laws.HighPlan.{plan-in, plans-same, slicesFrom}
+use Rattle.picture.specs.Laws.HighPlan.{plan_in_lem, plans_same, slices_from}
 use borrow.Author.Rules.{rules}
 use Rattle.picture.proofs.coder.plan.plan_again.Statement.{statement}
 use Rattle.picture.proofs.coder.plan.plan_again.Tie as tie
@@ -43,7 +43,7 @@ plan-noted-slices-requires c κs =
     let i = k.before in
     let st = i.before.before in
     let t = k.terms-of in (
-      plan-in (lentIn st.args.m) st.args.c st.requires.0 st.requires.1.1.0.0 st.requires.1.1.0.1 t.result t.ensures,
+      plan_in_lem (lent_in st.args.m) st.args.c st.requires.0 st.requires.1.1.0.0 st.requires.1.1.0.1 t.result t.ensures,
       (st.requires.1.1.1.notes (sym i.before.is-target.ensures ∙ i.if1.false) t.result (ap (λ (t : Terms). t.rate) t.ensures), c.before.overhead.ensures.1),
     )
 
@@ -60,10 +60,10 @@ returns-2 c =
     let t = k.terms-of in
     let o = b.before.overhead in
     let r = c.before.plan-noted-slices in
-    let u = termsOf a.s (lentIn a.m) a.c in (
-      plans-same a.work.now a.p t.result u o.result (slicesFrom a.s (lentIn a.m) a.c) (slicesIn a.p)
+    let u = terms_of a.s (lent_in a.m) a.c in (
+      plans_same a.work.now a.p t.result u o.result (slices_from a.s (lent_in a.m) a.c) (slices_in a.p)
           r.result t.ensures o.ensures.0 r.ensures.0,
-      subst (λ (v : List ℤ). Notes a.work.now a.p u (slicesIn a.p) v) (sym r.ensures.1)
+      subst (λ (v : List ℤ). Notes a.work.now a.p u (slices_in a.p) v) (sym r.ensures.1)
           (st.requires.1.1.1.notes (sym i.before.is-target.ensures ∙ i.if1.false) u refl),
     )
 

@@ -1,11 +1,11 @@
 -- `coder::plan::plan_picture` meets its contract.
 use mathlib.Core.Path.{subst}
 use Rattle.picture.specs.declared.high.size.Terms.{Terms}
-use Rattle.picture.specs.Code.Matrix.{lentIn}
-use Rattle.picture.specs.Code.Picture.{slicesIn}
-use Rattle.picture.specs.Code.Choice.{termsOf}
+use Rattle.picture.specs.Code.Matrix.{lent_in}
+use Rattle.picture.specs.Code.Picture.{slices_in}
+use Rattle.picture.specs.Code.Choice.{terms_of}
 use Rattle.picture.specs.Code.Notes.{Notes}
-use Rattle.picture.specs.Laws.HighPlan.{plan-in, plans-same, slicesFrom}
+use Rattle.picture.specs.Laws.HighPlan.{plan_in_lem, plans_same, slices_from}
 use borrow.Author.Rules.{rules}
 use Rattle.picture.proofs.coder.plan.plan_picture.Statement.{statement}
 use Rattle.picture.proofs.coder.plan.plan_picture.Tie as tie
@@ -26,7 +26,7 @@ plan-slices-requires c κs =
     let k = c.before.before in
     let st = k.before in
     let t = k.terms-of in
-    (plan-in (lentIn st.args.m) st.args.c st.requires.0 st.requires.1.1.0 st.requires.1.1.1 t.result t.ensures, c.before.overhead.ensures.1)
+    (plan_in_lem (lent_in st.args.m) st.args.c st.requires.0 st.requires.1.1.0 st.requires.1.1.1 t.result t.ensures, c.before.overhead.ensures.1)
 
 same_length : tie.Need-same-length
 same_length c = search rules
@@ -39,9 +39,9 @@ returns c =
     let t = k.terms-of in
     let o = b.before.overhead in
     let r = c.before.plan-slices in (
-      plans-same a.work.now a.p t.result (termsOf a.s (lentIn a.m) a.c) o.result (slicesFrom a.s (lentIn a.m) a.c) (slicesIn a.p)
+      plans_same a.work.now a.p t.result (terms_of a.s (lent_in a.m) a.c) o.result (slices_from a.s (lent_in a.m) a.c) (slices_in a.p)
           r.result t.ensures o.ensures.0 r.ensures.0,
-      subst (λ (t : Terms). Notes a.work.now a.p t (slicesIn a.p) r.new.0) t.ensures r.ensures.1,
+      subst (λ (t : Terms). Notes a.work.now a.p t (slices_in a.p) r.new.0) t.ensures r.ensures.1,
     )
 
 pub plan-picture-spec : {M : Type 1} → statement M

@@ -2,12 +2,12 @@
 -- the turns from c end where those from the first scaler do.
 use mathlib.Core.Path.{refl, ◌∙◌}
 use Prim.Native.Nat.{◌-◌, ◌^◌}
-use Rattle.picture.specs.Code.Matrix.{lentIn}
-use Rattle.picture.specs.Code.Picture.{slicesIn}
-use Rattle.picture.specs.Code.Choice.{termsOf}
+use Rattle.picture.specs.Code.Matrix.{lent_in}
+use Rattle.picture.specs.Code.Picture.{slices_in}
+use Rattle.picture.specs.Code.Choice.{terms_of}
 use Rattle.picture.specs.Code.Notes.{Notes}
-use Rattle.picture.specs.Laws.HighPlan.{Settling, settling-first, settling-turn, settling-ends}
-use Rattle.picture.specs.Laws.Noted.{high-work, notes-high, notes-own, notes-stand, notes-after, plans-after, plans-before, settles-after}
+use Rattle.picture.specs.Laws.HighPlan.{Settling, settling_first, settling_turn, settling_ends}
+use Rattle.picture.specs.Laws.Noted.{high_work, notes_high, notes_own, notes_stand, notes_after, plans_after, plans_before, settles_after}
 use native.Mathlib.Omega.{arith}
 use Rattle.picture.proofs.coder.plan.settle.Statement.{statement}
 use Rattle.picture.proofs.coder.plan.settle.Tie as tie
@@ -17,7 +17,7 @@ use Rattle.picture.proofs.coder.plan.plan_again.Reads as plan-again-reads
 use Rattle.picture.proofs.coder.plan.plan_picture.Reads as plan-picture-reads
 
 abbrev invariant-loop : tie.invariant-loop
-invariant-loop s m work₀ p c₀ r₀ work c r = Settling work₀ p s (lentIn m) c r × Notes work₀ p (termsOf s (lentIn m) c) (slicesIn p) work
+invariant-loop s m work₀ p c₀ r₀ work c r = Settling work₀ p s (lent_in m) c r × Notes work₀ p (terms_of s (lent_in m) c) (slices_in p) work
 
 abbrev decreases-loop : tie.decreases-loop
 decreases-loop s m work₀ p c₀ r₀ work c r = 2 ^ 24 - c
@@ -34,8 +34,8 @@ loop-holds c =
     let a = st.args in
     let r = k.plan-picture in
     let h = st.requires.0 in (
-      settling-first _ a.p a.s (lentIn a.m) r.result h.shape.scaler.few (plans-before (high-work h) r.ensures.1 r.ensures.0),
-      notes-own (high-work h) r.ensures.1,
+      settling_first _ a.p a.s (lent_in a.m) r.result h.shape.scaler.few (plans_before (high_work h) r.ensures.1 r.ensures.0),
+      notes_own (high_work h) r.ensures.1,
     )
 
 cast-if1 : tie.Need-overflow-cast-if1 invariant-loop decreases-loop
@@ -57,13 +57,13 @@ plan-again-requires c κs =
     let v = l.loop in
     let k = l.before.before in
     let st = k.before.before in
-    let h = notes-high k.plan-picture.ensures.1 st.requires.0 in (
-      notes-high v.invariant.1 h,
+    let h = notes_high k.plan-picture.ensures.1 st.requires.0 in (
+      notes_high v.invariant.1 h,
       (
         st.requires.1,
         (
           (omega (arith, i.if1.true), omega (arith, v.invariant.0.plan.few)),
-          record { notes = notes-stand st.args.s refl (notes-own (high-work h) v.invariant.1) },
+          record { notes = notes_stand st.args.s refl (notes_own (high_work h) v.invariant.1) },
         ),
       ),
     )
@@ -85,11 +85,11 @@ loop-again c =
     let st = k.before.before in
     let a = st.args in
     let w = k.plan-picture in
-    let h = notes-high w.ensures.1 st.requires.0 in
+    let h = notes_high w.ensures.1 st.requires.0 in
     let r = c.before.plan-again in (
-      settling-turn _ a.p a.s (lentIn a.m) v.c v.r r.result v.invariant.0 i.if1.true
-          (plans-after (high-work h) v.invariant.1 r.ensures.0),
-      notes-after (high-work h) v.invariant.1 r.ensures.1,
+      settling_turn _ a.p a.s (lent_in a.m) v.c v.r r.result v.invariant.0 i.if1.true
+          (plans_after (high_work h) v.invariant.1 r.ensures.0),
+      notes_after (high_work h) v.invariant.1 r.ensures.1,
     )
 
 same_length : tie.Need-same-length invariant-loop decreases-loop
@@ -104,9 +104,9 @@ returns c =
     let a = st.args in
     let h = st.requires.0 in
     let w = k.plan-picture in (
-      settles-after (high-work h) w.ensures.1
-          (settling-ends _ a.p a.s (lentIn a.m) v.c v.r h.shape.scaler.some v.invariant.0 (omega (arith, c.if1.false))),
-      notes-after (high-work h) w.ensures.1 v.invariant.1,
+      settles_after (high_work h) w.ensures.1
+          (settling_ends _ a.p a.s (lent_in a.m) v.c v.r h.shape.scaler.some v.invariant.0 (omega (arith, c.if1.false))),
+      notes_after (high_work h) w.ensures.1 v.invariant.1,
     )
 
 pub settle-spec : {M : Type 1} → statement M

@@ -1,6 +1,6 @@
 -- `coder::plan::terms_of` meets its contract.
-use Rattle.picture.specs.Code.Matrix.{lentIn}
-use Rattle.picture.specs.Laws.HighPlan.{terms-are}
+use Rattle.picture.specs.Code.Matrix.{lent_in}
+use Rattle.picture.specs.Laws.HighPlan.{terms_are}
 use borrow.Author.Rules.{rules}
 use Rattle.picture.proofs.coder.plan.terms_of.Statement.{statement}
 use Rattle.picture.proofs.coder.plan.terms_of.Tie as tie
@@ -27,7 +27,7 @@ returns c =
     let t = c.before.target-of in
     let o = c.before.before in
     let a = o.before.args in
-    terms-are a.s (lentIn a.m) a.c c.less.result t.result o.overhead.result c.less.ensures t.ensures o.overhead.ensures.0
+    terms_are a.s (lent_in a.m) a.c c.less.result t.result o.overhead.result c.less.ensures t.ensures o.overhead.ensures.0
 
 pub terms-of-spec : {M : Type 1} → statement M
 terms-of-spec =

@@ -2,7 +2,7 @@
 use native.Mathlib.Omega.{arith}
 use mathlib.Core.Path.{ap}
 use lib.ListN.{length, length-append}
-use Rattle.picture.specs.Laws.Head.{extension-none, extension-some}
+use Rattle.picture.specs.Laws.Head.{extension_none, extension_some}
 use borrow.Author.Rules.{rules}
 use Rattle.picture.proofs.front.header.extension_len.Statement.{statement}
 use Rattle.picture.proofs.front.header.extension_len.Tie as tie
@@ -21,7 +21,7 @@ major-version-requires c κs = search rules
 returns : tie.Need-returns
 returns c =
     let st = c.before.before in
-    let e = ap length (extension-none st.args.s (omega (arith, c.if1.true, c.before.major-version.ensures))) in
+    let e = ap length (extension_none st.args.s (omega (arith, c.if1.true, c.before.major-version.ensures))) in
     (omega (arith, e), omega arith)
 
 flagged-len-requires : tie.Need-flagged-len-requires
@@ -36,7 +36,7 @@ add-result c = search rules
 returns-2 : tie.Need-returns-2
 returns-2 c =
     let st = (else1 c).before.before in
-    let e = ap length (extension-some st.args.s (omega (arith, (else1 c).if1.false, (else1 c).before.major-version.ensures))) in
+    let e = ap length (extension_some st.args.s (omega (arith, (else1 c).if1.false, (else1 c).before.major-version.ensures))) in
     let f = c.before.before.flagged-len.ensures in
     let g = c.flagged-len2.ensures in
     (omega (arith, simp length-append at e, f.0, g.0), omega (arith, f.1, g.1))

@@ -1,7 +1,7 @@
 -- `picture::front::header::major_version` meets its contract.
 use mathlib.Core.Logic.{inl, inr, ⊎_elim}
 use Rattle.unit.specs.declared.PictureKind.TheVariants.{LowDelay, HighQuality}
-use Rattle.picture.specs.Laws.Head.{major-three, major-plain}
+use Rattle.picture.specs.Laws.Head.{major_three, major_plain}
 use borrow.Author.Rules.{rules}
 use Rattle.picture.proofs.front.header.major_version.Statement.{statement}
 use Rattle.picture.proofs.front.header.major_version.Tie as tie
@@ -20,7 +20,7 @@ else2' c = let t = c.before.before in t.before.before
 
 returns : tie.Need-returns
 returns c =
-    major-three c.before.args.s
+    major_three c.before.args.s
     (⊎_elim (λ w. inl w.taken) (λ w. inr (⊎_elim (λ v. inl v.2.taken) (λ v. inr v.4.taken) w)) c.if1.branch)
 
 enum_told : tie.Need-enum-told
@@ -32,12 +32,12 @@ enum-told-2 c = search rules
 returns-2 : tie.Need-returns-2
 returns-2 c =
     let st = (else1 c.before.before).before in
-    major-plain st.args.s LowDelay (else1 c.before.before).if1.false (else2 c).if2.false c.before.before.if3.false c.enum_told.given.1
+    major_plain st.args.s LowDelay (else1 c.before.before).if1.false (else2 c).if2.false c.before.before.if3.false c.enum_told.given.1
 
 returns-3 : tie.Need-returns-3
 returns-3 c =
     let st = (else1 c.before.before).before in
-    major-plain st.args.s HighQuality (else1 c.before.before).if1.false (else2' c).if2.false c.before.before.if3.false c.enum-told2.given.1
+    major_plain st.args.s HighQuality (else1 c.before.before).if1.false (else2' c).if2.false c.before.before.if3.false c.enum-told2.given.1
 
 pub major-version-spec : {M : Type 1} → statement M
 major-version-spec = tie.close (tie.spec returns enum_told enum-told-2 returns-2 returns-3)

@@ -1,8 +1,8 @@
 -- `picture::front::header::numerator` meets its contract.
 use mathlib.Core.Path.{sym, ap, ◌∙◌}
-use Rattle.picture.specs.Code.Matrix.{lentIn}
-use Rattle.picture.specs.Code.Head.{numeratorAfter}
-use Rattle.picture.specs.Laws.Head.{numerator-twice}
+use Rattle.picture.specs.Code.Matrix.{lent_in}
+use Rattle.picture.specs.Code.Head.{numerator_after}
+use Rattle.picture.specs.Laws.Head.{numerator_twice}
 use borrow.Author.Rules.{rules}
 use Rattle.picture.proofs.front.header.numerator.Statement.{statement}
 use Rattle.picture.proofs.front.header.numerator.Tie as tie
@@ -25,10 +25,10 @@ returns c =
     let t = c.before.before in
     let a = t.before.args in
     let s = a.s in
-    let m = lentIn a.m in
+    let m = lent_in a.m in
     c.numerator-after2.ensures
-    ∙ ap (numeratorAfter s m) (c.before.numerator-after.ensures ∙ ap (numeratorAfter s m) t.target-of.ensures)
-    ∙ sym (numerator-twice s m)
+    ∙ ap (numerator_after s m) (c.before.numerator-after.ensures ∙ ap (numerator_after s m) t.target-of.ensures)
+    ∙ sym (numerator_twice s m)
 
 pub numerator-spec : {M : Type 1} → statement M
 numerator-spec =

@@ -5,10 +5,10 @@ use mathlib.Core.List.{List}
 use mathlib.Core.Option.{Option}
 use Prim.Native.Nat.{ℕ}
 use lib.ListN.{length}
-use Rattle.unit.specs.Parameters.{matrixBits}
-use Rattle.picture.specs.Code.Matrix.{lentIn}
-use Rattle.picture.specs.Code.Head.{sliceIn}
-use Rattle.picture.specs.Laws.Head.{carried-is, carries-places, bytes-of-parts}
+use Rattle.unit.specs.Parameters.{matrix_bits}
+use Rattle.picture.specs.Code.Matrix.{lent_in}
+use Rattle.picture.specs.Code.Head.{slice_in}
+use Rattle.picture.specs.Laws.Head.{carried_is, carries_places, bytes_of_parts}
 use borrow.Author.Rules.{rules}
 use Rattle.picture.proofs.front.header.overhead.Statement.{statement}
 use Rattle.picture.proofs.front.header.overhead.Tie as tie
@@ -28,7 +28,7 @@ add-bits : tie.Need-overflow-add-bits
 add-bits c = search rules
 
 matrix-len-requires : tie.Need-matrix-len-requires
-matrix-len-requires c κs = carries-places c.before.before.requires.carries
+matrix-len-requires c κs = carries_places c.before.before.requires.carries
 
 add-bits-2 : tie.Need-overflow-add-bits-2
 add-bits-2 c = search rules
@@ -50,8 +50,8 @@ returns c =
     let x = f.shape-len.ensures in
     let y = c.before.slice-parameters-len.ensures in
     let z = c.matrix-len.ensures in
-    let e = ap (λ (o : Option (List ℕ)). length (matrixBits o)) (carried-is st.requires.carries) in
-    (omega (arith, bytes-of-parts a.s (lentIn a.m) (sliceIn a.p), x.0, y.0, z.0, e), omega (arith, x.1, y.1, z.1))
+    let e = ap (λ (o : Option (List ℕ)). length (matrix_bits o)) (carried_is st.requires.carries) in
+    (omega (arith, bytes_of_parts a.s (lent_in a.m) (slice_in a.p), x.0, y.0, z.0, e), omega (arith, x.1, y.1, z.1))
 
 pub overhead-spec : {M : Type 1} → statement M
 overhead-spec =

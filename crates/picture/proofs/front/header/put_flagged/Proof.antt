@@ -1,9 +1,9 @@
 -- `picture::front::header::put_flagged` meets its contract.
 use native.Mathlib.Omega.{arith}
 use Rattle.codewords.specs.Laws.Writer.{wrote_then, room_after}
-use Rattle.codewords.specs.CodeWord.{codeU}
+use Rattle.codewords.specs.CodeWord.{code_u}
 use lib.ListN.{length}
-use Rattle.picture.specs.Laws.Head.{flagged-on, flagged-off, flagged-pos, room-less}
+use Rattle.picture.specs.Laws.Head.{flagged_on, flagged_off, flagged-pos, room_less}
 use borrow.Author.Rules.{rules}
 use Rattle.picture.proofs.front.header.put_flagged.Statement.{statement}
 use Rattle.picture.proofs.front.header.put_flagged.Tie as tie
@@ -26,13 +26,13 @@ abbrev then1 : tie.After-slice-known3 → tie.Then1
 then1 c = let t = c.before.before in t.before.before
 
 put-bit-requires : tie.Need-put-bit-requires
-put-bit-requires c κs = room-less 1 c.before.before.requires (flagged-pos c.before.before.args.flag c.before.before.args.v)
+put-bit-requires c κs = room_less 1 c.before.before.requires (flagged-pos c.before.before.args.flag c.before.before.args.v)
 
 put-uint-requires : tie.Need-put-uint-requires
 put-uint-requires c κs =
     let st = begin (after-put-bit c.before) in
-    let e = flagged-on st.args.flag st.args.v c.before.if1.true in
-    room_after (length (codeU st.args.v)) (rw e at st.pre) (after-put-bit c.before).put-bit.ensures (omega arith)
+    let e = flagged_on st.args.flag st.args.v c.before.if1.true in
+    room_after (length (code_u st.args.v)) (rw e at st.pre) (after-put-bit c.before).put-bit.ensures (omega arith)
 
 same_length : tie.Need-same-length
 same_length c = search rules
@@ -40,7 +40,7 @@ same_length c = search rules
 returns : tie.Need-returns
 returns c =
     let st = begin (after-put-bit (then1 c)) in
-    rw (flagged-on st.args.flag st.args.v (then1 c).if1.true) (wrote_then st.pre.sound (after-put-bit (then1 c)).put-bit.ensures c.before.before.put-uint.ensures)
+    rw (flagged_on st.args.flag st.args.v (then1 c).if1.true) (wrote_then st.pre.sound (after-put-bit (then1 c)).put-bit.ensures c.before.before.put-uint.ensures)
 
 same-length-2 : tie.Need-same-length-2
 same-length-2 c = search rules
@@ -48,7 +48,7 @@ same-length-2 c = search rules
 returns-2 : tie.Need-returns-2
 returns-2 c =
     let st = begin (after-put-bit' c) in
-    rw (flagged-off st.args.flag st.args.v c.if1.false) (after-put-bit' c).put-bit.ensures
+    rw (flagged_off st.args.flag st.args.v c.if1.false) (after-put-bit' c).put-bit.ensures
 
 pub put-flagged-spec : {M : Type 1} → statement M
 put-flagged-spec =

@@ -2,9 +2,9 @@
 use native.Mathlib.Omega.{arith}
 use Rattle.codewords.specs.Laws.Writer.{wrote_then, room_after}
 use lib.ListN.{length}
-use Rattle.unit.specs.Parameters.{codesU}
-use Rattle.picture.specs.Code.Matrix.{lentIn, carriedIn}
-use Rattle.picture.specs.Laws.Head.{carried_some, carried_none, matrix-pos, room-less}
+use Rattle.unit.specs.Parameters.{codes_u}
+use Rattle.picture.specs.Code.Matrix.{lent_in, carried_in}
+use Rattle.picture.specs.Laws.Head.{carried_some, carried_none, matrix-pos, room_less}
 use borrow.Author.Rules.{rules}
 use Rattle.picture.proofs.front.header.put_matrix.Statement.{statement}
 use Rattle.picture.proofs.front.header.put_matrix.Tie as tie
@@ -18,7 +18,7 @@ abbrev begin : tie.After-put-bit → tie.Start
 begin c = let k = c.before.before in k.before
 
 put-bit-requires : tie.Need-put-bit-requires
-put-bit-requires c κs = let st = c.before.before in room-less 1 st.requires.1 (matrix-pos (carriedIn st.args.m))
+put-bit-requires c κs = let st = c.before.before in room_less 1 st.requires.1 (matrix-pos (carried_in st.args.m))
 
 put-values-requires : tie.Need-put-values-requires
 put-values-requires c κs =
@@ -27,7 +27,7 @@ put-values-requires c κs =
     let b = o.before in
     let st = begin b in
     let m = st.args.m in
-    (st.pre.0, room_after (length (codesU (lentIn m))) (rw (carried_some m t.if1.true) at st.pre.1) b.put-bit.ensures (omega arith))
+    (st.pre.0, room_after (length (codes_u (lent_in m))) (rw (carried_some m t.if1.true) at st.pre.1) b.put-bit.ensures (omega arith))
 
 same_length : tie.Need-same-length
 same_length c = search rules

@@ -1,7 +1,7 @@
 -- `picture::front::header::put_pair` meets its contract.
 use Rattle.codewords.specs.Laws.Writer.{wrote_then}
-use Rattle.codewords.specs.CodeWord.{codeU}
-use Rattle.picture.specs.Laws.Head.{room-first, room-rest}
+use Rattle.codewords.specs.CodeWord.{code_u}
+use Rattle.picture.specs.Laws.Head.{room_first, room_rest}
 use borrow.Author.Rules.{rules}
 use Rattle.picture.proofs.front.header.put_pair.Statement.{statement}
 use Rattle.picture.proofs.front.header.put_pair.Tie as tie
@@ -22,12 +22,12 @@ after-put-uint' c = let t = c.before.before in t.before.before
 put-uint-requires : tie.Need-put-uint-requires
 put-uint-requires c κs =
     let st = c.before.before in
-    room-first (codeU st.args.a) (codeU st.args.b) st.requires
+    room_first (code_u st.args.a) (code_u st.args.b) st.requires
 
 put-uint-requires-2 : tie.Need-put-uint-requires-2
 put-uint-requires-2 c κs =
     let st = begin (after-put-uint c) in
-    room-rest (codeU st.args.a) (codeU st.args.b) st.pre (after-put-uint c).put-uint.ensures
+    room_rest (code_u st.args.a) (code_u st.args.b) st.pre (after-put-uint c).put-uint.ensures
 
 same_length : tie.Need-same-length
 same_length c = search rules

@@ -1,7 +1,7 @@
 -- `picture::front::header::put_parse_code` meets its contract.
 use native.Mathlib.Omega.{arith}
 use Rattle.codewords.specs.Laws.Bit.{length-lit}
-use Rattle.unit.specs.Unit.{parseCode}
+use Rattle.unit.specs.Unit.{parse_code}
 use borrow.Author.Rules.{rules}
 use Rattle.picture.proofs.front.header.put_parse_code.Statement.{statement}
 use Rattle.picture.proofs.front.header.put_parse_code.Tie as tie
@@ -17,7 +17,7 @@ put-nbits-requires : tie.Need-put-nbits-requires
 put-nbits-requires c κs =
     let t = c.before.before in
     let st = t.before in
-    (rw (length-lit 8 (parseCode st.args.kind)) at st.requires, omega arith)
+    (rw (length-lit 8 (parse_code st.args.kind)) at st.requires, omega arith)
 
 same_length : tie.Need-same-length
 same_length c = search rules

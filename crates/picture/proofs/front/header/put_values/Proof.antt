@@ -3,11 +3,11 @@ use mathlib.Core.Path.{◌≡◌}
 use Prim.Native.Nat.{◌-◌, ◌≤◌}
 use borrow.Author.Rules.{rules}
 use lib.ListN.{length, take, get_or}
-use Rattle.codewords.specs.CodeWord.{codeU}
+use Rattle.codewords.specs.CodeWord.{code_u}
 use Rattle.codewords.specs.Code.Writer.{Wrote}
 use Rattle.codewords.specs.Laws.Writer.{wrote_none, wrote_then, room_after}
-use Rattle.unit.specs.Parameters.{codesU}
-use Rattle.picture.specs.Laws.Head.{codesU-none, codesU-take, codesU-part}
+use Rattle.unit.specs.Parameters.{codes_u}
+use Rattle.picture.specs.Laws.Head.{codes_u-none, codes_u-take, codes_u-part}
 use native.Mathlib.Omega.{arith}
 use Rattle.picture.proofs.front.header.put_values.Statement.{statement}
 use Rattle.picture.proofs.front.header.put_values.Tie as tie
@@ -16,13 +16,13 @@ use Rattle.picture.proofs.front.header.put_values.Lts as lts
 use Rattle.codewords.proofs.bitio.put_uint.Reads as put-uint-reads
 
 abbrev invariant-loop : tie.invariant-loop
-invariant-loop out₀ m s₀ i₀ out s i = (i ≤ m.count) × Wrote out₀ s₀ (codesU (take i m.values)) out s
+invariant-loop out₀ m s₀ i₀ out s i = (i ≤ m.count) × Wrote out₀ s₀ (codes_u (take i m.values)) out s
 
 abbrev decreases-loop : tie.decreases-loop
 decreases-loop out₀ m s₀ i₀ out s i = m.count - i
 
 loop-holds : tie.Need-loop-init invariant-loop decreases-loop
-loop-holds c = (omega arith, rw codesU-none (wrote_none c.before.requires.1))
+loop-holds c = (omega arith, rw codes_u-none (wrote_none c.before.requires.1))
 
 mul-put-uint : tie.Need-overflow-mul-put-uint invariant-loop decreases-loop
 mul-put-uint c = omega arith
@@ -37,8 +37,8 @@ put-uint-requires c κs =
     let k = t.before.before in
     let st = k.before in
     let vs = st.args.t3.values in
-    room_after (length (codeU (get_or vs l.i 0))) st.requires.1 l.invariant.1
-    (codesU-part vs st.args.t3.count l.i 0 (omega (arith, t.loop-test.true)) (omega (arith, st.requires.0.0, st.requires.0.1)))
+    room_after (length (code_u (get_or vs l.i 0))) st.requires.1 l.invariant.1
+    (codes_u-part vs st.args.t3.count l.i 0 (omega (arith, t.loop-test.true)) (omega (arith, st.requires.0.0, st.requires.0.1)))
 
 add-i : tie.Need-overflow-add-i invariant-loop decreases-loop
 add-i c = omega arith
@@ -54,7 +54,7 @@ loop-again c =
     let l = t.before.loop in
     let k = t.before.before in
     let st = k.before in
-    (omega arith, rw (codesU-take st.args.t3.values l.i 0 (omega (arith, t.loop-test.true, st.requires.0.0, st.requires.0.1))) (wrote_then st.requires.1.sound l.invariant.1 p.put-uint.ensures))
+    (omega arith, rw (codes_u-take st.args.t3.values l.i 0 (omega (arith, t.loop-test.true, st.requires.0.0, st.requires.0.1))) (wrote_then st.requires.1.sound l.invariant.1 p.put-uint.ensures))
 
 same_length : tie.Need-same-length invariant-loop decreases-loop
 same_length c = c.before.loop.invariant.1.size

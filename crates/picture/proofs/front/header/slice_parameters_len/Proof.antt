@@ -1,7 +1,7 @@
 -- `picture::front::header::slice_parameters_len` meets its contract.
 use native.Mathlib.Omega.{arith}
 use lib.ListN.{length-append}
-use Rattle.codewords.specs.CodeWord.{codeU}
+use Rattle.codewords.specs.CodeWord.{code_u}
 use borrow.Author.Rules.{rules}
 use Rattle.picture.proofs.front.header.slice_parameters_len.Statement.{statement}
 use Rattle.picture.proofs.front.header.slice_parameters_len.Tie as tie
@@ -39,7 +39,7 @@ returns c =
     let x = c.before.uint-len.ensures in
     let y = c.uint-len2.ensures in
     let g = t.before.p.given in
-    rw g.1 (omega (arith, length-append (codeU g.0.0) (codeU g.0.1.0), x.0, y.0), omega (arith, x.1, y.1))
+    rw g.1 (omega (arith, length-append (code_u g.0.0) (code_u g.0.1.0), x.0, y.0), omega (arith, x.1, y.1))
 
 returns-2 : tie.Need-returns-2
 returns-2 c =
@@ -47,7 +47,7 @@ returns-2 c =
     let x = c.before.uint-len3.ensures in
     let y = c.uint-len4.ensures in
     let g = t.before.p2.given in
-    rw g.1 (omega (arith, length-append (codeU g.0.0) (codeU g.0.1.0), x.0, y.0), omega (arith, x.1, y.1))
+    rw g.1 (omega (arith, length-append (code_u g.0.0) (code_u g.0.1.0), x.0, y.0), omega (arith, x.1, y.1))
 
 pub slice-parameters-len-spec : {M : Type 1} → statement M
 slice-parameters-len-spec =

@@ -4,9 +4,9 @@ use mathlib.Core.Path.{◌≡◌, sym, ap, ◌∙◌}
 use Prim.Native.Nat.{ℕ, ◌*◌, ◌-◌, ◌≤◌}
 use borrow.Author.Rules.{rules}
 use lib.ListN.{length, take, get_or, length-append}
-use Rattle.codewords.specs.CodeWord.{codeU}
-use Rattle.unit.specs.Parameters.{codesU}
-use Rattle.picture.specs.Laws.Head.{codesU-none, codesU-take}
+use Rattle.codewords.specs.CodeWord.{code_u}
+use Rattle.unit.specs.Parameters.{codes_u}
+use Rattle.picture.specs.Laws.Head.{codes_u-none, codes_u-take}
 use native.Mathlib.Omega.{arith}
 use Rattle.picture.proofs.front.header.values_len.Statement.{statement}
 use Rattle.picture.proofs.front.header.values_len.Tie as tie
@@ -15,13 +15,13 @@ use Rattle.picture.proofs.front.header.values_len.Lts as lts
 use Rattle.picture.proofs.front.header.uint_len.Reads as uint-len-reads
 
 abbrev invariant-loop : tie.invariant-loop
-invariant-loop m bits₀ i₀ bits i = (bits ≡ length (codesU (take i m.values))) × ((bits ≤ 65 * i) × (i ≤ m.count))
+invariant-loop m bits₀ i₀ bits i = (bits ≡ length (codes_u (take i m.values))) × ((bits ≤ 65 * i) × (i ≤ m.count))
 
 abbrev decreases-loop : tie.decreases-loop
 decreases-loop m bits₀ i₀ bits i = m.count - i
 
 loop-holds : tie.Need-loop-init invariant-loop decreases-loop
-loop-holds c = (ap length (sym codesU-none), (omega arith, omega arith))
+loop-holds c = (ap length (sym codes_u-none), (omega arith, omega arith))
 
 mul-uint-len : tie.Need-overflow-mul-uint-len invariant-loop decreases-loop
 mul-uint-len c = omega arith
@@ -51,7 +51,7 @@ loop-again c =
     let st = t.before.before in
     let vs = st.args.t1.values in
     let e = c.uint-len.ensures in
-    let k = ap length (codesU-take vs l.i 0 (omega (arith, t.loop-test.true, st.requires.0, st.requires.1))) ∙ length-append (codesU (take l.i vs)) (codeU (get_or vs l.i 0)) in
+    let k = ap length (codes_u-take vs l.i 0 (omega (arith, t.loop-test.true, st.requires.0, st.requires.1))) ∙ length-append (codes_u (take l.i vs)) (code_u (get_or vs l.i 0)) in
     (omega (arith, k, e.0, l.invariant.0), (omega (arith, e.1, l.invariant.1.0), omega arith))
 
 returns : tie.Need-returns invariant-loop decreases-loop
@@ -60,7 +60,7 @@ returns c =
     let st = c.before.before in
     let m = st.args.t1 in
     let e : l.i ≡ m.count = omega (arith, l.invariant.1.1, c.loop-test.false) in
-    (l.invariant.0 ∙ ap (λ (k : ℕ). length (codesU (take k m.values))) e, omega (arith, l.invariant.1.0, l.invariant.1.1, st.requires.0))
+    (l.invariant.0 ∙ ap (λ (k : ℕ). length (codes_u (take k m.values))) e, omega (arith, l.invariant.1.0, l.invariant.1.1, st.requires.0))
 
 pub values-len-spec : {M : Type 1} → statement M
 values-len-spec =

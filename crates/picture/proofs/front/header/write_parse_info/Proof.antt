@@ -4,9 +4,9 @@ use mathlib.Core.List.{◌++◌}
 use lib.ListN.{length}
 use Rattle.codewords.specs.Bit.{Bits, lit}
 use Rattle.codewords.specs.Code.Writer.{Room}
-use Rattle.unit.specs.Unit.{parseCode}
-use Rattle.picture.specs.Code.Head.{infoOf}
-use Rattle.picture.specs.Laws.Head.{room-first, room-rest}
+use Rattle.unit.specs.Unit.{parse_code}
+use Rattle.picture.specs.Code.Head.{info_of}
+use Rattle.picture.specs.Laws.Head.{room_first, room_rest}
 use borrow.Author.Rules.{rules}
 use Rattle.picture.proofs.front.header.write_parse_info.Statement.{statement}
 use Rattle.picture.proofs.front.header.write_parse_info.Tie as tie
@@ -30,7 +30,7 @@ abbrev mark : Bits
 mark = lit 32 0x42424344
 
 abbrev code : tie.Start → Bits
-code c = lit 8 (parseCode c.args.kind)
+code c = lit 8 (parse_code c.args.kind)
 
 abbrev next : tie.Start → Bits
 next c = lit 32 c.args.next
@@ -39,18 +39,18 @@ abbrev prev : tie.Start → Bits
 prev c = lit 32 c.args.prev
 
 room : (c : tie.Start) → Room c.args.out.now c.args.w (length (mark ++ (code c ++ (next c ++ prev c))))
-unfolding infoOf
+unfolding info_of
 room c = c.requires
 
 put-u32-requires : tie.Need-put-u32-requires
-put-u32-requires c κs = let st = c.before.before in room-first mark (code st ++ (next st ++ prev st)) (room st)
+put-u32-requires c κs = let st = c.before.before in room_first mark (code st ++ (next st ++ prev st)) (room st)
 
 put-parse-code-requires : tie.Need-put-parse-code-requires
 put-parse-code-requires c κs =
     let o = c.before.before in
     let x = o.before in
     let st = begin x in
-    room-first (code st) (next st ++ prev st) (room-rest mark (code st ++ (next st ++ prev st)) (room st) x.put-u32.ensures)
+    room_first (code st) (next st ++ prev st) (room_rest mark (code st ++ (next st ++ prev st)) (room st) x.put-u32.ensures)
 
 put-u32-requires-2 : tie.Need-put-u32-requires-2
 put-u32-requires-2 c κs =
@@ -58,8 +58,8 @@ put-u32-requires-2 c κs =
     let y = o.before in
     let x = marked y in
     let st = begin x in
-    let r = room-rest mark (code st ++ (next st ++ prev st)) (room st) x.put-u32.ensures in
-    room-first (next st) (prev st) (room-rest (code st) (next st ++ prev st) r y.put-parse-code.ensures)
+    let r = room_rest mark (code st ++ (next st ++ prev st)) (room st) x.put-u32.ensures in
+    room_first (next st) (prev st) (room_rest (code st) (next st ++ prev st) r y.put-parse-code.ensures)
 
 put-u32-requires-3 : tie.Need-put-u32-requires-3
 put-u32-requires-3 c κs =
@@ -68,14 +68,14 @@ put-u32-requires-3 c κs =
     let y = coded z in
     let x = marked y in
     let st = begin x in
-    let r = room-rest mark (code st ++ (next st ++ prev st)) (room st) x.put-u32.ensures in
-    room-rest (next st) (prev st) (room-rest (code st) (next st ++ prev st) r y.put-parse-code.ensures) z.put-u322.ensures
+    let r = room_rest mark (code st ++ (next st ++ prev st)) (room st) x.put-u32.ensures in
+    room_rest (next st) (prev st) (room_rest (code st) (next st ++ prev st) r y.put-parse-code.ensures) z.put-u322.ensures
 
 same_length : tie.Need-same-length
 same_length c = search rules
 
 returns : tie.Need-returns
-unfolding infoOf
+unfolding info_of
 returns c =
     let v = c.before.before in
     let k = v.before.before in

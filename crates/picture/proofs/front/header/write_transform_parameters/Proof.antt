@@ -7,11 +7,11 @@ use mathlib.Core.List.{List, ◌++◌}
 use mathlib.Core.Option.{Option}
 use Prim.Native.Nat.{ℕ}
 use lib.ListN.{length}
-use Rattle.unit.specs.Parameters.{sliceParameterBits, matrixBits, parameterBits}
-use Rattle.unit.specs.Unit.{majorVersion, parametersBy}
-use Rattle.picture.specs.Code.Matrix.{lentIn, carriedIn}
-use Rattle.picture.specs.Code.Head.{sliceIn, shapeBits}
-use Rattle.picture.specs.Laws.Head.{carried-is, carries-places, parameters-parts, room-first, room-rest}
+use Rattle.unit.specs.Parameters.{slice_parameter_bits, matrix_bits, parameter_bits}
+use Rattle.unit.specs.Unit.{major_version, parameters_by}
+use Rattle.picture.specs.Code.Matrix.{lent_in, carried_in}
+use Rattle.picture.specs.Code.Head.{slice_in, shape_bits}
+use Rattle.picture.specs.Laws.Head.{carried_is, carries_places, parameters_parts, room_first, room_rest}
 use borrow.Author.Rules.{rules}
 use Rattle.picture.proofs.front.header.write_transform_parameters.Statement.{statement}
 use Rattle.picture.proofs.front.header.write_transform_parameters.Tie as tie
@@ -30,29 +30,29 @@ front c = let k = c.before.before in k.before.before
 
 -- the bits of the slice parameters and of the matrix
 abbrev slices : tie.Start → Bits
-slices c = sliceParameterBits (sliceIn c.args.p)
+slices c = slice_parameter_bits (slice_in c.args.p)
 
 abbrev matrix : tie.Start → Bits
-matrix c = matrixBits (carriedIn c.args.m)
+matrix c = matrix_bits (carried_in c.args.m)
 
 parts : (c : tie.Start)
-    → parameterBits (majorVersion c.args.s) (parametersBy c.args.s (lentIn c.args.m) (sliceIn c.args.p)) ≡ shapeBits c.args.s ++ (slices c ++ matrix c)
+    → parameter_bits (major_version c.args.s) (parameters_by c.args.s (lent_in c.args.m) (slice_in c.args.p)) ≡ shape_bits c.args.s ++ (slices c ++ matrix c)
 parts c =
-    parameters-parts c.args.s (lentIn c.args.m) (sliceIn c.args.p)
-    ∙ ap (λ (o : Option (List ℕ)). shapeBits c.args.s ++ (slices c ++ matrixBits o)) (sym (carried-is c.requires.0))
+    parameters_parts c.args.s (lent_in c.args.m) (slice_in c.args.p)
+    ∙ ap (λ (o : Option (List ℕ)). shape_bits c.args.s ++ (slices c ++ matrix_bits o)) (sym (carried_is c.requires.0))
 
-room : (c : tie.Start) → Room c.args.out.now c.args.w (length (shapeBits c.args.s ++ (slices c ++ matrix c)))
+room : (c : tie.Start) → Room c.args.out.now c.args.w (length (shape_bits c.args.s ++ (slices c ++ matrix c)))
 room c = rw (parts c) at c.requires.1
 
 put-shape-requires : tie.Need-put-shape-requires
-put-shape-requires c κs = let st = c.before.before in room-first (shapeBits st.args.s) (slices st ++ matrix st) (room st)
+put-shape-requires c κs = let st = c.before.before in room_first (shape_bits st.args.s) (slices st ++ matrix st) (room st)
 
 put-slice-parameters-requires : tie.Need-put-slice-parameters-requires
 put-slice-parameters-requires c κs =
     let o = c.before.before in
     let f = o.before in
     let st = begin f in
-    room-first (slices st) (matrix st) (room-rest (shapeBits st.args.s) (slices st ++ matrix st) (room st) f.put-shape.ensures)
+    room_first (slices st) (matrix st) (room_rest (shape_bits st.args.s) (slices st ++ matrix st) (room st) f.put-shape.ensures)
 
 put-matrix-requires : tie.Need-put-matrix-requires
 put-matrix-requires c κs =
@@ -60,7 +60,7 @@ put-matrix-requires c κs =
     let g = o.before in
     let f = front g in
     let st = begin f in
-    (carries-places st.pre.0, room-rest (slices st) (matrix st) (room-rest (shapeBits st.args.s) (slices st ++ matrix st) (room st) f.put-shape.ensures) g.put-slice-parameters.ensures)
+    (carries_places st.pre.0, room_rest (slices st) (matrix st) (room_rest (shape_bits st.args.s) (slices st ++ matrix st) (room st) f.put-shape.ensures) g.put-slice-parameters.ensures)
 
 same_length : tie.Need-same-length
 same_length c = search rules

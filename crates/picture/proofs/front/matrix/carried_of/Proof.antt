@@ -1,7 +1,7 @@
 -- `front::matrix::carried_of` meets its contract.
 use mathlib.Core.Path.{ap, ◌∙◌}
 use Rattle.quantiser.specs.declared.annex_d.DefaultMatrix.{DefaultMatrix}
-use Rattle.picture.specs.Laws.Sides.{custom-few, custom-carried, default-carried, default-values}
+use Rattle.picture.specs.Laws.Sides.{custom_few, custom_carried, default_carried, default_values}
 use borrow.Author.Rules.{rules}
 use Rattle.picture.proofs.front.matrix.carried_of.Statement.{statement}
 use Rattle.picture.proofs.front.matrix.carried_of.Tie as tie
@@ -13,7 +13,7 @@ use Rattle.quantiser.proofs.annex_d.default_quant_matrix.Reads as default-quant-
 in-places-requires : tie.Need-in-places-requires
 in-places-requires c κs =
     let st = c.before.before in
-    custom-few st.args.s st.args.matrix.now c.if1.true st.requires.1 st.requires.0
+    custom_few st.args.s st.args.matrix.now c.if1.true st.requires.1 st.requires.0
 
 returns : tie.Need-returns
 returns c =
@@ -21,7 +21,7 @@ returns c =
     let st = t.before.before in
     let s = st.args.s in
     let m = st.args.matrix.now in
-    custom-carried s m c.in-places.result t.if1.true (custom-few s m t.if1.true st.requires.1 st.requires.0) st.requires.0 c.in-places.ensures
+    custom_carried s m c.in-places.result t.if1.true (custom_few s m t.if1.true st.requires.1 st.requires.0) st.requires.0 c.in-places.ensures
 
 default-quant-matrix-requires : tie.Need-default-quant-matrix-requires
 default-quant-matrix-requires c κs = search rules
@@ -32,8 +32,8 @@ returns-2 c =
     let t = c.before.before in
     let st = t.before.before in
     let s = st.args.s in
-    default-carried s st.args.matrix.now d.result.values t.if1.false st.requires.0
-    (ap (λ (r : DefaultMatrix). r.values) d.ensures ∙ default-values s.wavelet_index s.wavelet_index_ho s.dwt_depth s.dwt_depth_ho)
+    default_carried s st.args.matrix.now d.result.values t.if1.false st.requires.0
+    (ap (λ (r : DefaultMatrix). r.values) d.ensures ∙ default_values s.wavelet_index s.wavelet_index_ho s.dwt_depth s.dwt_depth_ho)
 
 pub carried-of-spec : {M : Type 1} → statement M
 carried-of-spec =

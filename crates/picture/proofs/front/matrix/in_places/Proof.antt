@@ -2,7 +2,7 @@
 use mathlib.Core.Path.{◌≡◌, refl}
 use Prim.Native.Nat.{◌-◌, ◌≤◌}
 use lib.ListN.{length}
-use Rattle.picture.specs.Laws.Sides.{filledTo, filled_next, filled-places}
+use Rattle.picture.specs.Laws.Sides.{filled_to, filled_next, filled-places}
 use native.Mathlib.Omega.{arith}
 use Rattle.picture.proofs.front.matrix.in_places.Statement.{statement}
 use Rattle.picture.proofs.front.matrix.in_places.Tie as tie
@@ -10,7 +10,7 @@ use Rattle.picture.proofs.front.matrix.in_places.Reads as reads
 use Rattle.picture.proofs.front.matrix.in_places.Lts as lts
 
 abbrev invariant-loop : tie.invariant-loop
-invariant-loop matrix n values₀ i₀ values i = (i ≤ length matrix) × (values ≡ filledTo matrix i)
+invariant-loop matrix n values₀ i₀ values i = (i ≤ length matrix) × (values ≡ filled_to matrix i)
 
 abbrev decreases-loop : tie.decreases-loop
 decreases-loop matrix n values₀ i₀ values i = length matrix - i

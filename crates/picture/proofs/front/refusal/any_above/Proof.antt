@@ -3,8 +3,8 @@
 use mathlib.Core.Path.{◌≡◌, refl, ◌∙◌}
 use Prim.Native.Nat.{◌-◌, ◌≤◌}
 use lib.ListN.{length, drop}
-use Rattle.unit.specs.Refusal.{anyAbove}
-use Rattle.picture.specs.Laws.Refusal.{above-here, above-next, above-none}
+use Rattle.unit.specs.Refusal.{any_above}
+use Rattle.picture.specs.Laws.Refusal.{above_here, above_next, above_none}
 use native.Mathlib.Omega.{arith}
 use Rattle.picture.proofs.front.refusal.any_above.Statement.{statement}
 use Rattle.picture.proofs.front.refusal.any_above.Tie as tie
@@ -12,7 +12,7 @@ use Rattle.picture.proofs.front.refusal.any_above.Reads as reads
 use Rattle.picture.proofs.front.refusal.any_above.Lts as lts
 
 abbrev invariant-loop : tie.invariant-loop
-invariant-loop most values n i₀ i = (i ≤ length values) × (anyAbove most (drop i values) ≡ anyAbove most values)
+invariant-loop most values n i₀ i = (i ≤ length values) × (any_above most (drop i values) ≡ any_above most values)
 
 abbrev decreases-loop : tie.decreases-loop
 decreases-loop most values n i₀ i = length values - i
@@ -31,7 +31,7 @@ returns c =
     let t = c.before.before in
     let a = t.before.before.args in
     let l = t.before.loop in
-    above-here a.most a.values.now l.i t.loop-test.true c.if1.true ∙ l.invariant.1
+    above_here a.most a.values.now l.i t.loop-test.true c.if1.true ∙ l.invariant.1
 
 add-i : tie.Need-overflow-add-i invariant-loop decreases-loop
 add-i c = omega arith
@@ -44,13 +44,13 @@ loop-again c =
     let t = c.before.before in
     let a = t.before.before.args in
     let l = t.before.loop in
-    (omega arith, above-next a.most a.values.now l.i t.loop-test.true c.if1.false ∙ l.invariant.1)
+    (omega arith, above_next a.most a.values.now l.i t.loop-test.true c.if1.false ∙ l.invariant.1)
 
 returns-2 : tie.Need-returns-2 invariant-loop decreases-loop
 returns-2 c =
     let a = c.before.before.args in
     let l = c.before.loop in
-    above-none a.most a.values.now l.i c.loop-test.false ∙ l.invariant.1
+    above_none a.most a.values.now l.i c.loop-test.false ∙ l.invariant.1
 
 pub any-above-spec : {M : Type 1} → statement M
 any-above-spec =

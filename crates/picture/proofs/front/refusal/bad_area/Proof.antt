@@ -2,10 +2,10 @@
 use mathlib.Core.Path.{ap, ◌∙◌}
 use lib.Dec.{ltb}
 use Prim.Native.Nat.{ℕ}
-use Rattle.unit.specs.Limits.{areaLimit}
+use Rattle.unit.specs.Limits.{area_limit}
 use Rattle.unit.specs.Sizes.{Size}
-use Rattle.unit.specs.Subbands.{paddedArea}
-use Rattle.picture.specs.Code.Sides.{sizeIn}
+use Rattle.unit.specs.Subbands.{padded_area}
+use Rattle.picture.specs.Code.Sides.{size_in}
 use Rattle.picture.specs.Laws.Sides.{luma-within}
 use borrow.Author.Rules.{rules}
 use Rattle.picture.proofs.front.refusal.bad_area.Statement.{statement}
@@ -19,12 +19,12 @@ luma-size-requires : tie.Need-luma-size-requires
 luma-size-requires c κs = search rules
 
 padded-area-requires : tie.Need-padded-area-requires
-padded-area-requires c κs = (c.before.requires, luma-within c.before.args.s (sizeIn c.luma-size.result) c.luma-size.ensures)
+padded-area-requires c κs = (c.before.requires, luma-within c.before.args.s (size_in c.luma-size.result) c.luma-size.ensures)
 
 returns : tie.Need-returns
 returns c =
     let s = c.before.before.args.s in
-    ap (λ (n : ℕ). ltb areaLimit n) (c.padded-area.ensures.0 ∙ ap (λ (z : Size). paddedArea s z) c.before.luma-size.ensures)
+    ap (λ (n : ℕ). ltb area_limit n) (c.padded-area.ensures.0 ∙ ap (λ (z : Size). padded_area s z) c.before.luma-size.ensures)
 
 pub bad-area-spec : {M : Type 1} → statement M
 bad-area-spec = tie.close (tie.spec luma-size-requires padded-area-requires returns)

@@ -1,7 +1,7 @@
 -- `front::refusal::bad_frame` meets its contract.
 use mathlib.Core.Path.{◌≡◌, ap, ◌∙◌}
 use mathlib.Core.Bool.{or_assoc}
-use Rattle.unit.specs.Sizes.{Size, area, lumaSize, colourSize}
+use Rattle.unit.specs.Sizes.{Size, area, luma_size, colour_size}
 use borrow.Author.Rules.{rules}
 use Rattle.picture.proofs.front.refusal.bad_frame.Statement.{statement}
 use Rattle.picture.proofs.front.refusal.bad_frame.Tie as tie
@@ -43,8 +43,8 @@ returns c =
     let w = u.before.before in
     let v = w.before.before in
     let s = v.before.before.args.s in
-    let z : t.area.result ≡ area (lumaSize s) = t.area.ensures ∙ ap (λ (x : Size). area x) t.before.luma-size.ensures in
-    let k : c.area2.result ≡ area (colourSize s) = c.area2.ensures ∙ ap (λ (x : Size). area x) c.before.colour-size.ensures in
+    let z : t.area.result ≡ area (luma_size s) = t.area.ensures ∙ ap (λ (x : Size). area x) t.before.luma-size.ensures in
+    let k : c.area2.result ≡ area (colour_size s) = c.area2.ensures ∙ ap (λ (x : Size). area x) c.before.colour-size.ensures in
     rw (z, k, u.outside4.ensures, u.before.outside3.ensures, w.outside2.ensures, w.before.outside.ensures) (simp or_assoc)
 
 pub bad-frame-spec : {M : Type 1} → statement M

@@ -4,7 +4,7 @@ use mathlib.Core.Bool.{true, false}
 use lib.Dec.{eqb}
 use lib.ListN.{length}
 use borrow.Author.Tests.{not-true, not-false, eq-eqb, ne_eqb}
-use Rattle.unit.specs.Subbands.{subbandCount}
+use Rattle.unit.specs.Subbands.{subband_count}
 use borrow.Author.Rules.{rules}
 use Rattle.picture.proofs.front.refusal.bad_matrix.Statement.{statement}
 use Rattle.picture.proofs.front.refusal.bad_matrix.Tie as tie
@@ -29,7 +29,7 @@ subband-count-requires c κs = search rules
 returns-2 : tie.Need-returns-2
 returns-2 c =
     let a = (after-shared-slice-known c.before).before.args in
-    let n = subbandCount a.s.dwt_depth_ho a.s.dwt_depth in
+    let n = subband_count a.s.dwt_depth_ho a.s.dwt_depth in
     let e : eqb (length a.matrix.now) n ≡ false = ne_eqb (length a.matrix.now) n (λ h. c.if2.true (h ∙ sym c.before.subband-count.ensures)) in
     rw (not-false a.s.custom_matrix c.before.before.if1.false, e)
 
@@ -39,7 +39,7 @@ any-above-requires c κs = search rules
 returns-3 : tie.Need-returns-3
 returns-3 c =
     let a = (after-shared-slice-known c.before.before).before.args in
-    let n = subbandCount a.s.dwt_depth_ho a.s.dwt_depth in
+    let n = subband_count a.s.dwt_depth_ho a.s.dwt_depth in
     let e : eqb (length a.matrix.now) n ≡ true = eq-eqb (length a.matrix.now) n (c.before.if2.false ∙ c.before.before.subband-count.ensures) in
     rw (not-false a.s.custom_matrix (else1 c).if1.false, e) c.any-above.ensures
 

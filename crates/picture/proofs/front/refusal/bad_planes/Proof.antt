@@ -1,7 +1,7 @@
 -- `front::refusal::bad_planes` meets its contract.
 use mathlib.Core.Path.{◌≡◌, ap, ◌∙◌}
 use mathlib.Core.Bool.{or_assoc}
-use Rattle.unit.specs.Sizes.{Size, area, lumaSize, colourSize}
+use Rattle.unit.specs.Sizes.{Size, area, luma_size, colour_size}
 use borrow.Author.Rules.{rules}
 use Rattle.picture.proofs.front.refusal.bad_planes.Statement.{statement}
 use Rattle.picture.proofs.front.refusal.bad_planes.Tie as tie
@@ -29,8 +29,8 @@ returns c =
     let u = t.before.before in
     let w = u.before.before in
     let s = w.before.args.s in
-    let z : t.area.result ≡ area (lumaSize s) = t.area.ensures ∙ ap (λ (x : Size). area x) t.before.luma-size.ensures in
-    let k : c.area2.result ≡ area (colourSize s) = c.area2.ensures ∙ ap (λ (x : Size). area x) c.before.colour-size.ensures in
+    let z : t.area.result ≡ area (luma_size s) = t.area.ensures ∙ ap (λ (x : Size). area x) t.before.luma-size.ensures in
+    let k : c.area2.result ≡ area (colour_size s) = c.area2.ensures ∙ ap (λ (x : Size). area x) c.before.colour-size.ensures in
     rw (z, k) (simp or_assoc)
 
 pub bad-planes-spec : {M : Type 1} → statement M

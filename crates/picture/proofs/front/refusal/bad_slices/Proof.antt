@@ -3,7 +3,7 @@ use mathlib.Core.Path.{◌∙◌}
 use mathlib.Core.Bool.{or_assoc}
 use lib.Dec.{ltb}
 use borrow.Author.Rules.{rules}
-use Rattle.unit.specs.Limits.{sliceLimit}
+use Rattle.unit.specs.Limits.{slice_limit}
 use Rattle.picture.proofs.front.refusal.bad_slices.Statement.{statement}
 use Rattle.picture.proofs.front.refusal.bad_slices.Tie as tie
 use Rattle.picture.proofs.front.refusal.bad_slices.Reads as reads
@@ -23,7 +23,7 @@ product-requires c κs = search rules
 returns : tie.Need-returns
 returns c =
     let p = c.before in
-    or_assoc p.before.outside.result p.outside2.result (ltb sliceLimit c.product.result)
+    or_assoc p.before.outside.result p.outside2.result (ltb slice_limit c.product.result)
     ∙ rw (p.before.outside.ensures, p.outside2.ensures, c.product.ensures)
 
 pub bad-slices-spec : {M : Type 1} → statement M

@@ -3,7 +3,7 @@ use mathlib.Core.Path.{◌≡◌, sym, ◌∙◌}
 use mathlib.Core.List.{List}
 use lib.ListN.{drop}
 use Rattle.unit.specs.Rules.{Rule, first}
-use Rattle.unit.specs.Refusal.{memoryRules}
+use Rattle.unit.specs.Refusal.{memory_rules}
 use Rattle.unit.specs.Three.{planes}
 use Rattle.unit.specs.Laws.Rules.{stops, goes_on}
 use borrow.Author.Rules.{rules}
@@ -17,7 +17,7 @@ use Rattle.picture.proofs.front.refusal.short_work.Reads as short-work-reads
 
 -- the rules of the call
 abbrev rules : tie.Start → List Rule
-rules c = memoryRules c.args.s (planes c.args.y.now c.args.c1.now c.args.c2.now) c.args.work.now
+rules c = memory_rules c.args.s (planes c.args.y.now c.args.c1.now c.args.c2.now) c.args.work.now
 
 -- the start of the call
 abbrev known : tie.After-shared-slice-known2 → tie.Start

@@ -1,5 +1,5 @@
 -- `front::refusal::no_matrix` meets its contract.
-use Rattle.picture.specs.Laws.Sides.{default-missing}
+use Rattle.picture.specs.Laws.Sides.{default_missing}
 use borrow.Author.Rules.{rules}
 use Rattle.picture.proofs.front.refusal.no_matrix.Statement.{statement}
 use Rattle.picture.proofs.front.refusal.no_matrix.Tie as tie
@@ -18,7 +18,7 @@ returns-2 c =
     let t = c.before.before in
     let s = t.before.args.s in
     rw (t.if1.false, c.before.default-quant-matrix.ensures)
-    (default-missing s.wavelet_index s.wavelet_index_ho s.dwt_depth s.dwt_depth_ho)
+    (default_missing s.wavelet_index s.wavelet_index_ho s.dwt_depth s.dwt_depth_ho)
 
 pub no-matrix-spec : {M : Type 1} → statement M
 no-matrix-spec = tie.close (tie.spec returns default-quant-matrix-requires returns-2)

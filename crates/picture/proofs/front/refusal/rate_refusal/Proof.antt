@@ -3,7 +3,7 @@ use mathlib.Core.Path.{◌≡◌, sym, ◌∙◌}
 use mathlib.Core.List.{List}
 use lib.ListN.{drop}
 use Rattle.unit.specs.Rules.{Rule, first}
-use Rattle.unit.specs.Refusal.{rateRules}
+use Rattle.unit.specs.Refusal.{rate_rules}
 use Rattle.unit.specs.Laws.Rules.{stops, goes_on}
 use borrow.Author.Rules.{rules}
 use Rattle.picture.proofs.front.refusal.rate_refusal.Statement.{statement}
@@ -16,7 +16,7 @@ use Rattle.picture.proofs.front.refusal.no_target.Reads as no-target-reads
 
 -- the rules of the call
 abbrev rules : tie.Start → List Rule
-rules c = rateRules c.args.kind c.args.rate
+rules c = rate_rules c.args.kind c.args.rate
 
 -- the same where the first of them are kept
 abbrev rules-1 : tie.Else1 → List Rule

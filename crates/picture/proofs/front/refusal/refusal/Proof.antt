@@ -3,11 +3,11 @@ use mathlib.Core.Path.{◌≡◌, sym, ◌∙◌}
 use Prim.Native.Nat.{ℕ}
 use native.Mathlib.Omega.{arith}
 use Rattle.unit.specs.Three.{planes}
-use Rattle.unit.specs.Refusal.{shapeRules, frameRules, memoryRules, refusalOf}
+use Rattle.unit.specs.Refusal.{shape_rules, frame_rules, memory_rules, refusal_of}
 use Rattle.unit.specs.Rules.{first, or_else}
-use Rattle.unit.specs.Laws.Rules.{or-stops, or-goes-on}
+use Rattle.unit.specs.Laws.Rules.{or_stops, or_goes_on}
 use Rattle.picture.specs.Code.Sides.{Measured}
-use Rattle.picture.specs.Laws.Refusal.{measured, fromMatrix, fromFrame, fromRate, by-groups}
+use Rattle.picture.specs.Laws.Refusal.{measured, from_matrix, from_frame, from_rate, by_groups}
 use borrow.Author.Rules.{rules}
 use Rattle.picture.proofs.front.refusal.refusal.Statement.{statement}
 use Rattle.picture.proofs.front.refusal.refusal.Tie as tie
@@ -40,41 +40,41 @@ valued c = framed c.before.before
 
 -- its number, and that of the rules from a group on
 abbrev whole : tie.Start → ℕ
-whole c = refusalOf c.args.s c.args.matrix.now (planes c.args.y.now c.args.c1.now c.args.c2.now) c.args.work.now
+whole c = refusal_of c.args.s c.args.matrix.now (planes c.args.y.now c.args.c1.now c.args.c2.now) c.args.work.now
 
 abbrev from-rate : tie.Start → ℕ
-from-rate c = fromRate c.args.s c.args.matrix.now (planes c.args.y.now c.args.c1.now c.args.c2.now) c.args.work.now
+from-rate c = from_rate c.args.s c.args.matrix.now (planes c.args.y.now c.args.c1.now c.args.c2.now) c.args.work.now
 
 abbrev from-frame : tie.Start → ℕ
-from-frame c = fromFrame c.args.s c.args.matrix.now (planes c.args.y.now c.args.c1.now c.args.c2.now) c.args.work.now
+from-frame c = from_frame c.args.s c.args.matrix.now (planes c.args.y.now c.args.c1.now c.args.c2.now) c.args.work.now
 
 abbrev from-matrix : tie.Start → ℕ
-from-matrix c = fromMatrix c.args.s c.args.matrix.now (planes c.args.y.now c.args.c1.now c.args.c2.now) c.args.work.now
+from-matrix c = from_matrix c.args.s c.args.matrix.now (planes c.args.y.now c.args.c1.now c.args.c2.now) c.args.work.now
 
 abbrev from-memory : tie.Start → ℕ
-from-memory c = first (memoryRules c.args.s (planes c.args.y.now c.args.c1.now c.args.c2.now) c.args.work.now)
+from-memory c = first (memory_rules c.args.s (planes c.args.y.now c.args.c1.now c.args.c2.now) c.args.work.now)
 
-groups : (c : tie.Start) → or_else (first (shapeRules c.args.s)) (from-rate c) ≡ whole c
-groups c = by-groups c.args.s c.args.matrix.now (planes c.args.y.now c.args.c1.now c.args.c2.now) c.args.work.now
+groups : (c : tie.Start) → or_else (first (shape_rules c.args.s)) (from-rate c) ≡ whole c
+groups c = by_groups c.args.s c.args.matrix.now (planes c.args.y.now c.args.c1.now c.args.c2.now) c.args.work.now
 
 -- the groups that are kept
 kept-1 : (c : tie.Else1) → from-rate (shaped c.before) ≡ whole (shaped c.before)
-kept-1 c = let st = shaped c.before in or-goes-on (from-rate st) c.before.shape-refusal.ensures (omega (arith, c.if1.false)) ∙ groups st
+kept-1 c = let st = shaped c.before in or_goes_on (from-rate st) c.before.shape-refusal.ensures (omega (arith, c.if1.false)) ∙ groups st
 
 kept-2 : (c : tie.Else2) → from-frame (rated c.before) ≡ whole (rated c.before)
-kept-2 c = or-goes-on (from-frame (rated c.before)) c.before.rate-refusal.ensures (omega (arith, c.if2.false)) ∙ kept-1 c.before.before
+kept-2 c = or_goes_on (from-frame (rated c.before)) c.before.rate-refusal.ensures (omega (arith, c.if2.false)) ∙ kept-1 c.before.before
 
 kept-3 : (c : tie.Else3) → from-matrix (framed c.before) ≡ whole (framed c.before)
-kept-3 c = or-goes-on (from-matrix (framed c.before)) c.before.frame-refusal.ensures (omega (arith, c.if3.false)) ∙ kept-2 c.before.before
+kept-3 c = or_goes_on (from-matrix (framed c.before)) c.before.frame-refusal.ensures (omega (arith, c.if3.false)) ∙ kept-2 c.before.before
 
 kept-4 : (c : tie.Else4) → from-memory (valued c.before) ≡ whole (valued c.before)
-kept-4 c = or-goes-on (from-memory (valued c.before)) c.before.matrix-refusal.ensures (omega (arith, c.if4.false)) ∙ kept-3 c.before.before
+kept-4 c = or_goes_on (from-memory (valued c.before)) c.before.matrix-refusal.ensures (omega (arith, c.if4.false)) ∙ kept-3 c.before.before
 
 -- what the last group asks
-shape-none : (c : tie.Else1) → first (shapeRules (shaped c.before).args.s) ≡ 0
+shape-none : (c : tie.Else1) → first (shape_rules (shaped c.before).args.s) ≡ 0
 shape-none c = omega (arith, c.before.shape-refusal.ensures, c.if1.false)
 
-frame-none : (c : tie.Else3) → first (frameRules (framed c.before).args.s) ≡ 0
+frame-none : (c : tie.Else3) → first (frame_rules (framed c.before).args.s) ≡ 0
 frame-none c = omega (arith, c.before.frame-refusal.ensures, c.if3.false)
 
 measured-3 : (c : tie.Else3) → Measured (framed c.before).args.s
@@ -84,25 +84,25 @@ shape-refusal-requires : tie.Need-shape-refusal-requires
 shape-refusal-requires c κs = search rules
 
 returns : tie.Need-returns
-returns c = let st = shaped c.before in or-stops (from-rate st) c.before.shape-refusal.ensures (λ e. omega (arith, c.if1.true)) ∙ groups st
+returns c = let st = shaped c.before in or_stops (from-rate st) c.before.shape-refusal.ensures (λ e. omega (arith, c.if1.true)) ∙ groups st
 
 rate-refusal-requires : tie.Need-rate-refusal-requires
 rate-refusal-requires c κs = search rules
 
 returns-2 : tie.Need-returns-2
-returns-2 c = or-stops (from-frame (rated c.before)) c.before.rate-refusal.ensures (λ e. omega (arith, c.if2.true)) ∙ kept-1 c.before.before
+returns-2 c = or_stops (from-frame (rated c.before)) c.before.rate-refusal.ensures (λ e. omega (arith, c.if2.true)) ∙ kept-1 c.before.before
 
 frame-refusal-requires : tie.Need-frame-refusal-requires
 frame-refusal-requires c κs = search rules
 
 returns-3 : tie.Need-returns-3
-returns-3 c = or-stops (from-matrix (framed c.before)) c.before.frame-refusal.ensures (λ e. omega (arith, c.if3.true)) ∙ kept-2 c.before.before
+returns-3 c = or_stops (from-matrix (framed c.before)) c.before.frame-refusal.ensures (λ e. omega (arith, c.if3.true)) ∙ kept-2 c.before.before
 
 matrix-refusal-requires : tie.Need-matrix-refusal-requires
 matrix-refusal-requires c κs = search rules
 
 returns-4 : tie.Need-returns-4
-returns-4 c = or-stops (from-memory (valued c.before)) c.before.matrix-refusal.ensures (λ e. omega (arith, c.if4.true)) ∙ kept-3 c.before.before
+returns-4 c = or_stops (from-memory (valued c.before)) c.before.matrix-refusal.ensures (λ e. omega (arith, c.if4.true)) ∙ kept-3 c.before.before
 
 memory-refusal-requires : tie.Need-memory-refusal-requires
 memory-refusal-requires c κs = measured-3 c.before.before

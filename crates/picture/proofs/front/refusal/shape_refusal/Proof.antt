@@ -3,7 +3,7 @@ use mathlib.Core.Path.{◌≡◌, sym, ◌∙◌}
 use mathlib.Core.List.{List}
 use lib.ListN.{drop}
 use Rattle.unit.specs.Rules.{Rule, first}
-use Rattle.unit.specs.Refusal.{shapeRules}
+use Rattle.unit.specs.Refusal.{shape_rules}
 use Rattle.unit.specs.Laws.Rules.{stops, goes_on}
 use borrow.Author.Rules.{rules}
 use Rattle.picture.proofs.front.refusal.shape_refusal.Statement.{statement}
@@ -17,7 +17,7 @@ use Rattle.picture.proofs.front.refusal.bad_wavelets.Reads as bad-wavelets-reads
 
 -- the rules of the call
 abbrev rules : tie.Start → List Rule
-rules c = shapeRules c.args.s
+rules c = shape_rules c.args.s
 
 -- the same where the first of them are kept
 abbrev rules-1 : tie.Else1 → List Rule

@@ -1,6 +1,6 @@
 -- `front::sizes::colour_size` meets its contract.
 use mathlib.Core.Path.{refl}
-use Rattle.unit.specs.Sizes.{colourSize}
+use Rattle.unit.specs.Sizes.{colour_size}
 use borrow.Author.Rules.{rules}
 use Rattle.picture.proofs.front.sizes.colour_size.Statement.{statement}
 use Rattle.picture.proofs.front.sizes.colour_size.Tie as tie
@@ -18,7 +18,7 @@ halved-if-requires-3 : tie.Need-halved-if-requires-3
 halved-if-requires-3 c κs = search rules
 
 returns : tie.Need-returns
-unfolding colourSize
+unfolding colour_size
 returns c = let t = c.before.before in rw (c.halved-if3.ensures, t.halved-if2.ensures, t.before.before.halved-if.ensures) refl
 
 pub colour-size-spec : {M : Type 1} → statement M

@@ -4,7 +4,7 @@ use Prim.Native.Nat.{◌-◌, ◌^◌, ◌≤◌, ◌<◌}
 use native.Mathlib.Nat.{pow-suc}
 use native.Mathlib.Numerals.{add-one}
 use Rattle.unit.specs.Sizes.{intlog2}
-use Rattle.picture.specs.Laws.Sides.{log-more, log-few, log_is}
+use Rattle.picture.specs.Laws.Sides.{log_more, log_few, log_is}
 use native.Mathlib.Omega.{arith}
 use Rattle.picture.proofs.front.sizes.intlog2.Statement.{statement}
 use Rattle.picture.proofs.front.sizes.intlog2.Tie as tie
@@ -18,11 +18,11 @@ abbrev decreases-loop : tie.decreases-loop
 decreases-loop n m₀ power₀ m power = intlog2 n - m
 
 few : (c : tie.Start invariant-loop decreases-loop) → intlog2 c.args.n < 63
-few c = log-few c.args.n c.requires
+few c = log_few c.args.n c.requires
 
 -- below the answer once more
 further : (c : tie.In-loop invariant-loop decreases-loop) → c.before.loop.m < intlog2 c.before.before.args.n
-further c = log-more c.before.before.args.n c.before.loop.m (rw (← c.before.loop.invariant.0) c.loop-test.true)
+further c = log_more c.before.before.args.n c.before.loop.m (rw (← c.before.loop.invariant.0) c.loop-test.true)
 
 loop-holds : tie.Need-loop-init invariant-loop decreases-loop
 loop-holds c = (refl, omega arith)

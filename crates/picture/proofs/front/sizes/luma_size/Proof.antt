@@ -1,6 +1,6 @@
 -- `front::sizes::luma_size` meets its contract.
 use mathlib.Core.Path.{refl}
-use Rattle.unit.specs.Sizes.{lumaSize}
+use Rattle.unit.specs.Sizes.{luma_size}
 use borrow.Author.Rules.{rules}
 use Rattle.picture.proofs.front.sizes.luma_size.Statement.{statement}
 use Rattle.picture.proofs.front.sizes.luma_size.Tie as tie
@@ -12,7 +12,7 @@ halved-if-requires : tie.Need-halved-if-requires
 halved-if-requires c κs = search rules
 
 returns : tie.Need-returns
-unfolding lumaSize
+unfolding luma_size
 returns c = rw c.halved-if.ensures refl
 
 pub luma-size-spec : {M : Type 1} → statement M

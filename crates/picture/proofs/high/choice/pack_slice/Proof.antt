@@ -1,6 +1,6 @@
 -- `high::choice::pack_slice` meets its contract.
 use native.Mathlib.Omega.{arith}
-use Rattle.picture.specs.Laws.PackSlice.{run-after, y-ready, c1-ready, c2-ready, slice-chosen, slice-packed, slice_kept}
+use Rattle.picture.specs.Laws.PackSlice.{run-after, y_ready, c1_ready, c2_ready, slice_chosen, slice_packed, slice_kept}
 use borrow.Author.Rules.{rules}
 use Rattle.picture.proofs.high.choice.pack_slice.Statement.{statement}
 use Rattle.picture.proofs.high.choice.pack_slice.Tie as tie
@@ -34,14 +34,14 @@ pack-run-requires : tie.Need-pack-run-requires
 pack-run-requires c κs =
     let st = begin c in
     let a = st.args in
-    y-ready a.p a.k a.q a.from st.pre.0 st.pre.1.0 st.pre.1.1
+    y_ready a.p a.k a.q a.from st.pre.0 st.pre.1.0 st.pre.1.1
 
 pack-run-requires-2 : tie.Need-pack-run-requires-2
 pack-run-requires-2 c κs =
     let st = begin' c.before.before in
     let a = st.args in
     let y = c.before.before.pack-run.ensures in
-    c1-ready a.p a.k a.q a.from st.pre.0 st.pre.1.0 st.pre.1.1 y
+    c1_ready a.p a.k a.q a.from st.pre.0 st.pre.1.0 st.pre.1.1 y
 
 pack-run-requires-3 : tie.Need-pack-run-requires-3
 pack-run-requires-3 c κs =
@@ -49,7 +49,7 @@ pack-run-requires-3 c κs =
     let a = st.args in
     let y = (after-pack-run c.before.before).pack-run.ensures in
     let c1 = c.before.before.pack-run2.ensures in
-    c2-ready a.p a.k a.q a.from st.pre.0 st.pre.1.0 st.pre.1.1 y c1
+    c2_ready a.p a.k a.q a.from st.pre.0 st.pre.1.0 st.pre.1.1 y c1
 
 sub-t19 : tie.Need-overflow-sub-t19
 sub-t19 c = omega (arith, run-after (after-pack-run (after-pack-run2 c.before.before)).pack-run.ensures)
@@ -70,9 +70,9 @@ returns c =
     let y = (after-pack-run (after-pack-run2 (after-pack-run3 c.before.before))).pack-run.ensures in
     let c1 = (after-pack-run2 (after-pack-run3 c.before.before)).pack-run2.ensures in
     let c2 = (after-pack-run3 c.before.before).pack-run3.ensures in (
-      slice-chosen a.p a.k a.q a.from st.pre.0 st.pre.1.0 st.pre.1.1 y c1 c2,
+      slice_chosen a.p a.k a.q a.from st.pre.0 st.pre.1.0 st.pre.1.1 y c1 c2,
       (
-        slice-packed a.p a.k a.q a.from st.pre.0 st.pre.1.0 st.pre.1.1 y c1 c2,
+        slice_packed a.p a.k a.q a.from st.pre.0 st.pre.1.0 st.pre.1.1 y c1 c2,
         slice_kept a.p a.k a.q a.from st.pre.0 st.pre.1.0 st.pre.1.1 y c1 c2,
       ),
     )

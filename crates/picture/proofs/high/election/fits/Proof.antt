@@ -1,8 +1,8 @@
 -- `high::election::fits` meets its contract.
 use native.Mathlib.Omega.{arith}
 use Rattle.picture.specs.Laws.Layout.{run_lies}
-use Rattle.picture.specs.Laws.Picture.{run-y}
-use Rattle.picture.specs.Laws.HighIndex.{run-bits, alone-not}
+use Rattle.picture.specs.Laws.Picture.{run_y}
+use Rattle.picture.specs.Laws.HighIndex.{run-bits, alone_not}
 use borrow.Author.Rules.{rules}
 use Rattle.picture.proofs.high.election.fits.Statement.{statement}
 use Rattle.picture.proofs.high.election.fits.Tie as tie
@@ -18,7 +18,7 @@ abbrev after-trimmed-run : tie.Then1 → tie.After-trimmed-run
 after-trimmed-run c = let t = c.before.before in t.before
 
 trimmed-run-requires : tie.Need-trimmed-run-requires
-trimmed-run-requires c κs = let h = c.before.requires.0 in (run_lies (run-y h), h.arranged.y.area)
+trimmed-run-requires c κs = let h = c.before.requires.0 in (run_lies (run_y h), h.arranged.y.area)
 
 needs-of-requires : tie.Need-needs-of-requires
 needs-of-requires c κs =
@@ -34,7 +34,7 @@ returns c =
     let st = (after-trimmed-run c).before.before in
     let a = st.args in
     let z = c.before.slice-size in
-    alone-not a.work.now a.p a.k a.q (after-trimmed-run c).trimmed-run.result c.before.before.needs-of.result a.t.prefix a.t.scaler a.share z.result
+    alone_not a.work.now a.p a.k a.q (after-trimmed-run c).trimmed-run.result c.before.before.needs-of.result a.t.prefix a.t.scaler a.share z.result
     st.pre.1.scaler.0 (after-trimmed-run c).trimmed-run.ensures c.before.before.needs-of.ensures.0 z.ensures.0 c.if1.true
 
 fits-with-requires : tie.Need-fits-with-requires

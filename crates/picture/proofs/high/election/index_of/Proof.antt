@@ -1,6 +1,6 @@
 -- `high::election::index_of` meets its contract.
 use native.Mathlib.Omega.{arith}
-use Rattle.picture.specs.Laws.HighIndex.{index-lossless, index-fixed, index-elected, index-most}
+use Rattle.picture.specs.Laws.HighIndex.{index_lossless, index_fixed, index_elected, index-most}
 use borrow.Author.Rules.{rules}
 use Rattle.picture.proofs.high.election.index_of.Statement.{statement}
 use Rattle.picture.proofs.high.election.index_of.Tie as tie
@@ -33,20 +33,20 @@ elect-qindex-requires : tie.Need-elect-qindex-requires
 elect-qindex-requires c κs = search rules
 
 returns : tie.Need-returns
-returns c = let a = c.before.before.args in (index-lossless a.work.now a.p a.t a.k c.enum_told.given.1, omega arith)
+returns c = let a = c.before.before.args in (index_lossless a.work.now a.p a.t a.k c.enum_told.given.1, omega arith)
 
 returns-2 : tie.Need-returns-2
 returns-2 c =
     let t = c.before.before in
     let st = t.before in
     let a = st.args in
-    index-fixed a.work.now a.p a.t a.k st.requires.0.terms _ c.before.rate.given.1
+    index_fixed a.work.now a.p a.t a.k st.requires.0.terms _ c.before.rate.given.1
 
 returns-3 : tie.Need-returns-3
 returns-3 c =
     let st = (after-enum-told2 c).before.before in
     let a = st.args in
-    let e = index-elected a.work.now a.p a.t a.k _ _ _ _ (after-enum-told2 c).enum-told2.given.1 c.before.before.slice-count.ensures.0 c.before.share-of.ensures c.elect-qindex.ensures in
+    let e = index_elected a.work.now a.p a.t a.k _ _ _ _ (after-enum-told2 c).enum-told2.given.1 c.before.before.slice_count_lem.ensures.0 c.before.share-of.ensures c.elect-qindex.ensures in
     (e, omega (arith, e, index-most a.work.now a.p a.t a.k st.pre.0.terms))
 
 pub index-of-spec : {M : Type 1} → statement M

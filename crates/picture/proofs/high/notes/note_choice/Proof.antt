@@ -3,7 +3,7 @@ use mathlib.Core.Path.{ap, ◌∙◌}
 use mathlib.Core.List.{List}
 use Prim.Native.Nat.{◌+◌}
 use lib.IntN.{ℤ}
-use Rattle.picture.specs.Code.Notes.{noteRun}
+use Rattle.picture.specs.Code.Notes.{note_run}
 use borrow.Author.Rules.{rules}
 use Rattle.picture.proofs.high.notes.note_choice.Statement.{statement}
 use Rattle.picture.proofs.high.notes.note_choice.Tie as tie
@@ -59,9 +59,9 @@ returns : tie.Need-returns
 returns c =
     let a = (begin (after-note (after-note-run (after-note-run2 c.before)))).args in
     c.before.note-run3.ensures
-    ∙ ap (λ (w : List ℤ). noteRun w (a.i + 5) a.c.c2) ((after-note-run2 c.before).note-run2.ensures
-    ∙ ap (λ (w : List ℤ). noteRun w (a.i + 3) a.c.c1) ((after-note-run (after-note-run2 c.before)).note-run.ensures
-    ∙ ap (λ (w : List ℤ). noteRun w (a.i + 1) a.c.y) (after-note (after-note-run (after-note-run2 c.before))).note.ensures))
+    ∙ ap (λ (w : List ℤ). note_run w (a.i + 5) a.c.c2) ((after-note-run2 c.before).note-run2.ensures
+    ∙ ap (λ (w : List ℤ). note_run w (a.i + 3) a.c.c1) ((after-note-run (after-note-run2 c.before)).note-run.ensures
+    ∙ ap (λ (w : List ℤ). note_run w (a.i + 1) a.c.y) (after-note (after-note-run (after-note-run2 c.before))).note.ensures))
 
 pub note-choice-spec : {M : Type 1} → statement M
 note-choice-spec =

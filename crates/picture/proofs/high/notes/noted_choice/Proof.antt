@@ -9,12 +9,12 @@ use mir.Facts.{to_z-of_z}
 use native.Mathlib.Omega.{arith}
 use Rattle.laws.specs.Rows.{at}
 use Rattle.laws.specs.Laws.Machine.{fit}
-use Rattle.picture.specs.Code.Packed.{wordsAt}
-use Rattle.picture.specs.Code.Picture.{slicesIn}
-use Rattle.picture.specs.Code.Choice.{indexIn, choiceIn, words_in, FewBits}
+use Rattle.picture.specs.Code.Packed.{words_at}
+use Rattle.picture.specs.Code.Picture.{slices_in}
+use Rattle.picture.specs.Code.Choice.{index_in, choice_in, words_in, FewBits}
 use Rattle.picture.specs.Code.Notes.{ChoiceAt}
-use Rattle.picture.specs.Laws.HighIndex.{index-most, own-few}
-use Rattle.picture.specs.Laws.Noted.{words-room, words-end, laid-again, words-stand, noted-y, noted-c1, noted-c2, noted-is}
+use Rattle.picture.specs.Laws.HighIndex.{index-most, own_few}
+use Rattle.picture.specs.Laws.Noted.{words_room, words_end, laid_again, words_stand, noted_y, noted_c1, noted_c2, noted_is}
 use borrow.Author.Rules.{rules}
 use Rattle.picture.proofs.high.notes.noted_choice.Statement.{statement}
 use Rattle.picture.proofs.high.notes.noted_choice.Tie as tie
@@ -40,26 +40,26 @@ abbrev after-noted-run : tie.After-noted-run-arg3 → tie.After-noted-run
 after-noted-run c = let t = c.before.before in t.before
 
 -- where the work slice reaches so far the choice stands there, and it has few bits
-stands : (c : tie.Start) → let a = c.args in a.p.end + 7 * a.k + 6 < length a.work.now → ChoiceAt a.work.now (a.p.end + 7 * a.k) (choiceIn a.work.now a.p a.t a.k)
+stands : (c : tie.Start) → let a = c.args in a.p.end + 7 * a.k + 6 < length a.work.now → ChoiceAt a.work.now (a.p.end + 7 * a.k) (choice_in a.work.now a.p a.t a.k)
 stands c h = c.requires.1.1.0.choice c.args.k c.requires.1.0 h
 
-few : (c : tie.Start) → let a = c.args in FewBits (choiceIn a.work.now a.p a.t a.k)
+few : (c : tie.Start) → let a = c.args in FewBits (choice_in a.work.now a.p a.t a.k)
 few c =
     let a = c.args in
-    own-few a.work.now a.p a.t a.k _ c.requires.0.arranged (index-most a.work.now a.p a.t a.k c.requires.0.terms) refl
+    own_few a.work.now a.p a.t a.k _ c.requires.0.arranged (index-most a.work.now a.p a.t a.k c.requires.0.terms) refl
 
 -- its words stand
-stood : (c : tie.Start) → let a = c.args in wordsAt a.work.now a.from (length (words_in a.work.now a.p a.t a.k)) ≡ words_in a.work.now a.p a.t a.k
+stood : (c : tie.Start) → let a = c.args in words_at a.work.now a.from (length (words_in a.work.now a.p a.t a.k)) ≡ words_in a.work.now a.p a.t a.k
 stood c =
     let a = c.args in
-    ap (λ (i : ℕ). wordsAt a.work.now i (length (words_in a.work.now a.p a.t a.k))) c.requires.1.1.1
-    ∙ words-stand a.work.now a.work.now a.p a.t (slicesIn a.p) a.k c.requires.1.0 c.requires.1.1.0.words
+    ap (λ (i : ℕ). words_at a.work.now i (length (words_in a.work.now a.p a.t a.k))) c.requires.1.1.1
+    ∙ words_stand a.work.now a.work.now a.p a.t (slices_in a.p) a.k c.requires.1.0 c.requires.1.1.0.words
 
 -- the index that is read
 index_is : (c : tie.Start) → let a = c.args in a.p.end + 7 * a.k + 6 < length a.work.now
-    → (to_z w64 (of_z w64 (at a.work.now (a.p.end + 7 * a.k))) ≡ pos (indexIn a.work.now a.p a.t a.k)) × (indexIn a.work.now a.p a.t a.k ≤ 255)
+    → (to_z w64 (of_z w64 (at a.work.now (a.p.end + 7 * a.k))) ≡ pos (index_in a.work.now a.p a.t a.k)) × (index_in a.work.now a.p a.t a.k ≤ 255)
 index_is c h =
-    let q : ℕ = indexIn c.args.work.now c.args.p c.args.t c.args.k in
+    let q : ℕ = index_in c.args.work.now c.args.p c.args.t c.args.k in
     let m : q ≤ 255 = (few c).index in
     (rw (stands c h).index (to_z-of_z {w = w64} {z = pos q} (fit (pos q) (omega arith))), m)
 
@@ -89,19 +89,19 @@ add-noted-run c = search rules
 noted-run-requires : tie.Need-noted-run-requires
 noted-run-requires c κs =
     let t = c.before.before in
-    let h = t.if1.true in noted-y (stands t.before.before h) (few t.before.before) h
+    let h = t.if1.true in noted_y (stands t.before.before h) (few t.before.before) h
 
 add-noted-run-2 : tie.Need-overflow-add-noted-run-2
 add-noted-run-2 c = search rules
 
 noted-run-requires-2 : tie.Need-noted-run-requires-2
-noted-run-requires-2 c κs = let h = (then1 c).if1.true in noted-c1 (stands (then1 c).before.before h) (few (then1 c).before.before) h
+noted-run-requires-2 c κs = let h = (then1 c).if1.true in noted_c1 (stands (then1 c).before.before h) (few (then1 c).before.before) h
 
 add-noted-run-3 : tie.Need-overflow-add-noted-run-3
 add-noted-run-3 c = search rules
 
 noted-run-requires-3 : tie.Need-noted-run-requires-3
-noted-run-requires-3 c κs = let h = (then1' c.before).if1.true in noted-c2 (stands (then1' c.before).before.before h) (few (then1' c.before).before.before) h
+noted-run-requires-3 c κs = let h = (then1' c.before).if1.true in noted_c2 (stands (then1' c.before).before.before h) (few (then1' c.before).before.before) h
 
 same_length : tie.Need-same-length
 same_length c = search rules
@@ -110,14 +110,14 @@ returns : tie.Need-returns
 returns c =
     let st = (then1' c.before.before).before.before in
     let h = (then1' c.before.before).if1.true in
-    (rw (index_is st h).0 (noted-is (stands st h) _ _ _ _ refl (after-noted-run c.before).noted-run.ensures c.before.before.noted-run2.ensures c.noted-run3.ensures), refl)
+    (rw (index_is st h).0 (noted_is (stands st h) _ _ _ _ refl (after-noted-run c.before).noted-run.ensures c.before.before.noted-run2.ensures c.noted-run3.ensures), refl)
 
 choice-of-requires : tie.Need-choice-of-requires
 choice-of-requires c κs =
     let t = c.before.before in
     let st = t.before in
     let a = st.args in
-    (st.requires.0, (st.requires.1.0, omega (arith, st.requires.1.1.1, words-room a.work.now a.p a.t a.k st.requires.0.arranged st.requires.1.0)))
+    (st.requires.0, (st.requires.1.0, omega (arith, st.requires.1.1.1, words_room a.work.now a.p a.t a.k st.requires.0.arranged st.requires.1.0)))
 
 same-length-2 : tie.Need-same-length-2
 same-length-2 c = search rules
@@ -128,8 +128,8 @@ returns-2 c =
     let a = st.args in
     let r = c.before.choice-of.ensures in (
       r.0,
-      r.1.0 ∙ laid-again a.work.now a.from (words_in a.work.now a.p a.t a.k)
-          (omega (arith, st.pre.1.1.1, words-end a.work.now a.p a.t a.k st.pre.0.arranged st.pre.1.0, st.pre.0.small.order, st.pre.0.small.long)) (stood st),
+      r.1.0 ∙ laid_again a.work.now a.from (words_in a.work.now a.p a.t a.k)
+          (omega (arith, st.pre.1.1.1, words_end a.work.now a.p a.t a.k st.pre.0.arranged st.pre.1.0, st.pre.0.small.order, st.pre.0.small.long)) (stood st),
     )
 
 pub noted-choice-spec : {M : Type 1} → statement M

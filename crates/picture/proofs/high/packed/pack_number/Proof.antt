@@ -8,10 +8,10 @@ use lib.ListN.{length, set}
 use mir.Facts.{to_z-of_z}
 use Rattle.laws.specs.Laws.Laid.{laid_one}
 use Rattle.codewords.specs.CodeWord.{code_s}
-use Rattle.picture.specs.Code.Packed.{zerosWord}
+use Rattle.picture.specs.Code.Packed.{zeros_word}
 use borrow.Author.Rules.{rules}
 use Rattle.picture.specs.Laws.Unpacked.{zeros-due}
-use Rattle.picture.specs.Laws.Packed.{packs-one}
+use Rattle.picture.specs.Laws.Packed.{packs_one}
 use Rattle.picture.proofs.high.packed.pack_number.Statement.{statement}
 use Rattle.picture.proofs.high.packed.pack_number.Tie as tie
 
@@ -60,9 +60,9 @@ returns c =
     let st = (after-pack-zeros c).before.before in
     let a = st.args in
     let d = (after-pack-zeros c).pack-zeros in
-    packs-one a.work.now _ a.t _ a.z st.pre.0
+    packs_one a.work.now _ a.t _ a.z st.pre.0
     (ap₂ (λ (v : List ℤ) (z : ℤ). set v d.result z) d.ensures.is (to_z-of_z st.fits.z)
-    ∙ laid_one a.work.now a.t.at d.result (zerosWord a.t.zeros) a.z d.ensures.next)
+    ∙ laid_one a.work.now a.t.at d.result (zeros_word a.t.zeros) a.z d.ensures.next)
     (ap (λ (k : ℕ). k + 1) d.ensures.next)
     refl
     (ap (λ (k : ℕ). a.t.bits + a.t.zeros + k) (c.sint-code-len.ensures ∙ ap (λ (z : ℤ). length (code_s z)) (to_z-of_z st.fits.z)))

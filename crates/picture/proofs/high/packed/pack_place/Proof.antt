@@ -6,10 +6,10 @@ use lib.IntN.{ℤ}
 use mir.Syntax.{w64}
 use mir.Facts.{to_z-of_z}
 use borrow.Author.Rules.{rules, sfits_of}
-use Rattle.quantiser.specs.Quant.{forwardBy}
-use Rattle.picture.specs.Code.Strip.{planeFrom}
+use Rattle.quantiser.specs.Quant.{forward_by}
+use Rattle.picture.specs.Code.Strip.{plane_from}
 use Rattle.picture.specs.Laws.Strip.{numbered}
-use Rattle.picture.specs.Laws.Packed.{packs-same, packs-zero, packable-less, zero_bits, some_bits, place_is}
+use Rattle.picture.specs.Laws.Packed.{packs_same, packs_zero, packable_less, zero_bits_lem, some_bits, place_is}
 use Rattle.picture.proofs.high.packed.pack_place.Statement.{statement}
 use Rattle.picture.proofs.high.packed.pack_place.Tie as tie
 
@@ -33,11 +33,11 @@ forward-small-requires c κs =
 
 -- what is packed
 number : (c : tie.After-forward-small) → let a = (begin c).args in
-    c.forward-small.result ≡ forwardBy a.s.factor (planeFrom a.work.now a.s.coefs a.s.width a.y a.x)
+    c.forward-small.result ≡ forward_by a.s.factor (plane_from a.work.now a.s.coefs a.s.width a.y a.x)
 number c =
     let a = (begin c).args in
     let d = c.before.coefficient in
-    c.forward-small.ensures ∙ ap (forwardBy a.s.factor) (to_z-of_z {w = w64} (sfits_of d.type-inv) ∙ d.ensures.0)
+    c.forward-small.ensures ∙ ap (forward_by a.s.factor) (to_z-of_z {w = w64} (sfits_of d.type-inv) ∙ d.ensures.0)
 
 add-t11 : tie.Need-overflow-add-t11
 add-t11 c = search rules
@@ -51,14 +51,14 @@ returns c =
     let a = st.args in
     let h = st.pre in
     let f = c.before.before.forward-small in
-    packs-same (place_is h.0.holds.0 a.y a.x f.result (number c.before.before)) (packs-zero a.work.now a.t f.result (zero_bits f.result (sfits_of f.type-inv) c.before.if1.true))
+    packs_same (place_is h.0.holds.0 a.y a.x f.result (number c.before.before)) (packs_zero a.work.now a.t f.result (zero_bits_lem f.result (sfits_of f.type-inv) c.before.if1.true))
 
 pack-number-requires : tie.Need-pack-number-requires
 pack-number-requires c κs =
     let h = (begin c.before.before).requires in
     let f = c.before.before.forward-small in
     let m = h.0.holds.0.plain.small in
-    (rw (to_z-of_z {w = w64} (sfits_of f.type-inv)) (some_bits f.result c.before.if1.false), packable-less (omega (arith, m.order, m.long)) (omega arith) h.0.holds.1)
+    (rw (to_z-of_z {w = w64} (sfits_of f.type-inv)) (some_bits f.result c.before.if1.false), packable_less (omega (arith, m.order, m.long)) (omega arith) h.0.holds.1)
 
 same-length-2 : tie.Need-same-length-2
 same-length-2 c = search rules
@@ -70,7 +70,7 @@ returns-2 c =
     let h = st.pre in
     let f = (after-forward-small c.before).forward-small in
     let e = ap (λ (z : ℤ). z ∷ []) (to_z-of_z {w = w64} (sfits_of f.ok)) in
-    packs-same (e ∙ place_is h.0.holds.0 a.y a.x f.result (number (after-forward-small c.before))) c.before.pack-number.ensures
+    packs_same (e ∙ place_is h.0.holds.0 a.y a.x f.result (number (after-forward-small c.before))) c.before.pack-number.ensures
 
 pub pack-place-spec : {M : Type 1} → statement M
 pack-place-spec =

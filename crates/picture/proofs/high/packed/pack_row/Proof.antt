@@ -6,7 +6,7 @@ use Rattle.laws.specs.Code.Chunks.{chunks}
 use Rattle.picture.specs.Code.Strip.{Inside}
 use Rattle.picture.specs.Laws.Strip.{places, row-chunks}
 use Rattle.picture.specs.Code.Packed.{Packs}
-use Rattle.picture.specs.Laws.Packed.{packs-same, packs-start, packs-length, row-ready, row-turn}
+use Rattle.picture.specs.Laws.Packed.{packs_same, packs_start, packs_length, row_ready, row-turn}
 use Rattle.picture.proofs.high.packed.pack_row.Statement.{statement}
 use Rattle.picture.proofs.high.packed.pack_row.Tie as tie
 
@@ -33,7 +33,7 @@ loop-holds : tie.Need-loop-init invariant-loop decreases-loop
 loop-holds c =
     let a = c.args in
     let h = c.requires.0.holds.0.plain in
-    (omega arith, (h.within.columns, packs-start (places a.work.now a.s a.y a.s.left) a.work.now a.t a.s.left))
+    (omega arith, (h.within.columns, packs_start (places a.work.now a.s a.y a.s.left) a.work.now a.t a.s.left))
 
 pack-place-requires : tie.Need-pack-place-requires invariant-loop decreases-loop
 pack-place-requires c κs =
@@ -42,7 +42,7 @@ pack-place-requires c κs =
     let a = st.args in
     let l = t.before.loop in
     let i = within c.before in
-    (row-ready st.requires.0.holds.0 a.y l.x i st.requires.0.holds.1 l.invariant.1.1, i)
+    (row_ready st.requires.0.holds.0 a.y l.x i st.requires.0.holds.1 l.invariant.1.1, i)
 
 add-x : tie.Need-overflow-add-x invariant-loop decreases-loop
 add-x c = omega arith
@@ -59,7 +59,7 @@ loop-again c =
     (omega (arith, l.inv.0), (omega (arith, i.left-of), row-turn st.pre.0.holds.0 a.y l.x i st.pre.0.holds.1 l.inv.1.1 c.before.pack-place.ensures))
 
 same_length : tie.Need-same-length invariant-loop decreases-loop
-same_length c = packs-length c.before.before.loop.invariant.1.1
+same_length c = packs_length c.before.before.loop.invariant.1.1
 
 returns : tie.Need-returns invariant-loop decreases-loop
 returns c =
@@ -68,7 +68,7 @@ returns c =
     let l = t.loop in
     let e : l.x - a.s.left ≡ a.s.right - a.s.left = omega (arith, l.invariant.1.0, c.if1.false) in
     let F = places a.work.now a.s a.y a.s.left in
-    packs-same (ap (chunks F) e ∙ sym (row-chunks a.work.now a.s a.y a.s.left (a.s.right - a.s.left))) l.invariant.1.1
+    packs_same (ap (chunks F) e ∙ sym (row-chunks a.work.now a.s a.y a.s.left (a.s.right - a.s.left))) l.invariant.1.1
 
 pub pack-row-spec : {M : Type 1} → statement M
 pack-row-spec =

@@ -5,7 +5,7 @@ use native.Mathlib.Omega.{arith}
 use Rattle.laws.specs.Code.Chunks.{chunks}
 use Rattle.picture.specs.Laws.Strip.{rows, rows-chunks}
 use Rattle.picture.specs.Code.Packed.{Packs}
-use Rattle.picture.specs.Laws.Packed.{packs-same, packs-start, packs-length, strip-ready, strip-turn}
+use Rattle.picture.specs.Laws.Packed.{packs_same, packs_start, packs_length, strip_ready, strip_turn}
 use Rattle.picture.proofs.high.packed.pack_strip.Statement.{statement}
 use Rattle.picture.proofs.high.packed.pack_strip.Tie as tie
 
@@ -27,7 +27,7 @@ loop-holds : tie.Need-loop-init invariant-loop decreases-loop
 loop-holds c =
     let a = c.args in
     let h = c.requires.holds.0.plain in
-    (omega arith, (h.within.rows, packs-start (rows a.work.now a.s a.s.top) a.work.now a.t a.s.top))
+    (omega arith, (h.within.rows, packs_start (rows a.work.now a.s a.s.top) a.work.now a.t a.s.top))
 
 pack-row-requires : tie.Need-pack-row-requires invariant-loop decreases-loop
 pack-row-requires c κs =
@@ -35,7 +35,7 @@ pack-row-requires c κs =
     let st = t.before.before in
     let l = t.before.loop in
     let d = c.before.if1.true in
-    (strip-ready st.requires.holds.0 l.y l.invariant.0 d st.requires.holds.1 l.invariant.1.1, (l.invariant.0, d))
+    (strip_ready st.requires.holds.0 l.y l.invariant.0 d st.requires.holds.1 l.invariant.1.1, (l.invariant.0, d))
 
 add-y : tie.Need-overflow-add-y invariant-loop decreases-loop
 add-y c = omega arith
@@ -48,10 +48,10 @@ loop-again c =
     let st = (after-struct-known c.before).before.before in
     let l = (after-struct-known c.before).before.loop in
     let d = (then1 c).if1.true in
-    (omega (arith, l.inv.0), (omega (arith, d), strip-turn st.pre.holds.0 l.y l.inv.0 d st.pre.holds.1 l.inv.1.1 c.before.pack-row.ensures))
+    (omega (arith, l.inv.0), (omega (arith, d), strip_turn st.pre.holds.0 l.y l.inv.0 d st.pre.holds.1 l.inv.1.1 c.before.pack-row.ensures))
 
 same_length : tie.Need-same-length invariant-loop decreases-loop
-same_length c = packs-length c.before.before.loop.invariant.1.1
+same_length c = packs_length c.before.before.loop.invariant.1.1
 
 returns : tie.Need-returns invariant-loop decreases-loop
 returns c =
@@ -60,7 +60,7 @@ returns c =
     let l = t.loop in
     let e : l.y - a.s.top ≡ a.s.bottom - a.s.top = omega (arith, l.invariant.1.0, c.if1.false) in
     let F = rows a.work.now a.s a.s.top in
-    packs-same (ap (chunks F) e ∙ sym (rows-chunks a.work.now a.s a.s.top (a.s.bottom - a.s.top))) l.invariant.1.1
+    packs_same (ap (chunks F) e ∙ sym (rows-chunks a.work.now a.s a.s.top (a.s.bottom - a.s.top))) l.invariant.1.1
 
 pub pack-strip-spec : {M : Type 1} → statement M
 pack-strip-spec =

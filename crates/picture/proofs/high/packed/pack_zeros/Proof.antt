@@ -10,7 +10,7 @@ use mir.Facts.{to_z-of_z}
 use borrow.Author.Rules.{rules}
 use Rattle.laws.specs.Laws.Machine.{fit}
 use Rattle.picture.specs.Code.Packed.{mark}
-use Rattle.picture.specs.Laws.Packed.{zeros-none, zeros-some, some-due, word-is}
+use Rattle.picture.specs.Laws.Packed.{zeros-none, zeros-some, some-due, word_is}
 use Rattle.picture.proofs.high.packed.pack_zeros.Statement.{statement}
 use Rattle.picture.proofs.high.packed.pack_zeros.Tie as tie
 
@@ -23,7 +23,7 @@ cast-work c = search rules
 add-work : tie.Need-overflow-add-work
 add-work c =
     let st = c.before in
-    rw (word-is st.args.n st.requires.1) (fit (pos (mark + st.args.n)) (omega (arith, st.requires.1)))
+    rw (word_is st.args.n st.requires.1) (fit (pos (mark + st.args.n)) (omega (arith, st.requires.1)))
 
 mul-t7 : tie.Need-overflow-mul-t7
 mul-t7 c = search rules
@@ -45,7 +45,7 @@ returns-2 c =
     let a = st.args in
     let w : ℤ = pos (mark + a.n) in
     zeros-some a.work.now _ a.at a.n c.if1.false
-    (ap (λ (z : ℤ). set a.work.now a.at (to_z w64 (of_z w64 z))) (word-is a.n st.requires.1)
+    (ap (λ (z : ℤ). set a.work.now a.at (to_z w64 (of_z w64 z))) (word_is a.n st.requires.1)
     ∙ ap (set a.work.now a.at) (to_z-of_z {w = w64} {z = w} (fit w (omega (arith, st.requires.1)))))
 
 pub pack-zeros-spec : {M : Type 1} → statement M

@@ -8,7 +8,7 @@ use mir.Val.{SFits, to_z, of_z}
 use mir.Facts.{to_z-of_z, to_z_pos}
 use Rattle.laws.specs.Laws.Integer.{up, parts}
 use Rattle.picture.specs.Code.Packed.{mark}
-use Rattle.picture.specs.Laws.PutWords.{over-mark, under-mark, less-mark, zeros-word, number_word, zeros-room}
+use Rattle.picture.specs.Laws.PutWords.{over_mark, under_mark, less-mark, zeros_word_lem, number_word, zeros_room}
 use borrow.Author.Rules.{rules}
 use Rattle.picture.proofs.high.packed.put_word.Statement.{statement}
 use Rattle.picture.proofs.high.packed.put_word.Tie as tie
@@ -22,10 +22,10 @@ mark-is : to_z w64 4503599627370496 ≡ pos mark
 mark-is = to_z_pos w64 (omega arith)
 
 more : (c : tie.Then1) → mark ≤ up c.before.before.args.z
-more c = let st = c.before.before in over-mark mark st.args.z (rw (mark-is, to_z-of_z {w = w64} st.ranges.z) at c.if1.true)
+more c = let st = c.before.before in over_mark mark st.args.z (rw (mark-is, to_z-of_z {w = w64} st.ranges.z) at c.if1.true)
 
 less : (c : tie.Else1) → up c.before.before.args.z < mark
-less c = let st = c.before.before in under-mark mark st.args.z (omega arith) (rw (mark-is, to_z-of_z {w = w64} st.ranges.z) at c.if1.false)
+less c = let st = c.before.before in under_mark mark st.args.z (omega arith) (rw (mark-is, to_z-of_z {w = w64} st.ranges.z) at c.if1.false)
 
 -- how many zeros, as the machine subtracts
 zeros-are : (c : tie.Then1) → let z = c.before.before.args.z in to_z w64 (of_z w64 z) -ℤ to_z w64 4503599627370496 ≡ pos (up z - mark)
@@ -44,7 +44,7 @@ put-ones-requires : tie.Need-put-ones-requires
 put-ones-requires c κs =
     let t = c.before.before in
     let st = t.before in
-    rw (zeros-are c.before, to_z-of_z {w = w64} (fits c.before)) (zeros-room st.args.z (more c.before) st.requires)
+    rw (zeros-are c.before, to_z-of_z {w = w64} (fits c.before)) (zeros_room st.args.z (more c.before) st.requires)
 
 same_length : tie.Need-same-length
 same_length c = search rules
@@ -53,7 +53,7 @@ returns : tie.Need-returns
 returns c =
     let u = c.before.before in
     let t = u.before.before in
-    rw (zeros-word t.before.before.args.z (more t)) (rw (zeros-are t, to_z-of_z {w = w64} (fits t)) at u.put-ones.ensures)
+    rw (zeros_word_lem t.before.before.args.z (more t)) (rw (zeros-are t, to_z-of_z {w = w64} (fits t)) at u.put-ones.ensures)
 
 put-sint-requires : tie.Need-put-sint-requires
 put-sint-requires c κs =

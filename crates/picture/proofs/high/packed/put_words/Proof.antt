@@ -9,8 +9,8 @@ use borrow.Author.Rules.{rules, sfits_of}
 use Rattle.laws.specs.Rows.{at}
 use Rattle.codewords.specs.CodeWord.{codes}
 use Rattle.codewords.specs.Code.Writer.{Wrote}
-use Rattle.picture.specs.Code.Packed.{unpacked, wordsAt}
-use Rattle.picture.specs.Laws.PutWords.{words-none, word_room, word-turn, words-all}
+use Rattle.picture.specs.Code.Packed.{unpacked, words_at}
+use Rattle.picture.specs.Laws.PutWords.{words_none, word_room, word_turn, words_all}
 use Rattle.picture.proofs.high.packed.put_words.Statement.{statement}
 use Rattle.picture.proofs.high.packed.put_words.Tie as tie
 use Rattle.picture.proofs.high.packed.put_words.Reads as reads
@@ -18,7 +18,7 @@ use Rattle.picture.proofs.high.packed.put_words.Lts as lts
 use Rattle.picture.proofs.high.packed.put_word.Reads as put-word-reads
 
 abbrev invariant-loop : tie.invariant-loop
-invariant-loop out₀ work at n r₀ i₀ out r i = (i ≤ n) × Wrote out₀ r₀ (codes (unpacked (wordsAt work at i))) out r
+invariant-loop out₀ work at n r₀ i₀ out r i = (i ≤ n) × Wrote out₀ r₀ (codes (unpacked (words_at work at i))) out r
 
 abbrev decreases-loop : tie.decreases-loop
 decreases-loop out₀ work at n r₀ i₀ out r i = n - i
@@ -31,7 +31,7 @@ abbrev at-loop : tie.After-put-word-arg invariant-loop decreases-loop → tie.At
 at-loop c = let t = c.before.before in t.before
 
 loop-holds : tie.Need-loop-init invariant-loop decreases-loop
-loop-holds c = let st = c.before in (omega arith, words-none st.args.work.now st.args.at st.requires.1)
+loop-holds c = let st = c.before in (omega arith, words_none st.args.work.now st.args.at st.requires.1)
 
 add-j : tie.Need-overflow-add-j invariant-loop decreases-loop
 add-j c = search rules
@@ -68,7 +68,7 @@ loop-again c =
     let a = st.args in
     let l = z.before.before.loop in
     let t = z.before.loop-test.true in
-    (omega arith, word-turn a.work.now a.at l.i (omega (arith, st.requires.0, t)) st.requires.1.sound l.invariant.1 (rw (word z) at u.put_word.ensures))
+    (omega arith, word_turn a.work.now a.at l.i (omega (arith, st.requires.0, t)) st.requires.1.sound l.invariant.1 (rw (word z) at u.put_word.ensures))
 
 same_length : tie.Need-same-length invariant-loop decreases-loop
 same_length c = c.before.loop.invariant.1.size
@@ -78,7 +78,7 @@ returns c =
     let t = c.before.before in
     let a = t.before.args in
     let l = c.before.loop in
-    words-all a.work.now a.at l.i a.n (omega (arith, l.invariant.0, c.loop-test.false)) l.invariant.1
+    words_all a.work.now a.at l.i a.n (omega (arith, l.invariant.0, c.loop-test.false)) l.invariant.1
 
 pub put-words-spec : {M : Type 1} → statement M
 put-words-spec =

@@ -1,5 +1,5 @@
 -- `high::size::needs_of` meets its contract.
-use Rattle.picture.specs.Laws.HighIndex.{needs-by}
+use Rattle.picture.specs.Laws.HighIndex.{needs_by_lem}
 use borrow.Author.Rules.{rules}
 use Rattle.picture.proofs.high.size.needs_of.Statement.{statement}
 use Rattle.picture.proofs.high.size.needs_of.Tie as tie
@@ -20,7 +20,7 @@ returns : tie.Need-returns
 returns c =
     let t = c.before.before in
     let a = t.before.args in
-    needs-by a.y a.c1 a.c2 _ _ _ t.need.ensures c.before.need2.ensures c.need3.ensures
+    needs_by_lem a.y a.c1 a.c2 _ _ _ t.need.ensures c.before.need2.ensures c.need3.ensures
 
 pub needs-of-spec : {M : Type 1} → statement M
 needs-of-spec = tie.close (tie.spec need-requires need-requires-2 need-requires-3 returns)

@@ -5,7 +5,7 @@ use native.Mathlib.Omega.{arith}
 use borrow.Author.Rules.{rules}
 use Rattle.laws.specs.Ceiling.{ceiling}
 use Rattle.picture.specs.Code.Notes.{run_at}
-use Rattle.picture.specs.Laws.HighSlice.{Counted, kept-held, byte-room, kept-room, ones-room, component-wrote}
+use Rattle.picture.specs.Laws.HighSlice.{Counted, kept_held, byte_room, kept_room, ones_room, component_wrote}
 use Rattle.picture.proofs.high.slice.put_component.Statement.{statement}
 use Rattle.picture.proofs.high.slice.put_component.Tie as tie
 
@@ -40,14 +40,14 @@ scalers-requires : tie.Need-scalers-requires
 scalers-requires c κs = (c.need.ensures.1, c.before.before.requires.1.0)
 
 put-nbits-requires : tie.Need-put-nbits-requires
-put-nbits-requires c κs = let t = c.before.before in (byte-room (counted c.before) t.before.before.requires.1.1, omega arith)
+put-nbits-requires c κs = let t = c.before.before in (byte_room (counted c.before) t.before.before.requires.1.1, omega arith)
 
 put-words-requires : tie.Need-put-words-requires
 put-words-requires c κs =
     let s = (after-put-nbits c).before.before in
     let k = s.before.before in
     let st = k.before in
-    (st.pre.0.reach, kept-room (counted s) st.pre.1.1 (after-put-nbits c).put-nbits.ensures)
+    (st.pre.0.reach, kept_room (counted s) st.pre.1.1 (after-put-nbits c).put-nbits.ensures)
 
 mul-put-ones : tie.Need-overflow-mul-put-ones
 mul-put-ones c = search rules
@@ -56,7 +56,7 @@ mul-put-ones-2 : tie.Need-overflow-mul-put-ones-2
 mul-put-ones-2 c = search rules
 
 sub-put-ones : tie.Need-overflow-sub-put-ones
-sub-put-ones c = omega (arith, kept-held (counted (after-put-nbits (after-put-words c).before).before.before))
+sub-put-ones c = omega (arith, kept_held (counted (after-put-nbits (after-put-words c).before).before.before))
 
 put-ones-requires : tie.Need-put-ones-requires
 put-ones-requires c κs =
@@ -67,7 +67,7 @@ put-ones-requires c κs =
     let s = b.before.before in
     let k = s.before.before in
     let st = k.before in
-    ones-room (counted s) st.requires.1.1 b.put-nbits.ensures w.put-words.ensures
+    ones_room (counted s) st.requires.1.1 b.put-nbits.ensures w.put-words.ensures
 
 same_length : tie.Need-same-length
 same_length c = search rules
@@ -80,7 +80,7 @@ returns c =
     let s = b.before.before in
     let k = s.before.before in
     let st = k.before in
-    component-wrote (counted s) st.pre.1.1 b.put-nbits.ensures w.put-words.ensures c.before.before.put-ones.ensures
+    component_wrote (counted s) st.pre.1.1 b.put-nbits.ensures w.put-words.ensures c.before.before.put-ones.ensures
 
 pub put-component-spec : {M : Type 1} → statement M
 put-component-spec =

@@ -1,7 +1,7 @@
 -- `high::slice::put_components` meets its contract.
 use borrow.Author.Rules.{rules}
-use Rattle.picture.specs.Code.Notes.{numbersAt}
-use Rattle.picture.specs.Laws.HighSlice.{y-room, c1-room, c2-room, three-wrote}
+use Rattle.picture.specs.Code.Notes.{numbers_at}
+use Rattle.picture.specs.Laws.HighSlice.{y_room, c1_room, c2_room, three_wrote}
 use Rattle.picture.proofs.high.slice.put_components.Statement.{statement}
 use Rattle.picture.proofs.high.slice.put_components.Tie as tie
 
@@ -26,7 +26,7 @@ put-component-requires c κs =
     let st = begin c in
     let a = st.args in
     let r = st.pre.1 in
-    (st.pre.0.y, (r.0, y-room a.scaler (numbersAt a.work.now a.from a.c) r.1))
+    (st.pre.0.y, (r.0, y_room a.scaler (numbers_at a.work.now a.from a.c) r.1))
 
 put-component-requires-2 : tie.Need-put-component-requires-2
 put-component-requires-2 c κs =
@@ -35,7 +35,7 @@ put-component-requires-2 c κs =
     let st = begin y.before in
     let a = st.args in
     let r = st.pre.1 in
-    (st.pre.0.c1, (r.0, c1-room a.scaler (numbersAt a.work.now a.from a.c) r.1 y.put-component.ensures))
+    (st.pre.0.c1, (r.0, c1_room a.scaler (numbers_at a.work.now a.from a.c) r.1 y.put-component.ensures))
 
 add-put-component : tie.Need-overflow-add-put-component
 add-put-component c = search rules
@@ -48,7 +48,7 @@ put-component-requires-3 c κs =
     let st = begin y.before in
     let a = st.args in
     let r = st.pre.1 in
-    (st.pre.0.c2, (r.0, c2-room a.scaler (numbersAt a.work.now a.from a.c) r.1 y.put-component.ensures u.put-component2.ensures))
+    (st.pre.0.c2, (r.0, c2_room a.scaler (numbers_at a.work.now a.from a.c) r.1 y.put-component.ensures u.put-component2.ensures))
 
 same_length : tie.Need-same-length
 same_length c = search rules
@@ -59,7 +59,7 @@ returns c =
     let y = luma u in
     let st = begin y.before in
     let a = st.args in
-    three-wrote a.scaler (numbersAt a.work.now a.from a.c) st.pre.1.1 y.put-component.ensures u.put-component2.ensures c.before.before.put-component3.ensures
+    three_wrote a.scaler (numbers_at a.work.now a.from a.c) st.pre.1.1 y.put-component.ensures u.put-component2.ensures c.before.before.put-component3.ensures
 
 pub put-components-spec : {M : Type 1} → statement M
 put-components-spec =

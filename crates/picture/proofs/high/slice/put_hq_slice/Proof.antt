@@ -2,8 +2,8 @@
 use mathlib.Core.Path.{refl}
 use native.Mathlib.Omega.{arith}
 use borrow.Author.Rules.{rules}
-use Rattle.picture.specs.Code.Notes.{numbersAt}
-use Rattle.picture.specs.Laws.HighSlice.{prefix-room, index-room, components-room, flush-room, slice-laid}
+use Rattle.picture.specs.Code.Notes.{numbers_at}
+use Rattle.picture.specs.Laws.HighSlice.{prefix_room, index_room, components_room, flush_room, slice_laid}
 use Rattle.picture.proofs.high.slice.put_hq_slice.Statement.{statement}
 use Rattle.picture.proofs.high.slice.put_hq_slice.Tie as tie
 
@@ -31,7 +31,7 @@ put-prefix-requires c κs =
     let st = c.before.before in
     let a = st.args in
     let t = st.requires.1.0 in
-    (prefix-room a.t.prefix a.t.scaler a.c.index (numbersAt a.work.now a.from a.c) a.at t.scaler.0 st.requires.1.1, t.prefix)
+    (prefix_room a.t.prefix a.t.scaler a.c.index (numbers_at a.work.now a.from a.c) a.at t.scaler.0 st.requires.1.1, t.prefix)
 
 cast-put-nbits : tie.Need-overflow-cast-put-nbits
 cast-put-nbits c = search rules
@@ -43,7 +43,7 @@ put-nbits-requires c κs =
     let st = start p in
     let a = st.args in
     let t = st.pre.1.0 in
-    (index-room a.t.prefix a.t.scaler a.c.index (numbersAt a.work.now a.from a.c) a.at t.scaler.0 st.pre.1.1 p.put-prefix.ensures, omega arith)
+    (index_room a.t.prefix a.t.scaler a.c.index (numbers_at a.work.now a.from a.c) a.at t.scaler.0 st.pre.1.1 p.put-prefix.ensures, omega arith)
 
 put-components-requires : tie.Need-put-components-requires
 put-components-requires c κs =
@@ -53,7 +53,7 @@ put-components-requires c κs =
     let st = start p in
     let a = st.args in
     let t = st.pre.1.0 in
-    (st.pre.0, (t.scaler, components-room a.t.prefix a.t.scaler a.c.index (numbersAt a.work.now a.from a.c) a.at t.scaler.0 st.pre.1.1 p.put-prefix.ensures i.put-nbits.ensures))
+    (st.pre.0, (t.scaler, components_room a.t.prefix a.t.scaler a.c.index (numbers_at a.work.now a.from a.c) a.at t.scaler.0 st.pre.1.1 p.put-prefix.ensures i.put-nbits.ensures))
 
 flush-requires : tie.Need-flush-requires
 flush-requires c κs =
@@ -64,7 +64,7 @@ flush-requires c κs =
     let st = start p in
     let a = st.args in
     let t = st.pre.1.0 in
-    flush-room a.t.prefix a.t.scaler a.c.index (numbersAt a.work.now a.from a.c) a.at t.scaler.0 st.pre.1.1 p.put-prefix.ensures i.put-nbits.ensures z.put-components.ensures
+    flush_room a.t.prefix a.t.scaler a.c.index (numbers_at a.work.now a.from a.c) a.at t.scaler.0 st.pre.1.1 p.put-prefix.ensures i.put-nbits.ensures z.put-components.ensures
 
 same_length : tie.Need-same-length
 same_length c = search rules
@@ -79,7 +79,7 @@ returns c =
     let st = start p in
     let a = st.args in
     let t = st.pre.1.0 in
-    (slice-laid a.t.prefix a.t.scaler a.c.index (numbersAt a.work.now a.from a.c) a.at t.scaler.0 st.pre.1.1 p.put-prefix.ensures i.put-nbits.ensures z.put-components.ensures c.before.before.flush.ensures, refl)
+    (slice_laid a.t.prefix a.t.scaler a.c.index (numbers_at a.work.now a.from a.c) a.at t.scaler.0 st.pre.1.1 p.put-prefix.ensures i.put-nbits.ensures z.put-components.ensures c.before.before.flush.ensures, refl)
 
 pub put-hq-slice-spec : {M : Type 1} → statement M
 put-hq-slice-spec =

@@ -4,7 +4,7 @@ use mathlib.Core.Logic.{⊎_elim}
 use Prim.Native.Nat.{◌≤◌}
 use Rattle.picture.specs.Code.Low.{Tried}
 use Rattle.picture.specs.Code.LowRest.{Known}
-use Rattle.picture.specs.Laws.Again.{tried-none, tried-more, tried_then}
+use Rattle.picture.specs.Laws.Again.{tried_none, tried_more, tried_then}
 use Rattle.picture.specs.Laws.LowRest.{slice_at, known_is, known-rebuilt}
 use native.Mathlib.Omega.{arith}
 use Rattle.picture.proofs.low.bracket.bracket_at.Statement.{statement}
@@ -44,7 +44,7 @@ loop-holds c =
     let st = (after-probe-at c).before.before in
     let t = (after-probe-at c).probe-at in
     let d = t.ensures.1 in
-    (tried-none st.args.p st.args.k t.last.0 d.0, ((d.1, d.1), (st.pre.1.0, (omega arith, omega arith))))
+    (tried_none st.args.p st.args.k t.last.0 d.0, ((d.1, d.1), (st.pre.1.0, (omega arith, omega arith))))
 
 moved-requires : tie.Need-moved-requires invariant-loop decreases-loop
 moved-requires c κs = let v = c.before.loop.invariant.1.1 in (v.0, v.1.1)
@@ -78,7 +78,7 @@ loop-again c =
     let low = known-rebuilt t.last.0 m.result i e.0 v.inv.1.0.0 in
     let high = known-rebuilt t.last.0 m.result i e.0 v.inv.1.0.1 in
     let here = e.1.1 in (
-      tried-more a.p a.k w v.work t.last.0 m.result st.pre.0.arranged st.pre.0.slice v.inv.0 e.0 e.1.0,
+      tried_more a.p a.k w v.work t.last.0 m.result st.pre.0.arranged st.pre.0.slice v.inv.0 e.0 e.1.0,
       (⊎_elim (λ x. (known_is x.1 low, known_is x.2 here)) (λ x. (known_is x.1 here, known_is x.2 high)) (joined1 c).if1.branch, (m.ensures, c.widened.ensures)),
     )
 
@@ -89,7 +89,7 @@ returns c =
     let t = (after-probe-at c.before.before).probe-at in
     let v = c.before.loop in (
       tried_then a.p a.k a.work.now t.last.0 v.work
-          (tried-more a.p a.k a.work.now a.work.now t.last.0 a.g st.pre.0.arranged st.pre.0.slice (tried-none a.p a.k a.work.now st.pre.0.small) t.ensures.0 t.ensures.1.0)
+          (tried_more a.p a.k a.work.now a.work.now t.last.0 a.g st.pre.0.arranged st.pre.0.slice (tried_none a.p a.k a.work.now st.pre.0.small) t.ensures.0 t.ensures.1.0)
           v.invariant.0,
       v.invariant.1.0,
     )

@@ -1,5 +1,5 @@
 -- `low::bracket::probe_at` meets its contract.
-use Rattle.picture.specs.Laws.LowRest.{joins-both}
+use Rattle.picture.specs.Laws.LowRest.{joins_both}
 use borrow.Author.Rules.{rules}
 use Rattle.picture.proofs.low.bracket.probe_at.Statement.{statement}
 use Rattle.picture.proofs.low.bracket.probe_at.Tie as tie
@@ -27,7 +27,7 @@ rest-of-requires : tie.Need-rest-of-requires
 rest-of-requires c κs = search rules
 
 bits-with-requires : tie.Need-bits-with-requires
-bits-with-requires c κs = joins-both c.before.before.first-tallies.ensures c.rest_of.ensures.0 (begin c.before.before).requires.0.arranged
+bits-with-requires c κs = joins_both c.before.before.first-tallies.ensures c.rest_of.ensures.0 (begin c.before.before).requires.0.arranged
 
 same_length : tie.Need-same-length
 same_length c = search rules

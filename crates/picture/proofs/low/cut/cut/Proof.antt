@@ -1,5 +1,5 @@
 -- `low::cut::cut` meets its contract.
-use Rattle.picture.specs.Code.Low.{lumaIn, colourIn}
+use Rattle.picture.specs.Code.Low.{luma_in, colour_in}
 use Rattle.picture.specs.Laws.LowSlice.{cut_fits, kept-cut}
 use borrow.Author.Rules.{rules}
 use Rattle.picture.proofs.low.cut.cut.Statement.{statement}
@@ -17,7 +17,7 @@ sub-left c =
     let st = c.before.before in
     let a = st.args in
     let l = c.before.shorter in
-    cut_fits a.room (lumaIn a.work.now a.p a.k a.q) a.y st.requires.1.luma l.result l.ensures
+    cut_fits a.room (luma_in a.work.now a.p a.k a.q) a.y st.requires.1.luma l.result l.ensures
 
 colour-cost-requires : tie.Need-colour-cost-requires
 colour-cost-requires c κs = search rules
@@ -32,7 +32,7 @@ returns c =
     let a = st.args in
     let l = t.before.shorter in
     let d = c.before.colour-cost in
-    kept-cut a.room (lumaIn a.work.now a.p a.k a.q) (colourIn a.work.now a.p a.k a.q) a.y l.result d.result c.shorter2.result st.requires.1.luma st.requires.1.over l.ensures d.ensures c.shorter2.ensures
+    kept-cut a.room (luma_in a.work.now a.p a.k a.q) (colour_in a.work.now a.p a.k a.q) a.y l.result d.result c.shorter2.result st.requires.1.luma st.requires.1.over l.ensures d.ensures c.shorter2.ensures
 
 pub cut_spec : {M : Type 1} → statement M
 cut_spec =

@@ -1,7 +1,7 @@
 -- `low::cut::kept_runs` meets its contract.
 use mathlib.Core.Path.{◌∙◌}
-use Rattle.picture.specs.Code.Low.{lumaIn, colourIn}
-use Rattle.picture.specs.Laws.LowRest.{joins-both, joined-few, luma-whole, colour-whole}
+use Rattle.picture.specs.Code.Low.{luma_in, colour_in}
+use Rattle.picture.specs.Laws.LowRest.{joins_both, joined_few, luma-whole, colour-whole}
 use Rattle.picture.specs.Laws.LowSlice.{kept_whole, not-whole}
 use native.Mathlib.Omega.{arith}
 use borrow.Author.Rules.{rules}
@@ -31,10 +31,10 @@ first-tallies-requires : tie.Need-first-tallies-requires
 first-tallies-requires c κs = search rules
 
 joined-requires : tie.Need-joined-requires
-joined-requires c κs = let h = (after-first-tallies c).before.requires in (joins-both (after-first-tallies c).first-tallies.ensures h.1.0.0 h.0.arranged).0
+joined-requires c κs = let h = (after-first-tallies c).before.requires in (joins_both (after-first-tallies c).first-tallies.ensures h.1.0.0 h.0.arranged).0
 
 joined-requires-2 : tie.Need-joined-requires-2
-joined-requires-2 c κs = let h = (after-first-tallies c.before).before.requires in (joins-both (after-first-tallies c.before).first-tallies.ensures h.1.0.0 h.0.arranged).1
+joined-requires-2 c κs = let h = (after-first-tallies c.before).before.requires in (joins_both (after-first-tallies c.before).first-tallies.ensures h.1.0.0 h.0.arranged).1
 
 add-if1 : tie.Need-overflow-add-if1
 add-if1 c =
@@ -42,15 +42,15 @@ add-if1 c =
     let f = (after-first-tallies (after-joined c).before).first-tallies in
     let y = (after-joined c).joined in
     let d = c.before.before.joined2 in
-    let j = joins-both f.ensures st.pre.1.0.0 st.pre.0.arranged in
-    omega (arith, joined-few f.result.luma st.args.r.luma y.result j.0 y.ensures, joined-few f.result.colour st.args.r.colour d.result j.1 d.ensures)
+    let j = joins_both f.ensures st.pre.1.0.0 st.pre.0.arranged in
+    omega (arith, joined_few f.result.luma st.args.r.luma y.result j.0 y.ensures, joined_few f.result.colour st.args.r.colour d.result j.1 d.ensures)
 
 returns : tie.Need-returns
 returns c =
     let st = (after-first-tallies (after-joined c.before).before).before in
     let a = st.args in
-    let ys = lumaIn a.work.now a.p a.k a.q in
-    let cs = colourIn a.work.now a.p a.k a.q in
+    let ys = luma_in a.work.now a.p a.k a.q in
+    let cs = colour_in a.work.now a.p a.k a.q in
     let f = (after-first-tallies (after-joined c.before).before).first-tallies.ensures in
     let y = (after-joined c.before).joined in
     let d = (after-joined2' c).joined2 in
@@ -65,8 +65,8 @@ cut-requires : tie.Need-cut-requires
 cut-requires c κs =
     let st = (after-first-tallies (after-joined c.before.before).before).before in
     let a = st.args in
-    let ys = lumaIn a.work.now a.p a.k a.q in
-    let cs = colourIn a.work.now a.p a.k a.q in
+    let ys = luma_in a.work.now a.p a.k a.q in
+    let cs = colour_in a.work.now a.p a.k a.q in
     let f = (after-first-tallies (after-joined c.before.before).before).first-tallies.ensures in
     let y = (after-joined c.before.before).joined in
     let d = (after-joined2 c.before).joined2 in

@@ -5,12 +5,12 @@ use mathlib.Core.Path.{ap, ◌∙◌}
 use mathlib.Core.Bool.{Bool}
 use Prim.Native.Nat.{ℕ, ◌-◌}
 use Rattle.unit.specs.declared.PictureKind.TheVariants.{LowDelay}
-use Rattle.unit.specs.Limits.{lastIndex}
+use Rattle.unit.specs.Limits.{last_index}
 use Rattle.unit.specs.Elect.{elect}
-use Rattle.picture.specs.Code.Low.{lowFitsIn, Tried}
+use Rattle.picture.specs.Code.Low.{low_fits_in, Tried}
 use Rattle.picture.specs.Code.LowRest.{Known}
-use Rattle.picture.specs.Laws.ElectLoop.{Halving, halving-start, halving-middle, halving-less, halving-turn, halving-end, halving-low}
-use Rattle.picture.specs.Laws.Again.{tried-none, tried-more, tried_then, tried-fits}
+use Rattle.picture.specs.Laws.ElectLoop.{Halving, halving_start, halving_middle, halving_less, halving_turn, halving_end, halving_low}
+use Rattle.picture.specs.Laws.Again.{tried_none, tried_more, tried_then, tried_fits}
 use Rattle.picture.specs.Laws.LowRest.{slice_at}
 use native.Mathlib.Omega.{arith}
 use Rattle.picture.proofs.low.election.elect_qindex.Statement.{statement}
@@ -18,7 +18,7 @@ use Rattle.picture.proofs.low.election.elect_qindex.Tie as tie
 
 abbrev invariant-loop : tie.invariant-loop
 invariant-loop work₀ p room k lo g v low₀ high₀ r₀ work low high r =
-    Halving (lowFitsIn work₀ p room k) lo (lastIndex LowDelay) r × (Tried p k work₀ work × (Known work p k low × Known work p k high))
+    Halving (low_fits_in work₀ p room k) lo (last_index LowDelay) r × (Tried p k work₀ work × (Known work p k low × Known work p k high))
 
 abbrev decreases-loop : tie.decreases-loop
 decreases-loop work₀ p room k lo g v low₀ high₀ r₀ work low high r = r.hi - r.lo
@@ -42,8 +42,8 @@ loop-holds c =
     let st = start before in
     let a = st.args in
     let b = before.bracket-at in (
-      halving-start (lowFitsIn b.last.0 a.p a.room a.k) a.lo (lastIndex LowDelay) st.pre.1.0,
-      (tried-none a.p a.k b.last.0 b.ensures.0.small, b.ensures.1),
+      halving_start (low_fits_in b.last.0 a.p a.room a.k) a.lo (last_index LowDelay) st.pre.1.0,
+      (tried_none a.p a.k b.last.0 b.ensures.0.small, b.ensures.1),
     )
 
 middle-requires : tie.Need-middle-requires invariant-loop decreases-loop
@@ -58,7 +58,7 @@ fits-requires c κs =
     let loop = turn.before.before in
     let v = loop.loop in
     let h = (start (bracketed loop.before)).pre in (
-      slice_at v.work m.middle.result h.0 v.invariant.1.0.small (omega (arith, halving-middle v.invariant.0 m.middle.result m.middle.ensures)),
+      slice_at v.work m.middle.result h.0 v.invariant.1.0.small (omega (arith, halving_middle v.invariant.0 m.middle.result m.middle.ensures)),
       (v.invariant.1.1, h.1.1.1),
     )
 
@@ -69,7 +69,7 @@ narrowed-requires c κs =
     let m = tried.before.before in
     let turn = m.before in
     let v = turn.before.before.loop in
-    omega (arith, halving-middle v.invariant.0 m.middle.result m.middle.ensures)
+    omega (arith, halving_middle v.invariant.0 m.middle.result m.middle.ensures)
 
 loop-less : tie.Need-loop-smaller invariant-loop decreases-loop
 loop-less c =
@@ -78,7 +78,7 @@ loop-less c =
     let m = tried.before.before in
     let turn = m.before in
     let v = turn.before.before.loop in
-    halving-less v.r m.middle.result turn.if1.true m.middle.ensures tried.fits2.result.fits c.narrowed.result c.narrowed.ensures
+    halving_less v.r m.middle.result turn.if1.true m.middle.ensures tried.fits2.result.fits c.narrowed.result c.narrowed.ensures
 
 loop-again : tie.Need-loop-preserved invariant-loop decreases-loop
 loop-again c =
@@ -95,11 +95,11 @@ loop-again c =
     let q = m.middle in
     let f = tried.fits2 in
     let e = f.ensures in (
-      halving-turn v.r q.result turn.if1.true q.ensures v.invariant.0 f.result.fits c.narrowed.result
-          (e.0 ∙ ap (λ (g : ℕ → Bool). g q.result) (tried-fits a.p a.k w v.work a.room v.invariant.1.0))
+      halving_turn v.r q.result turn.if1.true q.ensures v.invariant.0 f.result.fits c.narrowed.result
+          (e.0 ∙ ap (λ (g : ℕ → Bool). g q.result) (tried_fits a.p a.k w v.work a.room v.invariant.1.0))
           c.narrowed.ensures,
       (
-        tried-more a.p a.k w v.work f.new.0 q.result st.pre.0.arranged st.pre.0.slice v.invariant.1.0 e.1.0 e.1.1.0,
+        tried_more a.p a.k w v.work f.new.0 q.result st.pre.0.arranged st.pre.0.slice v.invariant.1.0 e.1.0 e.1.1.0,
         e.1.1.1,
       ),
     )
@@ -113,9 +113,9 @@ returns c =
     let b = before.bracket-at in
     let v = loop.loop in
     let t = b.ensures.0 in (
-      halving-end v.invariant.0 st.pre.1.0 (omega (arith, c.if1.false))
-          ∙ ap (elect a.lo (lastIndex LowDelay)) (tried-fits a.p a.k a.work.now b.last.0 a.room t),
-      (halving-low v.invariant.0, (tried_then a.p a.k a.work.now b.last.0 v.work t v.invariant.1.0, v.invariant.1.1.1)),
+      halving_end v.invariant.0 st.pre.1.0 (omega (arith, c.if1.false))
+          ∙ ap (elect a.lo (last_index LowDelay)) (tried_fits a.p a.k a.work.now b.last.0 a.room t),
+      (halving_low v.invariant.0, (tried_then a.p a.k a.work.now b.last.0 v.work t v.invariant.1.0, v.invariant.1.1.1)),
     )
 
 same_length : tie.Need-same-length invariant-loop decreases-loop

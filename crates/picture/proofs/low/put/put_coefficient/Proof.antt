@@ -8,10 +8,10 @@ use mir.Syntax.{w64}
 use mir.Val.{to_z, of_z}
 use mir.Facts.{to_z-of_z}
 use borrow.Author.Rules.{rules, sfits_of}
-use Rattle.codewords.specs.CodeWord.{code_s, codeM}
-use Rattle.quantiser.specs.Quant.{forwardBy}
-use Rattle.picture.specs.Code.Strip.{planeFrom}
-use Rattle.picture.specs.Laws.Put.{forward-word, puts-past, puts_one, room-one}
+use Rattle.codewords.specs.CodeWord.{code_s, code_m}
+use Rattle.quantiser.specs.Quant.{forward_by}
+use Rattle.picture.specs.Code.Strip.{plane_from}
+use Rattle.picture.specs.Laws.Put.{forward_word, puts_past, puts_one, room_one}
 use borrow.Author.Rules.{rules}
 use Rattle.picture.proofs.low.put.put_coefficient.Statement.{statement}
 use Rattle.picture.proofs.low.put.put_coefficient.Tie as tie
@@ -39,20 +39,20 @@ after-put-signed c = let t = c.before.before in t.before
 
 -- the number, and its code word as the code makes it
 abbrev number : tie.After-forward-size → ℤ
-number c = let a = (after-struct-known c).before.before.args in forwardBy a.s.factor (planeFrom a.work.now a.coefs a.s.width a.y a.x)
+number c = let a = (after-struct-known c).before.before.args in forward_by a.s.factor (plane_from a.work.now a.coefs a.s.width a.y a.x)
 
-word : (c : tie.After-forward-size) → codeM c.forward-size.result (lt_z (to_z w64 (of_z w64 c.before.coefficient.result)) (pos 0)) ≡ code_s (number c)
+word : (c : tie.After-forward-size) → code_m c.forward-size.result (lt_z (to_z w64 (of_z w64 c.before.coefficient.result)) (pos 0)) ≡ code_s (number c)
 word c =
     let a = (after-struct-known c).before.before.args in
     let d = c.before.coefficient in
-    forward-word a.s.factor c.forward-size.result _ _ (to_z-of_z (sfits_of d.type-inv) ∙ d.ensures.0) c.forward-size.ensures.0
+    forward_word a.s.factor c.forward-size.result _ _ (to_z-of_z (sfits_of d.type-inv) ∙ d.ensures.0) c.forward-size.ensures.0
 
 returns : tie.Need-returns
 returns c =
     let t = c.before.before in
     let st = t.before in
     let a = st.args in
-    puts-past (forwardBy a.s.factor (planeFrom a.work.now a.coefs a.s.width a.y a.x) ∷ []) st.requires.0 c.if1.true
+    puts_past (forward_by a.s.factor (plane_from a.work.now a.coefs a.s.width a.y a.x) ∷ []) st.requires.0 c.if1.true
 
 coefficient-requires : tie.Need-coefficient-requires
 coefficient-requires c κs = search rules
@@ -68,7 +68,7 @@ put-signed-requires c κs =
     let st = (after-struct-known c.before.before).before.before in
     let a = st.args in
     let n = c.before.before.forward-size in
-    (rw (word c.before.before) (room-one a.p (number c.before.before) (omega (arith, (after-coefficient c).before.if1.false)) st.pre.0), omega (arith, n.ensures.1))
+    (rw (word c.before.before) (room_one a.p (number c.before.before) (omega (arith, (after-coefficient c).before.if1.false)) st.pre.0), omega (arith, n.ensures.1))
 
 sub-t15 : tie.Need-overflow-sub-t15
 sub-t15 c = search rules

@@ -3,7 +3,7 @@ use native.Mathlib.Omega.{arith}
 use mir.Syntax.{w64}
 use mir.Facts.{to_z-of_z}
 use mathlib.Core.List.{[], ◌∷◌}
-use Rattle.picture.specs.Laws.Put.{puts-past, puts_one, room-one}
+use Rattle.picture.specs.Laws.Put.{puts_past, puts_one, room_one}
 use borrow.Author.Rules.{rules}
 use Rattle.picture.proofs.low.put.put_number.Statement.{statement}
 use Rattle.picture.proofs.low.put.put_number.Tie as tie
@@ -21,12 +21,12 @@ after-put-sint c = let t = c.before.before in t.before
 returns : tie.Need-returns
 returns c =
     let t = c.before.before in
-    let st = t.before in puts-past (st.args.z ∷ []) st.requires c.if1.true
+    let st = t.before in puts_past (st.args.z ∷ []) st.requires c.if1.true
 
 put-sint-requires : tie.Need-put-sint-requires
 put-sint-requires c κs =
     let st = (after-slice-known c).before in
-    rw (to_z-of_z {w = w64} st.fits.z) (room-one st.args.p st.args.z (omega (arith, c.before.before.if1.false)) st.pre)
+    rw (to_z-of_z {w = w64} st.fits.z) (room_one st.args.p st.args.z (omega (arith, c.before.before.if1.false)) st.pre)
 
 sub-t9 : tie.Need-overflow-sub-t9
 sub-t9 c = search rules

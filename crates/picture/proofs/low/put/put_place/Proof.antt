@@ -5,9 +5,9 @@ use mir.Val.{to_z, of_z}
 use mir.Facts.{to_z-of_z}
 use borrow.Author.Rules.{sfits_of, rules}
 use mathlib.Core.List.{[], ◌∷◌, ◌++◌}
-use Rattle.picture.specs.Code.Strip.{secondNumber, placeNumbers}
+use Rattle.picture.specs.Code.Strip.{second_number, place_numbers}
 use Rattle.picture.specs.Laws.Strip.{numbered, place_is}
-use Rattle.picture.specs.Laws.Put.{puts_then, puts-same, room-same, room-first, room_next}
+use Rattle.picture.specs.Laws.Put.{puts_then, puts_same, room_same, room_first, room_next}
 use Rattle.picture.proofs.low.put.put_place.Statement.{statement}
 use Rattle.picture.proofs.low.put.put_place.Tie as tie
 
@@ -31,7 +31,7 @@ put-number-requires c κs =
     let n = c.before.number_at in
     let z = to_z w64 (of_z w64 n.result) in
     let e = place_is a.work.now a.s a.y a.x z (to_z-of_z (sfits_of n.type-inv) ∙ n.ensures) in
-    room-first a.p (z ∷ []) (secondNumber a.work.now a.s a.y a.x) (room-same a.p (placeNumbers a.work.now a.s a.y a.x) ((z ∷ []) ++ secondNumber a.work.now a.s a.y a.x) e t.before.requires.0)
+    room_first a.p (z ∷ []) (second_number a.work.now a.s a.y a.x) (room_same a.p (place_numbers a.work.now a.s a.y a.x) ((z ∷ []) ++ second_number a.work.now a.s a.y a.x) e t.before.requires.0)
 
 put-second-requires : tie.Need-put-second-requires
 put-second-requires c κs =
@@ -39,7 +39,7 @@ put-second-requires c κs =
     let n = (after-put-number c).before.before.number_at in
     let z = to_z w64 (of_z w64 n.result) in
     let e = place_is a.work.now a.s a.y a.x z (to_z-of_z (sfits_of n.ok) ∙ n.ensures) in
-    (room_next (z ∷ []) (secondNumber a.work.now a.s a.y a.x) (room-same a.p (placeNumbers a.work.now a.s a.y a.x) ((z ∷ []) ++ secondNumber a.work.now a.s a.y a.x) e (after-slice-known (after-put-number c)).before.requires.0) (after-put-number c).put-number.ensures, (after-slice-known (after-put-number c)).before.requires.1)
+    (room_next (z ∷ []) (second_number a.work.now a.s a.y a.x) (room_same a.p (place_numbers a.work.now a.s a.y a.x) ((z ∷ []) ++ second_number a.work.now a.s a.y a.x) e (after-slice-known (after-put-number c)).before.requires.0) (after-put-number c).put-number.ensures, (after-slice-known (after-put-number c)).before.requires.1)
 
 same_length : tie.Need-same-length
 same_length c = search rules
@@ -50,7 +50,7 @@ returns c =
     let n = (after-put-number' c.before.before).before.before.number_at in
     let z = to_z w64 (of_z w64 n.result) in
     let e = place_is a.work.now a.s a.y a.x z (to_z-of_z (sfits_of n.ok) ∙ n.ensures) in
-    puts-same (sym e) (puts_then (after-slice-known (after-put-number' c.before.before)).before.requires.0.sound (after-put-number' c.before.before).put-number.ensures c.before.before.put_second.ensures)
+    puts_same (sym e) (puts_then (after-slice-known (after-put-number' c.before.before)).before.requires.0.sound (after-put-number' c.before.before).put-number.ensures c.before.before.put_second.ensures)
 
 pub put-place-spec : {M : Type 1} → statement M
 put-place-spec =

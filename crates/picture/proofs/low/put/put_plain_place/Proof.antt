@@ -1,12 +1,12 @@
 -- `low::put::put_plain_place` meets its contract.
 use mathlib.Core.Path.{sym}
 use mathlib.Core.List.{[], ◌∷◌, ◌++◌}
-use Rattle.quantiser.specs.Quant.{forwardBy}
-use Rattle.picture.specs.Code.Strip.{planeFrom, secondNumber, placeNumbers}
+use Rattle.quantiser.specs.Quant.{forward_by}
+use Rattle.picture.specs.Code.Strip.{plane_from, second_number, place_numbers}
 use Rattle.picture.specs.Laws.Strip.{numbered}
-use Rattle.picture.specs.Laws.Tally.{place-plain}
+use Rattle.picture.specs.Laws.Tally.{place_plain}
 use Rattle.picture.specs.Code.Put.{RoomFor}
-use Rattle.picture.specs.Laws.Put.{puts_then, puts-same, room-same, room-first, room_next}
+use Rattle.picture.specs.Laws.Put.{puts_then, puts_same, room_same, room_first, room_next}
 use borrow.Author.Rules.{rules}
 use Rattle.picture.proofs.low.put.put_plain_place.Statement.{statement}
 use Rattle.picture.proofs.low.put.put_plain_place.Tie as tie
@@ -26,15 +26,15 @@ abbrev after-put-coefficient' : tie.After-put-plain-second → tie.After-put-coe
 after-put-coefficient' c = let t = c.before.before in t.before.before
 
 -- the room, for one number after the other
-room : (c : tie.Start) → let a = c.args in RoomFor a.out.now a.p ((forwardBy a.s.factor (planeFrom a.work.now a.s.coefs a.s.width a.y a.x) ∷ []) ++ secondNumber a.work.now a.s a.y a.x)
-room c = let a = c.args in room-same a.p (placeNumbers a.work.now a.s a.y a.x) _ (place-plain a.work.now a.s a.y a.x c.requires.1.0.holds.plain) c.requires.0
+room : (c : tie.Start) → let a = c.args in RoomFor a.out.now a.p ((forward_by a.s.factor (plane_from a.work.now a.s.coefs a.s.width a.y a.x) ∷ []) ++ second_number a.work.now a.s a.y a.x)
+room c = let a = c.args in room_same a.p (place_numbers a.work.now a.s a.y a.x) _ (place_plain a.work.now a.s a.y a.x c.requires.1.0.holds.plain) c.requires.0
 
 put-coefficient-requires : tie.Need-put-coefficient-requires
 put-coefficient-requires c κs =
     let st = c.before.before in
     let h = st.requires in
     let n = numbered h.1.0.holds.small h.1.0.holds.within h.1.1 in
-    (room-first st.args.p _ _ (room st), (n.coefficient, n.factor))
+    (room_first st.args.p _ _ (room st), (n.coefficient, n.factor))
 
 put-plain-second-requires : tie.Need-put-plain-second-requires
 put-plain-second-requires c κs =
@@ -48,7 +48,7 @@ returns : tie.Need-returns
 returns c =
     let st = begin (after-put-coefficient' c.before.before) in
     let a = st.args in
-    puts-same (sym (place-plain a.work.now a.s a.y a.x st.pre.1.0.holds.plain)) (puts_then st.pre.0.sound (after-put-coefficient' c.before.before).put-coefficient.ensures c.before.before.put-plain-second.ensures)
+    puts_same (sym (place_plain a.work.now a.s a.y a.x st.pre.1.0.holds.plain)) (puts_then st.pre.0.sound (after-put-coefficient' c.before.before).put-coefficient.ensures c.before.before.put-plain-second.ensures)
 
 pub put-plain-place-spec : {M : Type 1} → statement M
 put-plain-place-spec =

@@ -2,9 +2,9 @@
 use mathlib.Core.Path.{◌≡◌, sym, ap, ◌∙◌}
 use Prim.Native.Nat.{◌+◌, ◌-◌, ◌≤◌}
 use Rattle.laws.specs.Code.Chunks.{chunks}
-use Rattle.picture.specs.Code.Strip.{placeNumbers, rowNumbers, Inside}
+use Rattle.picture.specs.Code.Strip.{place_numbers, row_numbers, Inside}
 use Rattle.picture.specs.Laws.Strip.{places, row-chunks}
-use Rattle.picture.specs.Laws.Put.{puts-same, room-same, part_room, part-turn, parts_none}
+use Rattle.picture.specs.Laws.Put.{puts_same, room_same, part_room, part-turn, parts_none}
 use Rattle.picture.specs.Code.Put.{Puts}
 use native.Mathlib.Omega.{arith}
 use Rattle.picture.proofs.low.put.put_plain_places.Statement.{statement}
@@ -40,8 +40,8 @@ put-plain-place-requires c κs =
     let l = (at-loop c).loop in
     let F = places a.work.now a.s a.y a.s.left in
     let e : a.s.left + (l.x - a.s.left) ≡ l.x = omega (arith, l.inv.0) in
-    let all = room-same a.p (rowNumbers a.work.now a.s a.y a.s.left (a.s.right - a.s.left)) (chunks F (a.s.right - a.s.left)) (row-chunks a.work.now a.s a.y a.s.left (a.s.right - a.s.left)) h.0 in
-    let room = room-same l.t (F (l.x - a.s.left)) (placeNumbers a.work.now a.s a.y l.x) (ap (placeNumbers a.work.now a.s a.y) e)
+    let all = room_same a.p (row_numbers a.work.now a.s a.y a.s.left (a.s.right - a.s.left)) (chunks F (a.s.right - a.s.left)) (row-chunks a.work.now a.s a.y a.s.left (a.s.right - a.s.left)) h.0 in
+    let room = room_same l.t (F (l.x - a.s.left)) (place_numbers a.work.now a.s a.y l.x) (ap (place_numbers a.work.now a.s a.y) e)
     (part_room F (a.s.right - a.s.left) (l.x - a.s.left) (omega (arith, l.inv.0, c.before.if1.true)) all l.inv.1.1) in
     let i : Inside a.s a.y l.x = record { below = h.1.1.0; above = h.1.1.1; right_of = l.inv.0; left-of = c.before.if1.true } in
     (room, (h.1.0, i))
@@ -59,7 +59,7 @@ loop-again c =
     let l = (at-loop' c.before.before).loop in
     let F = places a.work.now a.s a.y a.s.left in
     let e : l.x ≡ a.s.left + (l.x - a.s.left) = omega (arith, l.inv.0) in
-    (omega (arith, l.inv.0), (omega (arith, (then1 c).if1.true), part-turn F a.s.left l.x l.inv.0 st.pre.0.sound l.inv.1.1 (puts-same (ap (placeNumbers a.work.now a.s a.y) e) c.before.before.put-plain-place.ensures)))
+    (omega (arith, l.inv.0), (omega (arith, (then1 c).if1.true), part-turn F a.s.left l.x l.inv.0 st.pre.0.sound l.inv.1.1 (puts_same (ap (place_numbers a.work.now a.s a.y) e) c.before.before.put-plain-place.ensures)))
 
 same_length : tie.Need-same-length invariant-loop decreases-loop
 same_length c = c.before.before.loop.invariant.1.1.wrote.size
@@ -71,7 +71,7 @@ returns c =
     let l = t.loop in
     let F = places a.work.now a.s a.y a.s.left in
     let e : l.x - a.s.left ≡ a.s.right - a.s.left = omega (arith, l.invariant.1.0, c.if1.false) in
-    puts-same (ap (chunks F) e ∙ sym (row-chunks a.work.now a.s a.y a.s.left (a.s.right - a.s.left))) l.invariant.1.1
+    puts_same (ap (chunks F) e ∙ sym (row-chunks a.work.now a.s a.y a.s.left (a.s.right - a.s.left))) l.invariant.1.1
 
 pub put-plain-places-spec : {M : Type 1} → statement M
 put-plain-places-spec =

@@ -1,8 +1,8 @@
 -- `picture::low::put::put_row` meets its contract.
 use borrow.Author.Rules.{rules}
 use Prim.Native.Nat.{◌-◌}
-use Rattle.picture.specs.Code.Strip.{rowNumbers}
-use Rattle.picture.specs.Laws.Put.{puts-past}
+use Rattle.picture.specs.Code.Strip.{row_numbers}
+use Rattle.picture.specs.Laws.Put.{puts_past}
 use Rattle.picture.proofs.low.put.put_row.Statement.{statement}
 use Rattle.picture.proofs.low.put.put_row.Tie as tie
 
@@ -14,7 +14,7 @@ returns : tie.Need-returns
 returns c =
     let t = c.before.before in
     let st = t.before in
-    let a = st.args in puts-past (rowNumbers a.work.now a.s a.y a.s.left (a.s.right - a.s.left)) st.requires.0 c.if1.true
+    let a = st.args in puts_past (row_numbers a.work.now a.s a.y a.s.left (a.s.right - a.s.left)) st.requires.0 c.if1.true
 
 put-places-requires : tie.Need-put-places-requires
 put-places-requires c κs = search rules

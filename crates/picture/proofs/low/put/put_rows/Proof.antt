@@ -2,9 +2,9 @@
 use mathlib.Core.Path.{◌≡◌, sym, ap, ◌∙◌}
 use Prim.Native.Nat.{◌+◌, ◌-◌, ◌≤◌}
 use Rattle.laws.specs.Code.Chunks.{chunks}
-use Rattle.picture.specs.Code.Strip.{stripNumbers}
+use Rattle.picture.specs.Code.Strip.{strip_numbers}
 use Rattle.picture.specs.Laws.Strip.{row_at, rows, rows-chunks}
-use Rattle.picture.specs.Laws.Put.{puts-same, room-same, part_room, part-turn, parts_none}
+use Rattle.picture.specs.Laws.Put.{puts_same, room_same, part_room, part-turn, parts_none}
 use Rattle.picture.specs.Code.Put.{Puts}
 use native.Mathlib.Omega.{arith}
 use Rattle.picture.proofs.low.put.put_rows.Statement.{statement}
@@ -40,8 +40,8 @@ put-row-requires c κs =
     let l = (at-loop c).loop in
     let F = rows a.work.now a.s a.s.top in
     let e : a.s.top + (l.y - a.s.top) ≡ l.y = omega (arith, l.inv.0) in
-    let all = room-same a.p (stripNumbers a.work.now a.s) (chunks F (a.s.bottom - a.s.top)) (rows-chunks a.work.now a.s a.s.top (a.s.bottom - a.s.top)) h.0 in
-    let room = room-same l.t (F (l.y - a.s.top)) (row_at a.work.now a.s l.y) (ap (row_at a.work.now a.s) e)
+    let all = room_same a.p (strip_numbers a.work.now a.s) (chunks F (a.s.bottom - a.s.top)) (rows-chunks a.work.now a.s a.s.top (a.s.bottom - a.s.top)) h.0 in
+    let room = room_same l.t (F (l.y - a.s.top)) (row_at a.work.now a.s l.y) (ap (row_at a.work.now a.s) e)
     (part_room F (a.s.bottom - a.s.top) (l.y - a.s.top) (omega (arith, l.inv.0, c.before.if1.true)) all l.inv.1.1) in
     (room, (h.1, (l.inv.0, c.before.if1.true)))
 
@@ -58,7 +58,7 @@ loop-again c =
     let l = (at-loop' c.before.before).loop in
     let F = rows a.work.now a.s a.s.top in
     let e : l.y ≡ a.s.top + (l.y - a.s.top) = omega (arith, l.inv.0) in
-    (omega (arith, l.inv.0), (omega (arith, (then1 c).if1.true), part-turn F a.s.top l.y l.inv.0 st.pre.0.sound l.inv.1.1 (puts-same (ap (row_at a.work.now a.s) e) c.before.before.put-row.ensures)))
+    (omega (arith, l.inv.0), (omega (arith, (then1 c).if1.true), part-turn F a.s.top l.y l.inv.0 st.pre.0.sound l.inv.1.1 (puts_same (ap (row_at a.work.now a.s) e) c.before.before.put-row.ensures)))
 
 same_length : tie.Need-same-length invariant-loop decreases-loop
 same_length c = c.before.before.loop.invariant.1.1.wrote.size
@@ -70,7 +70,7 @@ returns c =
     let l = t.loop in
     let F = rows a.work.now a.s a.s.top in
     let e : l.y - a.s.top ≡ a.s.bottom - a.s.top = omega (arith, l.invariant.1.0, c.if1.false) in
-    puts-same (ap (chunks F) e ∙ sym (rows-chunks a.work.now a.s a.s.top (a.s.bottom - a.s.top))) l.invariant.1.1
+    puts_same (ap (chunks F) e ∙ sym (rows-chunks a.work.now a.s a.s.top (a.s.bottom - a.s.top))) l.invariant.1.1
 
 pub put-rows-spec : {M : Type 1} → statement M
 put-rows-spec =

@@ -5,9 +5,9 @@ use mir.Val.{to_z, of_z}
 use mir.Facts.{to_z-of_z}
 use borrow.Author.Rules.{sfits_of, rules}
 use mathlib.Core.List.{[], ◌∷◌}
-use Rattle.picture.specs.Code.Strip.{secondNumber}
-use Rattle.picture.specs.Laws.Strip.{numbered-second, second-one, second_none}
-use Rattle.picture.specs.Laws.Put.{puts_none, puts-same, room-same}
+use Rattle.picture.specs.Code.Strip.{second_number}
+use Rattle.picture.specs.Laws.Strip.{numbered_second, second_one, second_none}
+use Rattle.picture.specs.Laws.Put.{puts_none, puts_same, room_same}
 use Rattle.picture.proofs.low.put.put_second.Statement.{statement}
 use Rattle.picture.proofs.low.put.put_second.Tie as tie
 
@@ -19,7 +19,7 @@ abbrev after-number-at : tie.After-slice-known2 → tie.After-number-at
 after-number-at c = let t = c.before.before in t.before.before
 
 number-at-requires : tie.Need-number-at-requires
-number-at-requires c κs = let h = c.before.before.requires in numbered-second h.1.0.holds.0 h.1.0.holds.1 h.1.1
+number-at-requires c κs = let h = c.before.before.requires in numbered_second h.1.0.holds.0 h.1.0.holds.1 h.1.1
 
 put-number-requires : tie.Need-put-number-requires
 put-number-requires c κs =
@@ -28,8 +28,8 @@ put-number-requires c κs =
     let a = st.args in
     let n = c.before.number_at in
     let z = to_z w64 (of_z w64 n.result) in
-    room-same a.p (secondNumber a.work.now a.s a.y a.x) (z ∷ [])
-    (second-one a.work.now a.s a.y a.x z t.if1.true (to_z-of_z (sfits_of n.type-inv) ∙ n.ensures)) st.requires.0
+    room_same a.p (second_number a.work.now a.s a.y a.x) (z ∷ [])
+    (second_one a.work.now a.s a.y a.x z t.if1.true (to_z-of_z (sfits_of n.type-inv) ∙ n.ensures)) st.requires.0
 
 same_length : tie.Need-same-length
 same_length c = search rules
@@ -39,13 +39,13 @@ returns c =
     let a = (then1 c.before.before).before.before.args in
     let n = (after-number-at c).number_at in
     let z = to_z w64 (of_z w64 n.result) in
-    puts-same (sym (second-one a.work.now a.s a.y a.x z (after-number-at c).before.if1.true (to_z-of_z (sfits_of n.ok) ∙ n.ensures))) c.before.before.put-number.ensures
+    puts_same (sym (second_one a.work.now a.s a.y a.x z (after-number-at c).before.if1.true (to_z-of_z (sfits_of n.ok) ∙ n.ensures))) c.before.before.put-number.ensures
 
 returns-2 : tie.Need-returns-2
 returns-2 c =
     let st = c.before.before in
     let a = st.args in
-    puts-same (sym (second_none a.work.now a.s a.y a.x c.if1.false)) (puts_none st.requires.0)
+    puts_same (sym (second_none a.work.now a.s a.y a.x c.if1.false)) (puts_none st.requires.0)
 
 pub put-second-spec : {M : Type 1} → statement M
 put-second-spec =

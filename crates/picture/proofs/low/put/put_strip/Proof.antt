@@ -1,7 +1,7 @@
 -- `picture::low::put::put_strip` meets its contract.
 use borrow.Author.Rules.{rules}
-use Rattle.picture.specs.Code.Strip.{stripNumbers}
-use Rattle.picture.specs.Laws.Put.{puts-past}
+use Rattle.picture.specs.Code.Strip.{strip_numbers}
+use Rattle.picture.specs.Laws.Put.{puts_past}
 use Rattle.picture.proofs.low.put.put_strip.Statement.{statement}
 use Rattle.picture.proofs.low.put.put_strip.Tie as tie
 
@@ -9,7 +9,7 @@ returns : tie.Need-returns
 returns c =
     let t = c.before.before in
     let st = t.before in
-    let a = st.args in puts-past (stripNumbers a.work.now a.s) st.requires.0 c.if1.true
+    let a = st.args in puts_past (strip_numbers a.work.now a.s) st.requires.0 c.if1.true
 
 put-rows-requires : tie.Need-put-rows-requires
 put-rows-requires c κs = search rules

@@ -2,7 +2,7 @@
 use Prim.Native.Nat.{◌+◌}
 use native.Mathlib.Omega.{arith}
 use Rattle.laws.specs.Laws.Machine.{product-fits}
-use Rattle.picture.specs.Laws.LowIndex.{bytes-rise, bytes-are}
+use Rattle.picture.specs.Laws.LowIndex.{bytes_rise, bytes_are}
 use borrow.Author.Rules.{rules}
 use Rattle.picture.proofs.low.size.slice_bytes.Statement.{statement}
 use Rattle.picture.proofs.low.size.slice_bytes.Tie as tie
@@ -23,10 +23,10 @@ div-result-2 : tie.Need-nonzero-div-result-2
 div-result-2 c = search rules
 
 sub-result : tie.Need-overflow-sub-result
-sub-result c = omega (arith, bytes-rise c.args.n c.args.d c.args.k)
+sub-result c = omega (arith, bytes_rise c.args.n c.args.d c.args.k)
 
 returns : tie.Need-returns
-returns c = bytes-are c.args.n c.args.d c.args.k c.requires.0 c.requires.1.0
+returns c = bytes_are c.args.n c.args.d c.args.k c.requires.0 c.requires.1.0
 
 pub slice-bytes-spec : {M : Type 1} → statement M
 slice-bytes-spec =

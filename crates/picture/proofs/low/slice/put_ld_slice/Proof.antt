@@ -1,6 +1,6 @@
 -- `low::slice::put_ld_slice` meets its contract.
 use native.Mathlib.Omega.{arith}
-use Rattle.picture.specs.Laws.LowSlice.{length-room, runs-room, ones-room, flush-room, slice-laid}
+use Rattle.picture.specs.Laws.LowSlice.{length_room, runs_room, ones_room, flush_room, slice_laid}
 use borrow.Author.Rules.{rules}
 use Rattle.picture.proofs.low.slice.put_ld_slice.Statement.{statement}
 use Rattle.picture.proofs.low.slice.put_ld_slice.Tie as tie
@@ -59,7 +59,7 @@ put-nbits-requires-2 c κs =
     let n = (after-room-of (after-put-nbits c)).room_of in
     let r = (after-put-nbits c).before.before.kept-runs in
     let m = c.length-bits in
-    (length-room a.out.now a.at a.work.now a.p a.n a.k a.q n.result m.result r.result n.ensures.0 m.ensures.0 r.ensures st.pre.1.0.0 st.pre.1.1.0 (after-put-nbits c).put-nbits.ensures, omega (arith, m.ensures.1))
+    (length_room a.out.now a.at a.work.now a.p a.n a.k a.q n.result m.result r.result n.ensures.0 m.ensures.0 r.ensures st.pre.1.0.0 st.pre.1.1.0 (after-put-nbits c).put-nbits.ensures, omega (arith, m.ensures.1))
 
 put-runs-requires : tie.Need-put-runs-requires
 put-runs-requires c κs =
@@ -68,7 +68,7 @@ put-runs-requires c κs =
     let n = (after-room-of (after-put-nbits (after-put-nbits2 c).before)).room_of in
     let r = (after-put-nbits (after-put-nbits2 c).before).before.before.kept-runs in
     let m = (after-put-nbits2 c).before.length-bits in
-    (st.pre.0, runs-room a.out.now a.at a.work.now a.p a.n a.k a.q n.result m.result r.result n.ensures.0 m.ensures.0 r.ensures st.pre.1.0.0 st.pre.1.1.0 (after-put-nbits (after-put-nbits2 c).before).put-nbits.ensures (after-put-nbits2 c).put-nbits2.ensures)
+    (st.pre.0, runs_room a.out.now a.at a.work.now a.p a.n a.k a.q n.result m.result r.result n.ensures.0 m.ensures.0 r.ensures st.pre.1.0.0 st.pre.1.1.0 (after-put-nbits (after-put-nbits2 c).before).put-nbits.ensures (after-put-nbits2 c).put-nbits2.ensures)
 
 sub-put-ones : tie.Need-overflow-sub-put-ones
 sub-put-ones c = search rules
@@ -83,7 +83,7 @@ put-ones-requires c κs =
     let n = (after-room-of (after-put-nbits (after-put-nbits2 (after-put-runs c).before).before)).room_of in
     let r = (after-put-nbits (after-put-nbits2 (after-put-runs c).before).before).before.before.kept-runs in
     let m = (after-put-nbits2 (after-put-runs c).before).before.length-bits in
-    ones-room a.out.now a.at a.work.now a.p a.n a.k a.q n.result m.result r.result n.ensures.0 m.ensures.0 r.ensures st.pre.1.0.0 st.pre.1.1.0 (after-put-nbits (after-put-nbits2 (after-put-runs c).before).before).put-nbits.ensures (after-put-nbits2 (after-put-runs c).before).put-nbits2.ensures (after-put-runs c).put-runs.ensures
+    ones_room a.out.now a.at a.work.now a.p a.n a.k a.q n.result m.result r.result n.ensures.0 m.ensures.0 r.ensures st.pre.1.0.0 st.pre.1.1.0 (after-put-nbits (after-put-nbits2 (after-put-runs c).before).before).put-nbits.ensures (after-put-nbits2 (after-put-runs c).before).put-nbits2.ensures (after-put-runs c).put-runs.ensures
 
 flush-requires : tie.Need-flush-requires
 flush-requires c κs =
@@ -92,7 +92,7 @@ flush-requires c κs =
     let n = (after-room-of (after-put-nbits (after-put-nbits2 (after-put-runs (after-put-ones c).before).before).before)).room_of in
     let r = (after-put-nbits (after-put-nbits2 (after-put-runs (after-put-ones c).before).before).before).before.before.kept-runs in
     let m = (after-put-nbits2 (after-put-runs (after-put-ones c).before).before).before.length-bits in
-    flush-room a.out.now a.at a.work.now a.p a.n a.k a.q n.result m.result r.result n.ensures.0 m.ensures.0 r.ensures st.pre.1.0.0 st.pre.1.1.0 (after-put-nbits (after-put-nbits2 (after-put-runs (after-put-ones c).before).before).before).put-nbits.ensures (after-put-nbits2 (after-put-runs (after-put-ones c).before).before).put-nbits2.ensures (after-put-runs (after-put-ones c).before).put-runs.ensures (after-put-ones c).put-ones.ensures
+    flush_room a.out.now a.at a.work.now a.p a.n a.k a.q n.result m.result r.result n.ensures.0 m.ensures.0 r.ensures st.pre.1.0.0 st.pre.1.1.0 (after-put-nbits (after-put-nbits2 (after-put-runs (after-put-ones c).before).before).before).put-nbits.ensures (after-put-nbits2 (after-put-runs (after-put-ones c).before).before).put-nbits2.ensures (after-put-runs (after-put-ones c).before).put-runs.ensures (after-put-ones c).put-ones.ensures
 
 returns : tie.Need-returns
 returns c =
@@ -101,7 +101,7 @@ returns c =
     let n = (after-room-of (after-put-nbits (after-put-nbits2 (after-put-runs (after-put-ones' c.before.before).before).before).before)).room_of in
     let r = (after-put-nbits (after-put-nbits2 (after-put-runs (after-put-ones' c.before.before).before).before).before).before.before.kept-runs in
     let m = (after-put-nbits2 (after-put-runs (after-put-ones' c.before.before).before).before).before.length-bits in
-    slice-laid a.out.now a.at a.work.now a.p a.n a.k a.q n.result m.result r.result n.ensures.0 m.ensures.0 r.ensures st.pre.1.0.0 st.pre.1.1.0 (after-put-nbits (after-put-nbits2 (after-put-runs (after-put-ones' c.before.before).before).before).before).put-nbits.ensures (after-put-nbits2 (after-put-runs (after-put-ones' c.before.before).before).before).put-nbits2.ensures (after-put-runs (after-put-ones' c.before.before).before).put-runs.ensures (after-put-ones' c.before.before).put-ones.ensures c.before.before.flush.ensures
+    slice_laid a.out.now a.at a.work.now a.p a.n a.k a.q n.result m.result r.result n.ensures.0 m.ensures.0 r.ensures st.pre.1.0.0 st.pre.1.1.0 (after-put-nbits (after-put-nbits2 (after-put-runs (after-put-ones' c.before.before).before).before).before).put-nbits.ensures (after-put-nbits2 (after-put-runs (after-put-ones' c.before.before).before).before).put-nbits2.ensures (after-put-runs (after-put-ones' c.before.before).before).put-runs.ensures (after-put-ones' c.before.before).put-ones.ensures c.before.before.flush.ensures
 
 same_length : tie.Need-same-length
 same_length c = (returns c).0.size

@@ -3,10 +3,10 @@ use lib.ListN.{take}
 use Rattle.codewords.specs.Bit.{Bits}
 use Rattle.codewords.specs.CodeWord.{codes}
 use Rattle.codewords.specs.Laws.Writer.{wrote_then}
-use Rattle.picture.specs.Laws.Head.{room-first, room-rest}
-use Rattle.picture.specs.Code.Low.{lumaIn, colourIn}
+use Rattle.picture.specs.Laws.Head.{room_first, room_rest}
+use Rattle.picture.specs.Code.Low.{luma_in, colour_in}
 use Rattle.picture.specs.Laws.Layout.{run_lies}
-use Rattle.picture.specs.Laws.Picture.{run-y, run-pair}
+use Rattle.picture.specs.Laws.Picture.{run_y, run_pair}
 use borrow.Author.Rules.{rules}
 use Rattle.picture.proofs.low.slice.put_runs.Statement.{statement}
 use Rattle.picture.proofs.low.slice.put_runs.Tie as tie
@@ -27,21 +27,21 @@ after-put-run c = let t = c.before.before in t.before.before
 abbrev after-put-run2 : tie.After-result → tie.After-put-run2
 after-put-run2 c = let t = c.before.before in t.before
 
-abbrev lumaBits : tie.Start → Bits
-lumaBits c = codes (take c.args.r.luma (lumaIn c.args.work.now c.args.p c.args.k c.args.q))
+abbrev luma_bits : tie.Start → Bits
+luma_bits c = codes (take c.args.r.luma (luma_in c.args.work.now c.args.p c.args.k c.args.q))
 
-abbrev colourBits : tie.Start → Bits
-colourBits c = codes (take c.args.r.colour (colourIn c.args.work.now c.args.p c.args.k c.args.q))
+abbrev colour_bits : tie.Start → Bits
+colour_bits c = codes (take c.args.r.colour (colour_in c.args.work.now c.args.p c.args.k c.args.q))
 
 put-run-requires : tie.Need-put-run-requires
 put-run-requires c κs =
     let st = begin c in
-    (run_lies (run-y st.pre.0), room-first (lumaBits st) (colourBits st) st.pre.1)
+    (run_lies (run_y st.pre.0), room_first (luma_bits st) (colour_bits st) st.pre.1)
 
 put-run-requires-2 : tie.Need-put-run-requires-2
 put-run-requires-2 c κs =
     let st = begin (after-put-run c).before in
-    (run_lies (run-pair st.pre.0), room-rest (lumaBits st) (colourBits st) st.pre.1 (after-put-run c).put-run.ensures.wrote)
+    (run_lies (run_pair st.pre.0), room_rest (luma_bits st) (colour_bits st) st.pre.1 (after-put-run c).put-run.ensures.wrote)
 
 same_length : tie.Need-same-length
 same_length c = search rules

@@ -2,7 +2,7 @@
 use mathlib.Core.Path.{ap₂}
 use Prim.Native.Nat.{◌+◌}
 use Rattle.picture.specs.declared.slices.tally.Trimmed.{Trimmed}
-use Rattle.picture.specs.Laws.LowRest.{joined-few}
+use Rattle.picture.specs.Laws.LowRest.{joined_few}
 use native.Mathlib.Omega.{arith}
 use borrow.Author.Rules.{rules}
 use Rattle.picture.proofs.low.trial.bits_with.Statement.{statement}
@@ -33,7 +33,7 @@ add-result c =
     let a = st.args in
     let y = (after-joined c).joined in
     let d = c.before.before.joined2 in
-    omega (arith, joined-few a.f.luma a.r.luma y.result st.pre.0 y.ensures, joined-few a.f.colour a.r.colour d.result st.pre.1 d.ensures)
+    omega (arith, joined_few a.f.luma a.r.luma y.result st.pre.0 y.ensures, joined_few a.f.colour a.r.colour d.result st.pre.1 d.ensures)
 
 returns : tie.Need-returns
 returns c = let t = c.before.before in ap₂ (λ (y d : Trimmed). y.bits + d.bits) t.before.joined.ensures t.joined2.ensures

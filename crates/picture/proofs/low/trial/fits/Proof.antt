@@ -1,7 +1,7 @@
 -- `low::trial::fits` meets its contract.
 use Rattle.picture.specs.Code.Picture.{Arranged}
 use Rattle.picture.specs.Code.LowRest.{Known}
-use Rattle.picture.specs.Laws.LowRest.{known-rebuilt, joins-both, surely-either, never-either, fits_low, fits-high}
+use Rattle.picture.specs.Laws.LowRest.{known-rebuilt, joins_both, surely_either, never_either, fits_low, fits-high}
 use native.Mathlib.Omega.{arith}
 use borrow.Author.Rules.{rules}
 use Rattle.picture.proofs.low.trial.fits.Statement.{statement}
@@ -46,10 +46,10 @@ first-tallies-requires : tie.Need-first-tallies-requires
 first-tallies-requires c κs = search rules
 
 surely-fits-requires : tie.Need-surely-fits-requires
-surely-fits-requires c κs = joins-both c.first-tallies.ensures (both c).0 (arranged c)
+surely-fits-requires c κs = joins_both c.first-tallies.ensures (both c).0 (arranged c)
 
 surely-fits-requires-2 : tie.Need-surely-fits-requires-2
-surely-fits-requires-2 c κs = let d = c.before in joins-both d.first-tallies.ensures (both d).1 (arranged d)
+surely-fits-requires-2 c κs = let d = c.before in joins_both d.first-tallies.ensures (both d).1 (arranged d)
 
 same_length : tie.Need-same-length
 same_length c = search rules
@@ -65,17 +65,17 @@ returns c =
     let k = both d in
     let x = t.surely-fits in
     let y = c.before.surely-fits2 in
-    (surely-either d.first-tallies.ensures k.0 k.1 a.work.now r.0 a.room x.result y.result x.ensures y.ensures c.if1.true, (r.0, (r.1, k)))
+    (surely_either d.first-tallies.ensures k.0 k.1 a.work.now r.0 a.room x.result y.result x.ensures y.ensures c.if1.true, (r.0, (r.1, k)))
 
 never-fits-requires : tie.Need-never-fits-requires
 never-fits-requires c κs =
     let t = c.before.before in
-    let d = t.before in joins-both d.first-tallies.ensures (both d).0 (arranged d)
+    let d = t.before in joins_both d.first-tallies.ensures (both d).0 (arranged d)
 
 never-fits-requires-2 : tie.Need-never-fits-requires-2
 never-fits-requires-2 c κs =
     let t = c.before.before in
-    let d = t.before.before in joins-both d.first-tallies.ensures (both d).1 (arranged d)
+    let d = t.before.before in joins_both d.first-tallies.ensures (both d).1 (arranged d)
 
 same-length-2 : tie.Need-same-length-2
 same-length-2 c = search rules
@@ -90,13 +90,13 @@ returns-2 c =
     let k = both d in
     let x = c.before.before.never-fits in
     let y = c.before.never-fits2 in
-    (never-either d.first-tallies.ensures k.0 k.1 a.work.now r.0 a.room x.result y.result x.ensures y.ensures c.if2.true, (r.0, (r.1, k)))
+    (never_either d.first-tallies.ensures k.0 k.1 a.work.now r.0 a.room x.result y.result x.ensures y.ensures c.if2.true, (r.0, (r.1, k)))
 
 rest-of-requires : tie.Need-rest-of-requires
 rest-of-requires c κs = search rules
 
 bits-with-requires : tie.Need-bits-with-requires
-bits-with-requires c κs = let d = (after-surely-fits2 c).before.before in joins-both d.first-tallies.ensures c.rest_of.ensures.0 (arranged d)
+bits-with-requires c κs = let d = (after-surely-fits2 c).before.before in joins_both d.first-tallies.ensures c.rest_of.ensures.0 (arranged d)
 
 same-length-3 : tie.Need-same-length-3
 same-length-3 c = search rules

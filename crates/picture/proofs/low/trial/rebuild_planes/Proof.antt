@@ -3,9 +3,9 @@ use mathlib.Core.Path.{ap, ◌∙◌}
 use Rattle.picture.specs.declared.low.trial.Windows.{Windows}
 use Rattle.picture.specs.Code.Picture.{SliceIn}
 use Rattle.picture.specs.Laws.Layout.{run_lies}
-use Rattle.picture.specs.Laws.Picture.{run-y, run-c1, run-c2}
-use Rattle.picture.specs.Laws.LowIndex.{planes-rebuilt, slice-rebuilt}
-use Rattle.picture.specs.Laws.LowRest.{window-c2}
+use Rattle.picture.specs.Laws.Picture.{run_y, run_c1, run_c2}
+use Rattle.picture.specs.Laws.LowIndex.{planes-rebuilt, slice_rebuilt}
+use Rattle.picture.specs.Laws.LowRest.{window_c2}
 use borrow.Author.Rules.{rules}
 use Rattle.picture.proofs.low.trial.rebuild_planes.Statement.{statement}
 use Rattle.picture.proofs.low.trial.rebuild_planes.Tie as tie
@@ -26,26 +26,26 @@ colour c = let t = c.before.before in t.before
 
 -- the slice behind each component
 slice₁ : (c : tie.After-rebuild-run) → let a = (begin c.before).args in SliceIn a.p c.rebuild-run.new.0 a.k a.q
-slice₁ c = let st = begin c.before in let h = st.pre.0 in slice-rebuilt st.args.p.y h (run-y h) c.rebuild-run.ensures
+slice₁ c = let st = begin c.before in let h = st.pre.0 in slice_rebuilt st.args.p.y h (run_y h) c.rebuild-run.ensures
 
 slice₂ : (c : tie.After-rebuild-run2) → let a = (begin (luma c).before).args in SliceIn a.p c.rebuild-run2.new.0 a.k a.q
-slice₂ c = let h = slice₁ (luma c) in slice-rebuilt (begin (luma c).before).args.p.c1 h (run-c1 h) c.rebuild-run2.ensures
+slice₂ c = let h = slice₁ (luma c) in slice_rebuilt (begin (luma c).before).args.p.c1 h (run_c1 h) c.rebuild-run2.ensures
 
 rebuild-run-requires : tie.Need-rebuild-run-requires
-rebuild-run-requires c κs = let h = (begin c).requires in (run_lies (run-y h.0), ap (λ (v : Windows). v.luma) h.1)
+rebuild-run-requires c κs = let h = (begin c).requires in (run_lies (run_y h.0), ap (λ (v : Windows). v.luma) h.1)
 
 rebuild-run-requires-2 : tie.Need-rebuild-run-requires-2
 rebuild-run-requires-2 c κs =
     let r = c.before.before in
     let h = (begin r.before).requires in
-    (run_lies (run-c1 (slice₁ r)), ap (λ (v : Windows). v.colour) h.1)
+    (run_lies (run_c1 (slice₁ r)), ap (λ (v : Windows). v.colour) h.1)
 
 rebuild-run-requires-3 : tie.Need-rebuild-run-requires-3
 rebuild-run-requires-3 c κs =
     let r = c.before.before in
     let st = begin (luma r).before in
     let h = st.pre in
-    (run_lies (run-c2 (slice₂ r)), ap (λ (v : Windows). v.colour) h.1 ∙ window-c2 st.args.p st.args.k h.0.arranged)
+    (run_lies (run_c2 (slice₂ r)), ap (λ (v : Windows). v.colour) h.1 ∙ window_c2 st.args.p st.args.k h.0.arranged)
 
 same_length : tie.Need-same-length
 same_length c = search rules
@@ -60,7 +60,7 @@ returns c =
     let a = (begin t.before).args in
     let h = slice₂ (colour r) in (
       planes-rebuilt a.work.now y.last.0 c1.last.0 c2.new.0 a.p a.k a.q y.ensures c1.ensures c2.ensures,
-      (slice-rebuilt a.p.c2 h (run-c2 h) c2.ensures).small,
+      (slice_rebuilt a.p.c2 h (run_c2 h) c2.ensures).small,
     )
 
 pub rebuild-planes-spec : {M : Type 1} → statement M

@@ -6,7 +6,7 @@ use Rattle.picture.specs.Code.Strip.{number_in}
 use Rattle.picture.specs.Laws.Strip.{numbered, number_size}
 use Rattle.picture.specs.Code.Cost.{add1}
 use Rattle.picture.specs.Laws.Added.{place-added}
-use Rattle.picture.specs.Laws.Cost.{added_len, countable-one}
+use Rattle.picture.specs.Laws.Cost.{added_len, countable_one}
 use Rattle.picture.proofs.slices.cost.cost_place.Statement.{statement}
 use Rattle.picture.proofs.slices.cost.cost_place.Tie as tie
 
@@ -27,7 +27,7 @@ add-second-requires : tie.Need-add-second-requires
 add-second-requires c κs =
     let h = c.before.before.requires in
     let a = c.before.before.args in
-    (h.0, (h.1.0, countable-one a.c c.add-len.result (number c) h.1.1 (number_size a.work.now a.s a.s.coefs a.s.rebuilt a.y a.x) (added c)))
+    (h.0, (h.1.0, countable_one a.c c.add-len.result (number c) h.1.1 (number_size a.work.now a.s a.s.coefs a.s.rebuilt a.y a.x) (added c)))
 
 returns : tie.Need-returns
 returns c =

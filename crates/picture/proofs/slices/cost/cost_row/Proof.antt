@@ -3,16 +3,16 @@ use mathlib.Core.Path.{◌≡◌}
 use Prim.Native.Nat.{ℕ, ◌+◌, ◌-◌, ◌≤◌}
 use Rattle.laws.specs.Code.Chunks.{chunks}
 use Rattle.picture.specs.Code.Strip.{Inside}
-use Rattle.picture.specs.Code.Cost.{add1, addAll}
-use Rattle.picture.specs.Laws.Strip.{places, place-small, place-length, row-chunks, chunks-small, chunks-length}
-use Rattle.picture.specs.Laws.Added.{added-chunks-none, added-turn, added-all}
-use Rattle.picture.specs.Laws.Cost.{countable-after}
+use Rattle.picture.specs.Code.Cost.{add1, add_all}
+use Rattle.picture.specs.Laws.Strip.{places, place_small, place-length, row-chunks, chunks_small, chunks-length}
+use Rattle.picture.specs.Laws.Added.{added-chunks-none, added-turn, added_all}
+use Rattle.picture.specs.Laws.Cost.{countable_after}
 use native.Mathlib.Omega.{arith}
 use Rattle.picture.proofs.slices.cost.cost_row.Statement.{statement}
 use Rattle.picture.proofs.slices.cost.cost_row.Tie as tie
 
 abbrev invariant-loop : tie.invariant-loop
-invariant-loop work s y t₀ x₀ t x = (s.left ≤ x) × ((x ≤ s.right) × (t ≡ addAll t₀ (chunks (places work s y s.left) (x - s.left))))
+invariant-loop work s y t₀ x₀ t x = (s.left ≤ x) × ((x ≤ s.right) × (t ≡ add_all t₀ (chunks (places work s y s.left) (x - s.left))))
 
 abbrev decreases-loop : tie.decreases-loop
 decreases-loop work s y t₀ x₀ t x = s.right - x
@@ -33,7 +33,7 @@ cost-place-requires c κs =
     let k : ℕ = l.x - a.s.left in
     let i : Inside a.s a.y l.x = record { below = h.1.0; above = h.1.1.0; right_of = l.invariant.0; left-of = c.if1.true } in
     let m = chunks-length F 2 k (λ j. place-length a.work.now a.s a.y (a.s.left + j)) in
-    let q = countable-after a.c (chunks F k) _ 2 h.1.1.1 (chunks-small F k (λ j. place-small a.work.now a.s a.y (a.s.left + j))) (omega (arith, m, l.invariant.0, c.if1.true)) in
+    let q = countable_after a.c (chunks F k) _ 2 h.1.1.1 (chunks_small F k (λ j. place_small a.work.now a.s a.y (a.s.left + j))) (omega (arith, m, l.invariant.0, c.if1.true)) in
     (h.0, (i, rw l.invariant.1.1 q))
 
 add-x : tie.Need-overflow-add-x invariant-loop decreases-loop
@@ -58,7 +58,7 @@ returns c =
     let l = t.loop in
     let e : l.x ≡ a.s.right = omega (arith, l.invariant.1.0, c.if1.false) in
     let F = places a.work.now a.s a.y a.s.left in
-    added-all add1 F a.c l.t _ a.s.left l.x a.s.right e l.invariant.1.1 (row-chunks a.work.now a.s a.y a.s.left (a.s.right - a.s.left))
+    added_all add1 F a.c l.t _ a.s.left l.x a.s.right e l.invariant.1.1 (row-chunks a.work.now a.s a.y a.s.left (a.s.right - a.s.left))
 
 pub cost-row-spec : {M : Type 1} → statement M
 cost-row-spec =

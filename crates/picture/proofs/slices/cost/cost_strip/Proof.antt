@@ -2,16 +2,16 @@
 use mathlib.Core.Path.{◌≡◌}
 use Prim.Native.Nat.{ℕ, ◌+◌, ◌*◌, ◌-◌, ◌≤◌}
 use Rattle.laws.specs.Code.Chunks.{chunks}
-use Rattle.picture.specs.Code.Cost.{add1, addAll}
-use Rattle.picture.specs.Laws.Strip.{rows, row_small, row-length, rows-chunks, chunks-small, chunks-length}
-use Rattle.picture.specs.Laws.Added.{added-chunks-none, added-turn, added-all}
-use Rattle.picture.specs.Laws.Cost.{countable-after, strip-room}
+use Rattle.picture.specs.Code.Cost.{add1, add_all}
+use Rattle.picture.specs.Laws.Strip.{rows, row_small, row-length, rows-chunks, chunks_small, chunks-length}
+use Rattle.picture.specs.Laws.Added.{added-chunks-none, added-turn, added_all}
+use Rattle.picture.specs.Laws.Cost.{countable_after, strip_room}
 use native.Mathlib.Omega.{arith}
 use Rattle.picture.proofs.slices.cost.cost_strip.Statement.{statement}
 use Rattle.picture.proofs.slices.cost.cost_strip.Tie as tie
 
 abbrev invariant-loop : tie.invariant-loop
-invariant-loop work s t₀ y₀ t y = (s.top ≤ y) × ((y ≤ s.bottom) × (t ≡ addAll t₀ (chunks (rows work s s.top) (y - s.top))))
+invariant-loop work s t₀ y₀ t y = (s.top ≤ y) × ((y ≤ s.bottom) × (t ≡ add_all t₀ (chunks (rows work s s.top) (y - s.top))))
 
 abbrev decreases-loop : tie.decreases-loop
 decreases-loop work s t₀ y₀ t y = s.bottom - y
@@ -32,8 +32,8 @@ cost-row-requires c κs =
     let k : ℕ = l.y - a.s.top in
     let w : ℕ = a.s.right - a.s.left in
     let m = chunks-length F (w * 2) k (λ j. row-length a.work.now a.s (a.s.top + j) a.s.left w) in
-    let q = countable-after a.c (chunks F k) _ (2 * w) h.1 (chunks-small F k (λ j. row_small a.work.now a.s (a.s.top + j) a.s.left w))
-    (strip-room k (a.s.bottom - a.s.top) w _ (omega (arith, l.invariant.0, c.if1.true)) m) in
+    let q = countable_after a.c (chunks F k) _ (2 * w) h.1 (chunks_small F k (λ j. row_small a.work.now a.s (a.s.top + j) a.s.left w))
+    (strip_room k (a.s.bottom - a.s.top) w _ (omega (arith, l.invariant.0, c.if1.true)) m) in
     (h.0, (l.invariant.0, (c.if1.true, rw l.invariant.1.1 q)))
 
 add-y : tie.Need-overflow-add-y invariant-loop decreases-loop
@@ -58,7 +58,7 @@ returns c =
     let l = t.loop in
     let e : l.y ≡ a.s.bottom = omega (arith, l.invariant.1.0, c.if1.false) in
     let F = rows a.work.now a.s a.s.top in
-    added-all add1 F a.c l.t _ a.s.top l.y a.s.bottom e l.invariant.1.1 (rows-chunks a.work.now a.s a.s.top (a.s.bottom - a.s.top))
+    added_all add1 F a.c l.t _ a.s.top l.y a.s.bottom e l.invariant.1.1 (rows-chunks a.work.now a.s a.s.top (a.s.bottom - a.s.top))
 
 pub cost-strip-spec : {M : Type 1} → statement M
 cost-strip-spec =

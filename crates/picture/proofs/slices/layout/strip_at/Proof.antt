@@ -2,8 +2,8 @@
 use mathlib.Core.Path.{ap}
 use native.Mathlib.Omega.{arith}
 use Rattle.unit.specs.Sizes.{Size}
-use Rattle.picture.specs.Code.Sides.{sizeIn}
-use Rattle.picture.specs.Laws.Layout.{band-narrow, band-low, row_of, column-of, window-is, strip-by}
+use Rattle.picture.specs.Code.Sides.{size_in}
+use Rattle.picture.specs.Laws.Layout.{band_narrow, band-low, row_of, column-of, window_is, strip_by}
 use borrow.Author.Rules.{rules}
 use Rattle.picture.proofs.slices.layout.strip_at.Statement.{statement}
 use Rattle.picture.proofs.slices.layout.strip_at.Tie as tie
@@ -95,7 +95,7 @@ bound-requires-3 c κs =
     let s = (after-band-size' c.before).before in
     let a = s.args in
     let z = (after-band-size' c.before).band-size in
-    omega (arith, s.pre.layout.across, s.pre.first.width, ap (λ (z : Size). z.width) z.ensures, band-narrow a.t1 a.c a.n, column-of s.pre.layout s.pre.slice)
+    omega (arith, s.pre.layout.across, s.pre.first.width, ap (λ (z : Size). z.width) z.ensures, band_narrow a.t1 a.c a.n, column-of s.pre.layout s.pre.slice)
 
 add-bound-2 : tie.Need-overflow-add-bound-2
 add-bound-2 c = let s = (after-band-size' c.before.before).before in omega (arith, s.pre.layout.across, column-of s.pre.layout s.pre.slice)
@@ -105,7 +105,7 @@ bound-requires-4 c κs =
     let s = (after-band-size' c.before.before).before in
     let a = s.args in
     let z = (after-band-size' c.before.before).band-size in
-    omega (arith, s.pre.layout.across, s.pre.first.width, ap (λ (z : Size). z.width) z.ensures, band-narrow a.t1 a.c a.n, column-of s.pre.layout s.pre.slice)
+    omega (arith, s.pre.layout.across, s.pre.first.width, ap (λ (z : Size). z.width) z.ensures, band_narrow a.t1 a.c a.n, column-of s.pre.layout s.pre.slice)
 
 offset-by-requires : tie.Need-offset-by-requires
 offset-by-requires c κs = search rules
@@ -125,8 +125,8 @@ returns c =
     let y = c.before.before.bound4 in
     let o = c.before.offset-by in
     let p = c.first_of in
-    strip-by a.t1 a.c a.second a.pair a.n a.start a.k a.q _ i.result f.result o.result p.result
-    (window-is a.t1 a.c a.n a.k (sizeIn z.result) t.result d.result x.result y.result z.ensures t.ensures d.ensures x.ensures y.ensures)
+    strip_by a.t1 a.c a.second a.pair a.n a.start a.k a.q _ i.result f.result o.result p.result
+    (window_is a.t1 a.c a.n a.k (size_in z.result) t.result d.result x.result y.result z.ensures t.ensures d.ensures x.ensures y.ensures)
     i.ensures.0 f.ensures.0 o.ensures.0 p.ensures
 
 pub strip-at-spec : {M : Type 1} → statement M

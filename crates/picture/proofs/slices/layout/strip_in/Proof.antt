@@ -1,5 +1,5 @@
 -- `slices::layout::strip_in` meets its contract.
-use Rattle.picture.specs.Laws.Layout.{strip-by}
+use Rattle.picture.specs.Laws.Layout.{strip_by}
 use borrow.Author.Rules.{rules}
 use Rattle.picture.proofs.slices.layout.strip_in.Statement.{statement}
 use Rattle.picture.proofs.slices.layout.strip_in.Tie as tie
@@ -49,7 +49,7 @@ returns c =
     let f = (after-factor-at c.before).factor-at in
     let o = c.before.offset-by in
     let p = c.first_of in
-    strip-by a.t1 a.c a.second a.pair a.n a.start a.k a.q a.v i.result f.result o.result p.result st.pre.1 i.ensures.0 f.ensures.0 o.ensures.0 p.ensures
+    strip_by a.t1 a.c a.second a.pair a.n a.start a.k a.q a.v i.result f.result o.result p.result st.pre.1 i.ensures.0 f.ensures.0 o.ensures.0 p.ensures
 
 pub strip-in-spec : {M : Type 1} → statement M
 strip-in-spec =

@@ -2,8 +2,8 @@
 use mathlib.Core.Path.{ap}
 use native.Mathlib.Omega.{arith}
 use Rattle.unit.specs.Sizes.{Size}
-use Rattle.picture.specs.Code.Sides.{sizeIn}
-use Rattle.picture.specs.Laws.Layout.{band-narrow, band-low, row_of, column-of, window-is}
+use Rattle.picture.specs.Code.Sides.{size_in}
+use Rattle.picture.specs.Laws.Layout.{band_narrow, band-low, row_of, column-of, window_is}
 use borrow.Author.Rules.{rules}
 use Rattle.picture.proofs.slices.layout.window_at.Statement.{statement}
 use Rattle.picture.proofs.slices.layout.window_at.Tie as tie
@@ -62,7 +62,7 @@ bound-requires-3 c κs =
     let s = (after-band-size' c).before in
     let a = s.args in
     let z = (after-band-size' c).band-size in
-    omega (arith, s.pre.layout.across, s.pre.first.width, ap (λ (z : Size). z.width) z.ensures, band-narrow a.l a.c a.n, column-of s.pre.layout s.pre.slice)
+    omega (arith, s.pre.layout.across, s.pre.first.width, ap (λ (z : Size). z.width) z.ensures, band_narrow a.l a.c a.n, column-of s.pre.layout s.pre.slice)
 
 add-bound-2 : tie.Need-overflow-add-bound-2
 add-bound-2 c = let s = (after-band-size' c.before).before in omega (arith, s.pre.layout.across, column-of s.pre.layout s.pre.slice)
@@ -72,7 +72,7 @@ bound-requires-4 c κs =
     let s = (after-band-size' c.before).before in
     let a = s.args in
     let z = (after-band-size' c.before).band-size in
-    omega (arith, s.pre.layout.across, s.pre.first.width, ap (λ (z : Size). z.width) z.ensures, band-narrow a.l a.c a.n, column-of s.pre.layout s.pre.slice)
+    omega (arith, s.pre.layout.across, s.pre.first.width, ap (λ (z : Size). z.width) z.ensures, band_narrow a.l a.c a.n, column-of s.pre.layout s.pre.slice)
 
 returns : tie.Need-returns
 returns c =
@@ -82,7 +82,7 @@ returns c =
     let d = c.before.before.bound2 in
     let x = c.before.bound3 in
     let y = c.bound4 in
-    window-is a.l a.c a.n a.k (sizeIn z.result) t.result d.result x.result y.result z.ensures t.ensures d.ensures x.ensures y.ensures
+    window_is a.l a.c a.n a.k (size_in z.result) t.result d.result x.result y.result z.ensures t.ensures d.ensures x.ensures y.ensures
 
 pub window-at-spec : {M : Type 1} → statement M
 window-at-spec =

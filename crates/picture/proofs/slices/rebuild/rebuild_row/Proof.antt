@@ -2,14 +2,14 @@
 use mathlib.Core.Path.{◌≡◌, ap, ◌∙◌}
 use Prim.Native.Nat.{◌-◌, ◌≤◌}
 use lib.ListN.{length}
-use Rattle.picture.specs.Code.Strip.{rebuiltRow, Inside}
+use Rattle.picture.specs.Code.Strip.{rebuilt_row, Inside}
 use Rattle.picture.specs.Laws.Strip.{rebuilt-none, rebuilt-length, rebuilt-turn, row_keeps}
 use native.Mathlib.Omega.{arith}
 use Rattle.picture.proofs.slices.rebuild.rebuild_row.Statement.{statement}
 use Rattle.picture.proofs.slices.rebuild.rebuild_row.Tie as tie
 
 abbrev invariant-loop : tie.invariant-loop
-invariant-loop work₀ s y x₀ work x = (s.left ≤ x) × ((x ≤ s.right) × (work ≡ rebuiltRow work₀ s y s.left (x - s.left)))
+invariant-loop work₀ s y x₀ work x = (s.left ≤ x) × ((x ≤ s.right) × (work ≡ rebuilt_row work₀ s y s.left (x - s.left)))
 
 abbrev decreases-loop : tie.decreases-loop
 decreases-loop work₀ s y x₀ work x = s.right - x
@@ -67,7 +67,7 @@ returns c =
     let a = t.before.args in
     let l = t.loop in
     let e : l.x - a.s.left ≡ a.s.right - a.s.left = omega (arith, l.invariant.1.0, c.if1.false) in
-    l.invariant.1.1 ∙ ap (rebuiltRow a.work.now a.s a.y a.s.left) e
+    l.invariant.1.1 ∙ ap (rebuilt_row a.work.now a.s a.y a.s.left) e
 
 pub rebuild-row-spec : {M : Type 1} → statement M
 rebuild-row-spec =

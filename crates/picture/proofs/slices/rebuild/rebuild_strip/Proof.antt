@@ -2,14 +2,14 @@
 use mathlib.Core.Path.{◌≡◌, ap, ◌∙◌}
 use Prim.Native.Nat.{◌-◌, ◌≤◌}
 use lib.ListN.{length}
-use Rattle.picture.specs.Code.Strip.{rebuiltRows}
-use Rattle.picture.specs.Laws.Strip.{rebuilt-rows-none, rebuilt-rows-turn, rebuilt-rows-length, rows-keep}
+use Rattle.picture.specs.Code.Strip.{rebuilt_rows}
+use Rattle.picture.specs.Laws.Strip.{rebuilt-rows-none, rebuilt-rows-turn, rebuilt-rows-length, rows_keep}
 use native.Mathlib.Omega.{arith}
 use Rattle.picture.proofs.slices.rebuild.rebuild_strip.Statement.{statement}
 use Rattle.picture.proofs.slices.rebuild.rebuild_strip.Tie as tie
 
 abbrev invariant-loop : tie.invariant-loop
-invariant-loop work₀ s y₀ work y = (s.top ≤ y) × ((y ≤ s.bottom) × (work ≡ rebuiltRows work₀ s s.top (y - s.top)))
+invariant-loop work₀ s y₀ work y = (s.top ≤ y) × ((y ≤ s.bottom) × (work ≡ rebuilt_rows work₀ s s.top (y - s.top)))
 
 abbrev decreases-loop : tie.decreases-loop
 decreases-loop work₀ s y₀ work y = s.bottom - y
@@ -26,7 +26,7 @@ rebuild-row-requires c κs =
     let st = t.before.before in
     let b = st.requires in
     let d = c.before.if1.true in
-    let m = rows-keep b.holds.0 b.holds.1 (l.y - st.args.s.top) (omega (arith, d)) in
+    let m = rows_keep b.holds.0 b.holds.1 (l.y - st.args.s.top) (omega (arith, d)) in
     (record { front = b.front; end = b.end; holds = (rw l.invariant.1.1 m, b.holds.1) }, (l.invariant.0, d))
 
 add-y : tie.Need-overflow-add-y invariant-loop decreases-loop
@@ -56,7 +56,7 @@ returns c =
     let a = t.before.args in
     let l = t.loop in
     let e : l.y - a.s.top ≡ a.s.bottom - a.s.top = omega (arith, l.invariant.1.0, c.if1.false) in
-    l.invariant.1.1 ∙ ap (rebuiltRows a.work.now a.s a.s.top) e
+    l.invariant.1.1 ∙ ap (rebuilt_rows a.work.now a.s a.s.top) e
 
 pub rebuild-strip-spec : {M : Type 1} → statement M
 rebuild-strip-spec =

@@ -6,9 +6,9 @@ use mir.Val.{to_z, of_z}
 use mir.Facts.{to_z-of_z}
 use borrow.Author.Rules.{sfits_of}
 use Rattle.laws.specs.Laws.Machine.{fit}
-use Rattle.quantiser.specs.Quant.{inverseBy}
-use Rattle.quantiser.specs.Laws.Quant.{quantOffset-lt}
-use Rattle.picture.specs.Code.Strip.{valueIn}
+use Rattle.quantiser.specs.Quant.{inverse_by}
+use Rattle.quantiser.specs.Laws.Quant.{quant_offset-lt}
+use Rattle.picture.specs.Code.Strip.{value_in}
 use Rattle.picture.specs.Laws.Strip.{numbered, value-reach}
 use native.Mathlib.Omega.{arith}
 use Rattle.picture.proofs.slices.rebuild.value_at.Statement.{statement}
@@ -20,14 +20,14 @@ begin c = let t = c.before.before in t.before
 
 -- the sum
 value : (c : tie.After-inverse-by) → let a = (begin c).args in
-    to_z w64 (of_z w64 c.before.before.prediction.result) +ℤ to_z w64 (of_z w64 c.inverse-by.result) ≡ valueIn a.work.now a.s a.y a.x
+    to_z w64 (of_z w64 c.before.before.prediction.result) +ℤ to_z w64 (of_z w64 c.inverse_by_lem.result) ≡ value_in a.work.now a.s a.y a.x
 value c =
     let s = (begin c).args.s in
     let p = c.before.before.prediction in
     let q = c.before.number_at in
-    let r = c.inverse-by in
+    let r = c.inverse_by_lem in
     ap₂ ◌+ℤ◌ (to_z-of_z (sfits_of p.type-inv) ∙ p.ensures.0)
-    (to_z-of_z (sfits_of r.type-inv) ∙ r.ensures ∙ ap (inverseBy s.factor s.offset) (to_z-of_z (sfits_of q.type-inv) ∙ q.ensures))
+    (to_z-of_z (sfits_of r.type-inv) ∙ r.ensures ∙ ap (inverse_by s.factor s.offset) (to_z-of_z (sfits_of q.type-inv) ∙ q.ensures))
 
 prediction-requires : tie.Need-prediction-requires
 prediction-requires c κs =
@@ -41,14 +41,14 @@ number-at-requires c κs = let h = c.before.requires in numbered h.0.holds.0 h.0
 inverse-by-requires : tie.Need-inverse-by-requires
 inverse-by-requires c κs =
     let h = c.before.before.requires in
-    ((numbered h.0.holds.0 h.0.holds.1 h.1).factor.0, rw h.0.holds.1.offset (quantOffset-lt c.before.before.args.s.index))
+    ((numbered h.0.holds.0 h.0.holds.1 h.1).factor.0, rw h.0.holds.1.offset (quant_offset-lt c.before.before.args.s.index))
 
 add-result : tie.Need-overflow-add-result
 add-result c =
     let t = c.before.before in
     let st = t.before in
     let h = st.requires in
-    rw (value c) (fit (valueIn st.args.work.now st.args.s st.args.y st.args.x) (omega (arith, value-reach h.0.holds.0 h.0.holds.1 h.1)))
+    rw (value c) (fit (value_in st.args.work.now st.args.s st.args.y st.args.x) (omega (arith, value-reach h.0.holds.0 h.0.holds.1 h.1)))
 
 returns : tie.Need-returns
 returns c =

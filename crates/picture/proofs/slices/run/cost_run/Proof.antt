@@ -2,19 +2,19 @@
 -- area.
 use mathlib.Core.Path.{◌≡◌, sym, ap, ◌∙◌}
 use Prim.Native.Nat.{◌-◌, ◌≤◌}
-use Rattle.picture.specs.Code.Cost.{addAll}
-use Rattle.picture.specs.Code.Layout.{bandCount, start_of, runNumbers}
-use Rattle.picture.specs.Laws.Layout.{start_first, strip-in, strip-from, start-turn, start_small, cost-none, cost-turn, cost-ready}
+use Rattle.picture.specs.Code.Cost.{add_all}
+use Rattle.picture.specs.Code.Layout.{band_count, start_of, run_numbers}
+use Rattle.picture.specs.Laws.Layout.{start_first, strip_in, strip_from, start-turn, start_small, cost-none, cost-turn, cost_ready}
 use native.Mathlib.Omega.{arith}
 use Rattle.picture.proofs.slices.run.cost_run.Statement.{statement}
 use Rattle.picture.proofs.slices.run.cost_run.Tie as tie
 
 abbrev invariant-loop : tie.invariant-loop
 invariant-loop work l c second pair k q bands r₀ start₀ n₀ r start n =
-    (n ≤ bandCount l) × ((start ≡ start_of l c n) × (r ≡ addAll r₀ (runNumbers work l c second pair k q n)))
+    (n ≤ band_count l) × ((start ≡ start_of l c n) × (r ≡ add_all r₀ (run_numbers work l c second pair k q n)))
 
 abbrev decreases-loop : tie.decreases-loop
-decreases-loop work l c second pair k q bands r₀ start₀ n₀ r start n = bandCount l - n
+decreases-loop work l c second pair k q bands r₀ start₀ n₀ r start n = band_count l - n
 
 -- earlier states
 abbrev begin : tie.At-loop invariant-loop decreases-loop → tie.Start invariant-loop decreases-loop
@@ -41,7 +41,7 @@ strip-at-requires c κs =
     let st = t.before.before in
     let a = st.args in
     let v = c.before.loop in
-    strip-in st.requires.0.holds v.n v.start c.loop-test.true v.invariant.1.0
+    strip_in st.requires.0.holds v.n v.start c.loop-test.true v.invariant.1.0
 
 cost-strip-requires : tie.Need-cost-strip-requires invariant-loop decreases-loop
 cost-strip-requires c κs =
@@ -50,7 +50,7 @@ cost-strip-requires c κs =
     let v = c.before.before.loop in
     let s = c.strip-at in
     let d = c.before.loop-test.true in
-    cost-ready a.work.now a.l a.c a.second a.pair a.k a.q st.pre.0.holds s.result v.n d a.t v.r (strip-from a.l a.c a.second a.pair a.k a.q s.result v.n v.start s.ensures v.invariant.1.0) v.invariant.1.1 st.pre.1
+    cost_ready a.work.now a.l a.c a.second a.pair a.k a.q st.pre.0.holds s.result v.n d a.t v.r (strip_from a.l a.c a.second a.pair a.k a.q s.result v.n v.start s.ensures v.invariant.1.0) v.invariant.1.1 st.pre.1
 
 mul-start : tie.Need-overflow-mul-start invariant-loop decreases-loop
 mul-start c =
@@ -83,15 +83,15 @@ loop-again c =
     let v = (in-loop c).before.loop in
     let s = c.before.before.strip-at in
     let d = (in-loop c).loop-test.true in
-    (omega (arith, d), (start-turn a.l a.c a.second a.pair a.k a.q s.result v.n v.start s.ensures v.inv.1.0, cost-turn a.work.now a.l a.c a.second a.pair a.k a.q a.t v.r _ s.result v.n (strip-from a.l a.c a.second a.pair a.k a.q s.result v.n v.start s.ensures v.inv.1.0) v.inv.1.1 c.before.cost-strip.ensures))
+    (omega (arith, d), (start-turn a.l a.c a.second a.pair a.k a.q s.result v.n v.start s.ensures v.inv.1.0, cost-turn a.work.now a.l a.c a.second a.pair a.k a.q a.t v.r _ s.result v.n (strip_from a.l a.c a.second a.pair a.k a.q s.result v.n v.start s.ensures v.inv.1.0) v.inv.1.1 c.before.cost-strip.ensures))
 
 returns : tie.Need-returns invariant-loop decreases-loop
 returns c =
     let t = c.before.before in
     let a = t.before.before.args in
     let v = c.before.loop in
-    let e : v.n ≡ bandCount a.l = omega (arith, v.invariant.0, c.loop-test.false) in
-    v.invariant.1.1 ∙ ap (λ n. addAll a.t (runNumbers a.work.now a.l a.c a.second a.pair a.k a.q n)) e
+    let e : v.n ≡ band_count a.l = omega (arith, v.invariant.0, c.loop-test.false) in
+    v.invariant.1.1 ∙ ap (λ n. add_all a.t (run_numbers a.work.now a.l a.c a.second a.pair a.k a.q n)) e
 
 pub cost-run-spec : {M : Type 1} → statement M
 cost-run-spec =

@@ -1,12 +1,12 @@
 -- `slices::run::first_tally` meets its contract.
 use mathlib.Core.Path.{ap, ◌∙◌}
 use Rattle.picture.specs.declared.slices.strip.Strip.{Strip}
-use Rattle.picture.specs.Code.Strip.{stripNumbers}
+use Rattle.picture.specs.Code.Strip.{strip_numbers}
 use Rattle.picture.specs.declared.slices.cost.Cost.{Cost}
-use Rattle.picture.specs.Code.Cost.{addAll, noCost}
-use Rattle.picture.specs.Code.Tally.{tally_of, tallyAll, noTally}
-use Rattle.picture.specs.Laws.Tally.{tally-cost}
-use Rattle.picture.specs.Laws.Layout.{first-ready}
+use Rattle.picture.specs.Code.Cost.{add_all, no_cost}
+use Rattle.picture.specs.Code.Tally.{tally_of, tally_all, no_tally}
+use Rattle.picture.specs.Laws.Tally.{tally_cost}
+use Rattle.picture.specs.Laws.Layout.{first_ready}
 use borrow.Author.Rules.{rules}
 use Rattle.picture.proofs.slices.run.first_tally.Statement.{statement}
 use Rattle.picture.proofs.slices.run.first_tally.Tie as tie
@@ -26,8 +26,8 @@ cost-strip-requires : tie.Need-cost-strip-requires
 cost-strip-requires c κs =
     let st = c.before.before in
     let a = st.args in
-    let s = c.strip-in in
-    rw c.before.no-cost.ensures (first-ready a.work.now a.l a.c a.second a.pair a.k a.q st.requires.0.holds s.result st.requires.1.0 s.ensures)
+    let s = c.strip_in in
+    rw c.before.no_cost_lem.ensures (first_ready a.work.now a.l a.c a.second a.pair a.k a.q st.requires.0.holds s.result st.requires.1.0 s.ensures)
 
 tally-of-requires : tie.Need-tally-of-requires
 tally-of-requires c κs = search rules
@@ -36,11 +36,11 @@ returns : tie.Need-returns
 returns c =
     let u = c.before.before in
     let a = u.before.before.args in
-    let s = u.strip-in in
-    let z = u.before.no-cost in
-    c.tally-of.ensures
-    ∙ ap tally_of (c.before.cost-strip.ensures ∙ ap (λ (t : Cost). addAll t (stripNumbers a.work.now s.result)) z.ensures)
-    ∙ tally-cost (noCost 0) (stripNumbers a.work.now s.result) ∙ ap (λ (s : Strip). tallyAll noTally (stripNumbers a.work.now s)) s.ensures
+    let s = u.strip_in in
+    let z = u.before.no_cost_lem in
+    c.tally_of_lem.ensures
+    ∙ ap tally_of (c.before.cost-strip.ensures ∙ ap (λ (t : Cost). add_all t (strip_numbers a.work.now s.result)) z.ensures)
+    ∙ tally_cost (no_cost 0) (strip_numbers a.work.now s.result) ∙ ap (λ (s : Strip). tally_all no_tally (strip_numbers a.work.now s)) s.ensures
 
 pub first-tally-spec : {M : Type 1} → statement M
 first-tally-spec =

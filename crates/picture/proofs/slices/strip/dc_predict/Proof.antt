@@ -9,7 +9,7 @@ use mir.Facts.{to_z-of_z}
 use borrow.Author.Rules.{rules, sfits_of}
 use lib.ListN.{length}
 use Rattle.laws.specs.Rows.{at}
-use Rattle.picture.specs.Laws.Strip.{row_up, read, predict-corner, predict-top, predict-side, predict-mean, is-predict}
+use Rattle.picture.specs.Laws.Strip.{row_up, read, predict_corner, predict-top, predict_side, predict-mean, is_predict}
 use native.Mathlib.Omega.{arith}
 use Rattle.picture.proofs.slices.strip.dc_predict.Statement.{statement}
 use Rattle.picture.proofs.slices.strip.dc_predict.Tie as tie
@@ -55,8 +55,8 @@ returns : tie.Need-returns
 returns c =
     let st = c.before.before in
     let a = st.args in
-    is-predict a.work.now a.base a.w a.y a.x st.requires.0 (pos 0)
-    (predict-corner a.work.now a.base a.w a.y a.x c.before.if1.true c.if2.true)
+    is_predict a.work.now a.base a.w a.y a.x st.requires.0 (pos 0)
+    (predict_corner a.work.now a.base a.w a.y a.x c.before.if1.true c.if2.true)
 
 sub-i : tie.Need-overflow-sub-i
 sub-i c = search rules
@@ -75,7 +75,7 @@ returns-2 c =
     let t = c.before.before in
     let st = t.before in
     let a = st.args in
-    is-predict a.work.now a.base a.w a.y a.x st.requires.0 _
+    is_predict a.work.now a.base a.w a.y a.x st.requires.0 _
     (read st.requires.0 (a.base + (a.x - 1)) (omega arith)
     ∙ predict-top a.work.now a.base a.w a.y a.x t.if1.true c.before.if2.false)
 
@@ -100,9 +100,9 @@ returns-3 c =
     let st = t.before in
     let a = st.args in
     let u = up (t) in
-    is-predict a.work.now a.base a.w a.y a.x st.requires.0 _
+    is_predict a.work.now a.base a.w a.y a.x st.requires.0 _
     (read st.requires.0 (a.base + (a.y - 1) * a.w) (omega (arith, u.row, u.inside))
-    ∙ predict-side a.work.now a.base a.w a.y a.x t.if1.false c.before.if3.true)
+    ∙ predict_side a.work.now a.base a.w a.y a.x t.if1.false c.before.if3.true)
 
 add-i-2 : tie.Need-overflow-add-i-2
 add-i-2 c = let u = up c.before in omega (arith, u.row, u.inside, u.long, u.few)
@@ -148,7 +148,7 @@ returns-4 c =
     let st = (else3 c.before).before.before in
     let a = st.args in
     let n = near (else3 c.before) in
-    is-predict a.work.now a.base a.w a.y a.x st.pre.0 _
+    is_predict a.work.now a.base a.w a.y a.x st.pre.0 _
     (to_z-of_z (sfits_of c.mean3.type-inv) ∙ rw (n.ra, n.rb, n.rc) at c.mean3.ensures
     ∙ predict-mean a.work.now a.base a.w a.y a.x (else3 c.before).before.if1.false (else3 c.before).if3.false)
 

@@ -6,8 +6,8 @@ use mir.Val.{SFits}
 use mir.Facts.{to_z-of_z}
 use lib.Signed.{quot_z, rem_z}
 use lib.Dec.{lit<}
-use Rattle.laws.specs.Laws.Integer.{parts, abs-add, abs-sub}
-use Rattle.laws.specs.Laws.Machine.{fit, quot-law, floor3-neg, floor3-pos}
+use Rattle.laws.specs.Laws.Integer.{parts, abs_add, abs_sub}
+use Rattle.laws.specs.Laws.Machine.{fit, quot_law, floor3_neg, floor3_pos}
 use native.Mathlib.Omega.{arith}
 use Rattle.picture.proofs.slices.strip.mean3.Statement.{statement}
 use Rattle.picture.proofs.slices.strip.mean3.Tie as tie
@@ -23,16 +23,16 @@ record Ok (a b c : ℤ) : Type 0 where
 
 ok : (a b c : ℤ) → nat_abs a < 2 ^ 55 → nat_abs b < 2 ^ 55 → nat_abs c < 2 ^ 55 → Ok a b c
 ok a b c ha hb hc =
-    let h1 = abs-add a b in
-    let h2 = abs-add (a +ℤ b) c in
-    let h3 = abs-add (a +ℤ b +ℤ c) (pos 1) in
+    let h1 = abs_add a b in
+    let h2 = abs_add (a +ℤ b) c in
+    let h3 = abs_add (a +ℤ b +ℤ c) (pos 1) in
     let s = a +ℤ b +ℤ c +ℤ pos 1 in
     let q = quot_z s (pos 3) in
     let r = rem_z s (pos 3) in
-    let l = quot-law s 3 in
+    let l = quot_law s 3 in
     let h4 : nat_abs q ≤ nat_abs s = omega (arith, parts s, parts q) in
     let h5 : nat_abs r ≤ nat_abs s = omega (arith, parts s, parts r) in
-    let h6 = abs-sub q (pos 1) in
+    let h6 = abs_sub q (pos 1) in
     record {
       f1 = fit _ (omega arith);
       f2 = fit _ (omega arith);
@@ -71,7 +71,7 @@ returns c =
     let s = c.before in
     let o = okc s in
     let t = simp (to_z-of_z, s.ranges.a, s.ranges.b, s.ranges.c, o.f1, o.f2, o.f3, o.f5) at c.if1.true in
-    let e = floor3-neg (sum s) t in
+    let e = floor3_neg (sum s) t in
     search (to_z-of_z)
 
 returns-2 : tie.Need-returns-2
@@ -79,7 +79,7 @@ returns-2 c =
     let s = c.before in
     let o = okc s in
     let t = simp (to_z-of_z, s.ranges.a, s.ranges.b, s.ranges.c, o.f1, o.f2, o.f3, o.f5) at c.if1.false in
-    simp (to_z-of_z, s.ranges.a, s.ranges.b, s.ranges.c, o.f1, o.f2, o.f3, o.f4) (floor3-pos (sum s) t)
+    simp (to_z-of_z, s.ranges.a, s.ranges.b, s.ranges.c, o.f1, o.f2, o.f3, o.f4) (floor3_pos (sum s) t)
 
 pub mean3-spec : {M : Type 1} → statement M
 mean3-spec = tie.close (tie.spec add-s add-s-2 add-s-3 div-q rem-m sub-result returns returns-2)

@@ -6,7 +6,7 @@ use mir.Syntax.{w64}
 use mir.Facts.{to_z-of_z}
 use borrow.Author.Rules.{rules, sfits_of}
 use Rattle.codewords.specs.CodeWord.{code_s}
-use Rattle.quantiser.specs.Quant.{forwardBy}
+use Rattle.quantiser.specs.Quant.{forward_by}
 use Rattle.picture.proofs.slices.strip.number_len.Statement.{statement}
 use Rattle.picture.proofs.slices.strip.number_len.Tie as tie
 
@@ -20,7 +20,7 @@ returns : tie.Need-returns
 returns c =
     let r = c.before.residual in
     c.forward-len-by.ensures
-    ∙ ap (λ (z : ℤ). length (code_s (forwardBy c.before.before.args.s.factor z))) (to_z-of_z {w = w64} (sfits_of r.type-inv) ∙ r.ensures.0)
+    ∙ ap (λ (z : ℤ). length (code_s (forward_by c.before.before.args.s.factor z))) (to_z-of_z {w = w64} (sfits_of r.type-inv) ∙ r.ensures.0)
 
 pub number-len-spec : {M : Type 1} → statement M
 number-len-spec = tie.close (tie.spec residual-requires forward-len-by-requires returns)

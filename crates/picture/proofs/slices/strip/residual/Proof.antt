@@ -7,7 +7,7 @@ use mir.Val.{SFits, to_z, of_z}
 use mir.Facts.{to_z-of_z}
 use borrow.Author.Rules.{rules, sfits_of}
 use Rattle.laws.specs.Rows.{at}
-use Rattle.laws.specs.Laws.Integer.{abs-sub}
+use Rattle.laws.specs.Laws.Integer.{abs_sub}
 use Rattle.laws.specs.Laws.Machine.{fit}
 use Rattle.picture.specs.Laws.Strip.{read}
 use native.Mathlib.Omega.{arith}
@@ -30,7 +30,7 @@ difference c =
     record {
       left = read st.requires.coefficient i (omega arith);
       right = to_z-of_z (sfits_of c.before.prediction.type-inv);
-      small = fit (z -ℤ p) (omega (arith, abs-sub z p, st.requires.coefficient.bound i (omega arith), c.before.prediction.ensures.1));
+      small = fit (z -ℤ p) (omega (arith, abs_sub z p, st.requires.coefficient.bound i (omega arith), c.before.prediction.ensures.1));
     }
 
 prediction-requires : tie.Need-prediction-requires
@@ -66,7 +66,7 @@ returns c =
     let q = c.before.prediction in
     let p : ℤ = q.result in
     let k : to_z w64 (of_z w64 (to_z w64 (of_z w64 z) -ℤ to_z w64 (of_z w64 p))) ≡ z -ℤ p = rw (f.left, f.right) (to_z-of_z {w = w64} f.small) in
-    (k ∙ ap (λ (p : ℤ). z -ℤ p) q.ensures.0, rw k (omega (arith, abs-sub z p, st.requires.coefficient.bound i (omega arith), q.ensures.1)))
+    (k ∙ ap (λ (p : ℤ). z -ℤ p) q.ensures.0, rw k (omega (arith, abs_sub z p, st.requires.coefficient.bound i (omega arith), q.ensures.1)))
 
 pub residual-spec : {M : Type 1} → statement M
 residual-spec =

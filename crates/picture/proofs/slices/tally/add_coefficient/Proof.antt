@@ -7,9 +7,9 @@ use mir.Syntax.{w64}
 use mir.Facts.{to_z-of_z}
 use borrow.Author.Rules.{rules, sfits_of}
 use Rattle.codewords.specs.CodeWord.{code_s}
-use Rattle.quantiser.specs.Quant.{forwardBy}
-use Rattle.picture.specs.Code.Strip.{planeFrom}
-use Rattle.picture.specs.Laws.Tally.{tallied-len}
+use Rattle.quantiser.specs.Quant.{forward_by}
+use Rattle.picture.specs.Code.Strip.{plane_from}
+use Rattle.picture.specs.Laws.Tally.{tallied_len}
 use borrow.Author.Rules.{rules}
 use Rattle.picture.proofs.slices.tally.add_coefficient.Statement.{statement}
 use Rattle.picture.proofs.slices.tally.add_coefficient.Tie as tie
@@ -35,9 +35,9 @@ returns c =
     let t = c.before.before in
     let a = t.before.args in
     let d = t.coefficient in
-    let z = forwardBy a.s.factor (planeFrom a.work.now a.coefs a.s.width a.y a.x) in
-    tallied-len a.t z _ _
-    (c.before.forward-len-by.ensures ∙ ap (λ (x : ℤ). length (code_s (forwardBy a.s.factor x))) (to_z-of_z {w = w64} (sfits_of d.type-inv) ∙ d.ensures.0))
+    let z = forward_by a.s.factor (plane_from a.work.now a.coefs a.s.width a.y a.x) in
+    tallied_len a.t z _ _
+    (c.before.forward-len-by.ensures ∙ ap (λ (x : ℤ). length (code_s (forward_by a.s.factor x))) (to_z-of_z {w = w64} (sfits_of d.type-inv) ∙ d.ensures.0))
     c.add-len.ensures
 
 pub add-coefficient-spec : {M : Type 1} → statement M

@@ -1,6 +1,6 @@
 -- `slices::tally::add_len` meets its contract.
 use borrow.Author.Tests.{ne_eqb}
-use Rattle.picture.specs.Laws.Tally.{tallied-yes, tallied-no}
+use Rattle.picture.specs.Laws.Tally.{tallied_yes, tallied_no}
 use borrow.Author.Rules.{rules}
 use Rattle.picture.proofs.slices.tally.add_len.Statement.{statement}
 use Rattle.picture.proofs.slices.tally.add_len.Tie as tie
@@ -14,10 +14,10 @@ add-count : tie.Need-overflow-add-count
 add-count c = search rules
 
 returns : tie.Need-returns
-returns c = let t = c.before.before in tallied-yes t.before.args.t t.before.args.n c.if1.true
+returns c = let t = c.before.before in tallied_yes t.before.args.t t.before.args.n c.if1.true
 
 returns-2 : tie.Need-returns-2
-returns-2 c = let t = c.before.before in tallied-no t.before.args.t t.before.args.n (ne_eqb t.before.args.n 1 c.if1.false)
+returns-2 c = let t = c.before.before in tallied_no t.before.args.t t.before.args.n (ne_eqb t.before.args.n 1 c.if1.false)
 
 pub add-len-spec : {M : Type 1} → statement M
 add-len-spec = tie.close (tie.spec add-bits add-count returns returns-2)

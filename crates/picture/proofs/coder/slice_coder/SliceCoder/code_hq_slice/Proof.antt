@@ -8,11 +8,11 @@ use lib.ListN.{length}
 use Rattle.laws.specs.Code.Laid.{Lays}
 use Rattle.codewords.specs.Bytes.{to_bytes}
 use Rattle.unit.specs.HighQuality.{high_bits}
-use Rattle.picture.specs.Code.Notes.{numbersAt, HeldSlice}
+use Rattle.picture.specs.Code.Notes.{numbers_at, HeldSlice}
 use Rattle.picture.specs.Code.Choice.{FewBits, TermsIn}
-use Rattle.picture.specs.Laws.HighIndex.{index-most, own-few}
-use Rattle.picture.specs.Laws.HighSlice.{choice-held, plan-room, plan-laid, plan-words}
-use Rattle.picture.specs.Laws.Noted.{words-room}
+use Rattle.picture.specs.Laws.HighIndex.{index-most, own_few}
+use Rattle.picture.specs.Laws.HighSlice.{choice_held, plan_room, plan-laid, plan_words}
+use Rattle.picture.specs.Laws.Noted.{words_room}
 use borrow.Author.Rules.{rules}
 use Rattle.picture.proofs.coder.slice_coder.SliceCoder.code_hq_slice.Statement.{statement}
 use Rattle.picture.proofs.coder.slice_coder.SliceCoder.code_hq_slice.Tie as tie
@@ -43,7 +43,7 @@ few : (c : tie.After-noted-choice) → FewBits c.noted-choice.result
 few c =
     let st = start c in
     let a = st.args in
-    own-few a.work.now a.p a.t a.k _ st.pre.0.arranged (index-most a.work.now a.p a.t a.k st.pre.0.terms) c.noted-choice.ensures.0
+    own_few a.work.now a.p a.t a.k _ st.pre.0.arranged (index-most a.work.now a.p a.t a.k st.pre.0.terms) c.noted-choice.ensures.0
 
 noted-choice-requires : tie.Need-noted-choice-requires
 noted-choice-requires c κs = search rules
@@ -56,10 +56,10 @@ put-hq-slice-requires c κs =
     let p = st.pre in
     let q = n.noted-choice in
     let i = a.self.words in
-    subst (λ (v : List ℤ). HeldSlice v i q.result × (TermsIn a.t × (a.self.at + length (to_bytes (high_bits a.t.prefix a.t.scaler q.result.index (numbersAt v i q.result))) ≤ length a.out.now)))
+    subst (λ (v : List ℤ). HeldSlice v i q.result × (TermsIn a.t × (a.self.at + length (to_bytes (high_bits a.t.prefix a.t.scaler q.result.index (numbers_at v i q.result))) ≤ length a.out.now)))
     (sym q.ensures.1) (
-      choice-held a.k i q.result p.0 p.1.0 p.1.1.0 p.1.1.1.0 q.ensures.0,
-      (p.0.terms, plan-room a.k i q.result p.0 p.1.0 p.1.1.0 p.1.1.1.0 q.ensures.0 a.self.at (length a.out.now) p.1.1.1.1),
+      choice_held a.k i q.result p.0 p.1.0 p.1.1.0 p.1.1.1.0 q.ensures.0,
+      (p.0.terms, plan_room a.k i q.result p.0 p.1.0 p.1.1.0 p.1.1.1.0 q.ensures.0 a.self.at (length a.out.now) p.1.1.1.1),
     )
 
 -- high quality cuts no slice
@@ -76,7 +76,7 @@ add-t17 c =
     let known = c.before.before in
     let st = start (chosen (coded known.before.before)) in
     let a = st.args in
-    omega (arith, c.before.words_of.ensures.1, st.pre.1.1.1.0, words-room a.work.now a.p a.t a.k st.pre.0.arranged st.pre.1.0, st.pre.0.small.few, st.pre.0.small.order)
+    omega (arith, c.before.words_of.ensures.1, st.pre.1.1.1.0, words_room a.work.now a.p a.t a.k st.pre.0.arranged st.pre.1.0, st.pre.0.small.few, st.pre.0.small.order)
 
 same_length : tie.Need-same-length
 same_length c = search rules
@@ -95,9 +95,9 @@ returns c =
     let q = s.noted-choice in
     let i = a.self.words in
     let z = o.put-hq-slice in
-    let n = c.before.words_of.ensures.0 ∙ plan-words a.k i q.result p.0 p.1.0 p.1.1.0 p.1.1.1.0 q.ensures.0 in (
+    let n = c.before.words_of.ensures.0 ∙ plan_words a.k i q.result p.0 p.1.0 p.1.1.0 p.1.1.1.0 q.ensures.0 in (
       plan-laid a.k i q.result p.0 p.1.0 p.1.1.0 p.1.1.1.0 q.ensures.0
-          (subst (λ (v : List ℤ). Lays a.out.now a.self.at (to_bytes (high_bits a.t.prefix a.t.scaler q.result.index (numbersAt v i q.result))) z.last.0 z.result.at) q.ensures.1 z.ensures.0),
+          (subst (λ (v : List ℤ). Lays a.out.now a.self.at (to_bytes (high_bits a.t.prefix a.t.scaler q.result.index (numbers_at v i q.result))) z.last.0 z.result.at) q.ensures.1 z.ensures.0),
       (omega (arith, z.ensures.1), (refl, (ap (λ (n : ℕ). i + n) n, q.ensures.1))),
     )
 

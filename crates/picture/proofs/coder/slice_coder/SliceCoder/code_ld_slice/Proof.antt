@@ -77,8 +77,8 @@ put-ld-slice-requires : tie.Need-put-ld-slice-requires
 put-ld-slice-requires c κs =
     let st = (after-slice-count (after-elect-qindex (after-rebuild-planes c).before).before.before).before.before in
     let a = st.args in
-    let d = (after-slice-count (after-elect-qindex (after-rebuild-planes c).before).before.before).slice-count in
-    let b = (after-slice-bytes (after-elect-qindex (after-rebuild-planes c).before).before.before).slice-bytes in
+    let d = (after-slice-count (after-elect-qindex (after-rebuild-planes c).before).before.before).slice_count_lem in
+    let b = (after-slice-bytes (after-elect-qindex (after-rebuild-planes c).before).before.before).slice_bytes_lem in
     let q = (after-elect-qindex (after-rebuild-planes c).before).elect-qindex in
     let v = (after-rebuild-planes c).rebuild-planes in
     let h : SliceIn a.p q.last.0 a.k q.result.index = record { arranged = st.pre.0.arranged; small = q.ensures.1.1.0.small; slice = st.pre.1.0; index = omega (arith, q.ensures.1.0) } in (
@@ -109,8 +109,8 @@ returns : tie.Need-returns
 returns c =
     let st = (after-slice-count (after-elect-qindex (after-rebuild-planes' c.before.before).before).before.before).before.before in
     let a = st.args in
-    let d = (after-room-of c.before.before).before.before.slice-count in
-    let b = (after-room-of c.before.before).before.slice-bytes in
+    let d = (after-room-of c.before.before).before.before.slice_count_lem in
+    let b = (after-room-of c.before.before).before.slice_bytes_lem in
     let r = (after-room-of c.before.before).room_of in
     let q = (after-elect-qindex (after-rebuild-planes' c.before.before).before).elect-qindex in
     let v = (after-rebuild-planes' c.before.before).rebuild-planes in

@@ -1,5 +1,5 @@
 -- `SliceCoder::plan_choice` meets its contract.
-use Rattle.picture.specs.Laws.HighPlan.{planned-is}
+use Rattle.picture.specs.Laws.HighPlan.{planned_is}
 use borrow.Author.Rules.{rules}
 use Rattle.picture.proofs.coder.slice_coder.SliceCoder.plan_choice.Statement.{statement}
 use Rattle.picture.proofs.coder.slice_coder.SliceCoder.plan_choice.Tie as tie
@@ -41,7 +41,7 @@ returns c =
     let n = (after-slice-size c.before).before.needs-of in
     let z = (after-slice-size c.before).slice-size in
     let l = c.before.before.largest in
-    planned-is a.t a.c a.self n.result z.result l.result c.before.words_of.result n.ensures.0 z.ensures.0 z.ensures.1 l.ensures c.before.words_of.ensures.0
+    planned_is a.t a.c a.self n.result z.result l.result c.before.words_of.result n.ensures.0 z.ensures.0 z.ensures.1 l.ensures c.before.words_of.ensures.0
 
 pub plan-choice-spec : {M : Type 1} → statement M
 plan-choice-spec =

@@ -6,11 +6,11 @@ use native.Mathlib.Omega.{arith}
 use lib.IntN.{ℤ}
 use Rattle.picture.specs.declared.high.choice.Choice.{Choice}
 use Rattle.picture.specs.Code.Strip.{Small}
-use Rattle.picture.specs.Code.Notes.{noteIn}
+use Rattle.picture.specs.Code.Notes.{note_in}
 use Rattle.picture.specs.Code.Choice.{FewBits}
-use Rattle.picture.specs.Laws.HighIndex.{index-most, own-few}
-use Rattle.picture.specs.Laws.HighPlan.{slice-planned}
-use Rattle.picture.specs.Laws.Noted.{note-small}
+use Rattle.picture.specs.Laws.HighIndex.{index-most, own_few}
+use Rattle.picture.specs.Laws.HighPlan.{slice_planned}
+use Rattle.picture.specs.Laws.Noted.{note_small}
 use borrow.Author.Rules.{rules}
 use Rattle.picture.proofs.coder.slice_coder.SliceCoder.plan_hq_slice.Statement.{statement}
 use Rattle.picture.proofs.coder.slice_coder.SliceCoder.plan_hq_slice.Tie as tie
@@ -32,7 +32,7 @@ few : (c : tie.After-choice-of) → FewBits c.choice-of.result
 few c =
     let st = c.before.before in
     let a = st.args in
-    own-few a.work.now a.p a.t a.k _ st.requires.0.arranged (index-most a.work.now a.p a.t a.k st.requires.0.terms) c.choice-of.ensures.0
+    own_few a.work.now a.p a.t a.k _ st.requires.0.arranged (index-most a.work.now a.p a.t a.k st.requires.0.terms) c.choice-of.ensures.0
 
 choice-of-requires : tie.Need-choice-of-requires
 choice-of-requires c κs = search rules
@@ -61,10 +61,10 @@ returns c =
     let q = (after-choice-of' c.before.before).choice-of in
     let n = c.before.before.note-choice in
     let r = c.plan-choice in (
-      slice-planned a.work.now a.p a.t a.k q.result a.self r.result st.pre.0.terms.scaler.0 (few (after-choice-of' c.before.before)) q.ensures.0 r.ensures.0 r.ensures.1,
+      slice_planned a.work.now a.p a.t a.k q.result a.self r.result st.pre.0.terms.scaler.0 (few (after-choice-of' c.before.before)) q.ensures.0 r.ensures.0 r.ensures.1,
       (
-        n.ensures ∙ ap₂ (λ (v : List ℤ) (c : Choice). noteIn v (a.p.end + 7 * a.k) c) q.ensures.1.0 q.ensures.0,
-        subst (Small a.p.front a.p.end) (sym n.ensures) (note-small (a.p.end + 7 * a.k) q.result (omega arith) q.ensures.1.1),
+        n.ensures ∙ ap₂ (λ (v : List ℤ) (c : Choice). note_in v (a.p.end + 7 * a.k) c) q.ensures.1.0 q.ensures.0,
+        subst (Small a.p.front a.p.end) (sym n.ensures) (note_small (a.p.end + 7 * a.k) q.result (omega arith) q.ensures.1.1),
       ),
     )
 

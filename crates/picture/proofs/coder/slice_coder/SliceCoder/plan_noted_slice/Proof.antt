@@ -1,9 +1,9 @@
 -- `SliceCoder::plan_noted_slice` meets its contract.
 use native.Mathlib.Omega.{arith}
 use Rattle.picture.specs.Code.Choice.{FewBits}
-use Rattle.picture.specs.Laws.HighIndex.{index-most, own-few}
-use Rattle.picture.specs.Laws.HighPlan.{slice-planned}
-use Rattle.picture.specs.Laws.Noted.{words-room}
+use Rattle.picture.specs.Laws.HighIndex.{index-most, own_few}
+use Rattle.picture.specs.Laws.HighPlan.{slice_planned}
+use Rattle.picture.specs.Laws.Noted.{words_room}
 use borrow.Author.Rules.{rules}
 use Rattle.picture.proofs.coder.slice_coder.SliceCoder.plan_noted_slice.Statement.{statement}
 use Rattle.picture.proofs.coder.slice_coder.SliceCoder.plan_noted_slice.Tie as tie
@@ -17,7 +17,7 @@ few : (c : tie.After-noted-choice) → FewBits c.noted-choice.result
 few c =
     let st = c.before.before in
     let a = st.args in
-    own-few a.work.now a.p a.t a.k _ st.requires.0.arranged (index-most a.work.now a.p a.t a.k st.requires.0.terms) c.noted-choice.ensures.0
+    own_few a.work.now a.p a.t a.k _ st.requires.0.arranged (index-most a.work.now a.p a.t a.k st.requires.0.terms) c.noted-choice.ensures.0
 
 noted-choice-requires : tie.Need-noted-choice-requires
 noted-choice-requires c κs = search rules
@@ -32,7 +32,7 @@ plan-choice-requires c κs =
         few c.before,
         (
           st.requires.1.1.1.0,
-          omega (arith, st.requires.1.1.1.1, words-room a.work.now a.p a.t a.k st.requires.0.arranged st.requires.1.0, st.requires.0.small.few, st.requires.0.small.order),
+          omega (arith, st.requires.1.1.1.1, words_room a.work.now a.p a.t a.k st.requires.0.arranged st.requires.1.0, st.requires.0.small.few, st.requires.0.small.order),
         ),
       ),
     )
@@ -47,7 +47,7 @@ returns c =
     let a = st.args in
     let q = t.noted-choice in
     let r = c.plan-choice in
-    (slice-planned a.work.now a.p a.t a.k q.result a.self r.result st.requires.0.terms.scaler.0 (few (t)) q.ensures.0 r.ensures.0 r.ensures.1, q.ensures.1)
+    (slice_planned a.work.now a.p a.t a.k q.result a.self r.result st.requires.0.terms.scaler.0 (few (t)) q.ensures.0 r.ensures.0 r.ensures.1, q.ensures.1)
 
 pub plan-noted-slice-spec : {M : Type 1} → statement M
 plan-noted-slice-spec =
