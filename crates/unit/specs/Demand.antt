@@ -1,6 +1,5 @@
--- Demand 3: what the reader gives back of what an accepted call wrote, one unit or fragments. One statement about a call
--- and the whole reading: document 01, "How demand 3 reads a unit"; document 02, (i).
-use Rattle.std.specs.Prelude.{◌≡◌, cond, List, [], ◌∷◌, map, ℕ, suc, ◌+◌, ◌*◌, ◌/◌, ◌%◌, ◌≤◌, ◌<◌, eqb, pos, nat_abs, ◌-ℤ◌, length, get_or}
+-- Demand 3: what the reader gives back of an accepted picture's unit. One statement about a call and the whole reading.
+use Rattle.std.specs.Prelude.{◌≡◌, List, [], ◌∷◌, map, ℕ, suc, ◌+◌, ◌*◌, ◌/◌, ◌≤◌, ◌<◌, pos, nat_abs, ◌-ℤ◌, length, get_or}
 use Rattle.codewords.specs.Read.{got}
 use Rattle.laws.specs.Plane.{Plane}
 use Rattle.laws.specs.Rows.{span, total}
@@ -9,22 +8,19 @@ use Rattle.wavelet.specs.Planes.{Band}
 use Rattle.unit.specs.declared.Settings.{Settings}
 use Rattle.unit.specs.declared.PictureKind.{PictureKind}
 use Rattle.unit.specs.declared.PictureKind.TheVariants.{LowDelay, HighQuality}
-use Rattle.unit.specs.declared.FragmentSlices.{FragmentSlices}
-use Rattle.unit.specs.declared.FragmentSlices.TheVariants.{Whole, Each}
 use Rattle.unit.specs.Limits.{last_index}
 use Rattle.unit.specs.Three.{Three}
 use Rattle.unit.specs.Sizes.{Size, sizes_of, depths_of}
 use Rattle.unit.specs.Slices.{Grid, slice_of}
 use Rattle.unit.specs.Matrix.{matrix_values}
-use Rattle.unit.specs.Parameters.{SliceParameters, low_delay, high_quality, Parameters, parameter_bytes, overhead}
+use Rattle.unit.specs.Parameters.{SliceParameters, low_delay, high_quality, overhead}
 use Rattle.unit.specs.LowDelay.{slice_bytes, room_of, alternated}
 use Rattle.unit.specs.Trim.{trimmed_cost}
 use Rattle.unit.specs.Coefficients.{coefficients_of}
 use Rattle.unit.specs.Quantised.{size_of}
 use Rattle.unit.specs.Plan.{SlicePlan, Plan}
 use Rattle.unit.specs.Unit.{major_version, grid_of, plan_of}
-use Rattle.unit.specs.Reader.{SliceRead, Reading, read_bands, read_samples}
-use Rattle.unit.specs.FragmentReader.{read_units}
+use Rattle.unit.specs.Reader.{SliceRead, Reading, read_unit, read_bands, read_samples}
 
 -- P holds of every element
 abbrev pub All : {A : Type 0} → (A → Type 0) → List A → Type 0
@@ -49,22 +45,10 @@ SameSlices [] (r ∷ rs) = ⊥
 SameSlices (a ∷ more) [] = ⊥
 SameSlices (a ∷ more) (r ∷ rs) = SameSlice a r × SameSlices more rs
 
--- slices from the k-th on, where the one before ended at n: each begins where the one before ended and g's bytes for it
--- are passed, and the last one ends at e
-abbrev pub Follow : (ℕ → ℕ) → ℕ → ℕ → List SliceRead → ℕ → Type 0
-Follow g k n [] e = n ≡ e
-Follow g k n (r ∷ rs) e = (r.offset ≡ n + g k) × Follow g (suc k) (n + g k + r.byte_count) rs e
-
--- the bytes between slice k and the one before: where a fragment begins, its parse information and its header, 13 and 12
-abbrev pub head_before : FragmentSlices → ℕ → ℕ
-head_before Whole k = 0
-head_before (Each n) k = cond (eqb (k % n) 0) 25 0
-
--- the bytes of the unit's head, or of the fragment of the transform parameters: of this parse information, 13, picture
--- number, length of the data and slice count, 4, 2 and 2, and the parameters
-abbrev pub front_by : FragmentSlices → ℕ → Parameters → ℕ
-front_by Whole version t = overhead version t
-front_by (Each n) version t = 21 + parameter_bytes version t
+-- each slice begins where the last one ended, the first at n, and the last one ends at e
+abbrev pub Follow : ℕ → List SliceRead → ℕ → Type 0
+Follow n [] e = n ≡ e
+Follow n (r ∷ rs) e = (r.offset ≡ n) × Follow (n + r.byte_count) rs e
 
 -- low delay: each slice takes exactly its slice bytes, and they sum to the numerator
 abbrev pub Bytes : SliceParameters → List SliceRead → Type 0
@@ -118,20 +102,19 @@ NearBands g m index n (b ∷ bs) (r ∷ rs) = NearBand g m index n b r × NearBa
 abbrev pub SameSamples : Size → List ℕ → Plane → Type 0
 SameSamples z p f = (y x : ℕ) → y < z.height → x < z.width → f y x ≡ pos (get_or p (y * z.width + x) 0)
 
--- demand 3 of a call with settings s, lent matrix m and planes p, and of the bytes that it wrote
-pub record Demand3 (s : Settings) (m : List ℕ) (p : Three (List ℕ)) (bytes : List ℕ) : Type 0 where
+-- demand 3 of a call with settings s, lent matrix m and planes p, and of its unit
+pub record Demand3 (s : Settings) (m : List ℕ) (p : Three (List ℕ)) (unit : List ℕ) : Type 0 where
   pub reading : Reading
   -- nothing stops the reading, and it ends at the last byte
-  pub reads : read_units (sizes_of s) (major_version s) bytes ≡ got reading []
+  pub reads : read_unit (sizes_of s) (major_version s) unit ≡ got reading []
   pub kind : reading.kind ≡ s.kind
   pub number : reading.number ≡ s.picture_number
   pub parameters : reading.parameters ≡ (plan_of s m p).parameters
   pub slices : SameSlices (plan_of s m p).slices reading.slices
   -- what is kept of a slice's numbers is all of them, unless it is of low delay, carries index 127 and does not fit
   pub drops : All (Drops s.kind) (plan_of s m p).slices
-  pub places : let f = s.fragment_slices in
-      Follow (head_before f) 0 (front_by f (major_version s) reading.parameters) reading.slices (length bytes)
-  pub slice_bytes_lem : Bytes reading.parameters.slice_parameters reading.slices
+  pub places : Follow (overhead (major_version s) reading.parameters) reading.slices (length unit)
+  pub bytes : Bytes reading.parameters.slice_parameters reading.slices
   pub near : Undropped (plan_of s m p)
       → let b = coefficients_of s p in let r = read_bands (sizes_of s) reading in let i = plan_index (plan_of s m p) in let v = matrix_values s m in
       NearBands (grid_of s) v i 0 b.y r.y × NearBands (grid_of s) v i 0 b.c1 r.c1 × NearBands (grid_of s) v i 0 b.c2 r.c2

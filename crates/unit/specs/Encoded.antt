@@ -9,21 +9,20 @@ use Rattle.unit.specs.Three.{Three}
 use Rattle.unit.specs.Rules.{or_else}
 use Rattle.unit.specs.Refusal.{refusal_of}
 use Rattle.unit.specs.Plan.{Plan}
-use Rattle.unit.specs.Unit.{plan_of}
-use Rattle.unit.specs.Fragments.{written_of}
+use Rattle.unit.specs.Unit.{plan_of, length_of}
 use Rattle.unit.specs.Cut.{cut_count}
-use Rattle.unit.specs.Outcome.{number_of, tells, scaler_in, coding_refusal_of, outcome_of}
+use Rattle.unit.specs.Outcome.{number_of, tells, scaler_in, coding_refusal, outcome_of}
 use Rattle.unit.specs.Demand.{Undropped, Demand3}
 
--- the answer's number: that of the first rule before coding that is broken, else of the first one that coding finds
+-- the answer's number: that of the first rule of 1 to 13 that is broken, else of the first one that coding finds
 -- broken, else 0
 abbrev pub answer_number : Settings → List ℕ → Three (List ℕ) → List ℕ → List ℤ → ℕ
-answer_number s m p out work = or_else (refusal_of s m p work) (coding_refusal_of s (plan_of s m p) (length out))
+answer_number s m p out work = or_else (refusal_of s m p work) (coding_refusal (length out) (length_of s (plan_of s m p)))
 
--- what an answer of number n tells, where a is the call's plan: n and, after 0, the length of all that is written, the
--- count of cut slices and the final scaler
+-- what an answer of number n tells, where a is the call's plan: n and, after 0, the unit's length, the count of cut
+-- slices and the final scaler
 abbrev pub told_by : Settings → Plan → ℕ → List ℕ
-told_by s a zero = 0 ∷ length (written_of s a) ∷ cut_count a ∷ scaler_in a.parameters.slice_parameters s.slice_size_scaler ∷ []
+told_by s a zero = 0 ∷ length_of s a ∷ cut_count a ∷ scaler_in a.parameters.slice_parameters s.slice_size_scaler ∷ []
 told_by s a (suc n) = suc n ∷ []
 
 abbrev pub answer_told : Settings → List ℕ → Three (List ℕ) → List ℕ → List ℤ → List ℕ

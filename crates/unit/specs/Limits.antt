@@ -1,4 +1,4 @@
--- The limits of a call: document 01, "Answers that turn a call away"; document 02, (i) and (iii). That of the two depths, by
+-- The limits of a call: document 01, "Answers that turn a call away"; document 02, (iii). That of the two depths, by
 -- the wavelets, is `depthLimit`, and that of wavelet indices `lastWavelet`.
 use Rattle.std.specs.Prelude.{ℕ}
 use Rattle.unit.specs.declared.PictureKind.{PictureKind}
@@ -17,10 +17,6 @@ slice_limit = 1048576
 -- a slice's prefix bytes: rule 4
 abbrev pub prefix_limit : ℕ
 prefix_limit = 255
-
--- the slices of a fragment are from 1 to this: rule 16
-abbrev pub fragment_limit : ℕ
-fragment_limit = 65535
 
 -- the last index of a kind, where its elections end: rule 6 and document 01, "Slices and unit"
 abbrev pub last_index : PictureKind → ℕ
@@ -50,10 +46,6 @@ value_limit = 255
 abbrev pub area_limit : ℕ
 area_limit = 67108864
 
--- the bytes of a fragment's data: rule 17
-abbrev pub data_limit : ℕ
-data_limit = 65535
-
--- the bytes of all that a call writes: rule 14
+-- the bytes of a unit: rule 14
 abbrev pub unit_limit : ℕ
 unit_limit = 4294967295

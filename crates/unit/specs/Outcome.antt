@@ -1,5 +1,5 @@
--- The outcome of a picture call: document 01, "Answers that turn a call away"; document 02, (i).
-use Rattle.std.specs.Prelude.{Bool, ◌||◌, List, [], ◌∷◌, ◌++◌, ℕ, zero, suc, ltb, ℤ, pos, length, drop, replicate}
+-- The outcome of a picture call: document 01, "Answers that turn a call away".
+use Rattle.std.specs.Prelude.{◌||◌, List, [], ◌∷◌, ◌++◌, ℕ, zero, suc, ltb, ℤ, pos, length, drop, replicate}
 use Rattle.unit.specs.declared.Settings.{Settings}
 use Rattle.unit.specs.declared.Coded.{Coded}
 use Rattle.unit.specs.declared.Answer.{Answer}
@@ -11,8 +11,7 @@ use Rattle.unit.specs.Refusal.{refusal_of}
 use Rattle.unit.specs.Parameters.{SliceParameters, low_delay, high_quality}
 use Rattle.unit.specs.Plan.{Plan}
 use Rattle.unit.specs.Cut.{cut_count}
-use Rattle.unit.specs.Unit.{plan_of}
-use Rattle.unit.specs.Fragments.{written_of, last_of, wide_of}
+use Rattle.unit.specs.Unit.{plan_of, length_of, unit_of}
 
 -- document 01's number of an answer: 0 where the call is accepted
 abbrev pub number_of : Answer → ℕ
@@ -34,13 +33,12 @@ abbrev pub scaler_in : SliceParameters → ℕ → ℕ
 scaler_in (low_delay n d) c = c
 scaler_in (high_quality p c) d = c
 
--- what an accepted call gives: length of all that is written, cut slices, final scaler and length of the last data unit
+-- what an accepted call gives: length, cut slices and final scaler
 unfoldable pub coded_of : Settings → Plan → Coded
 coded_of s a = record {
-  written = length (written_of s a);
+  written = length_of s a;
   cut_slices = cut_count a;
   slice_size_scaler = scaler_in a.parameters.slice_parameters s.slice_size_scaler;
-  last_unit_len = last_of s a;
 }
 
 -- the answer, and the output and work slices as they are left
@@ -49,31 +47,26 @@ pub record Outcome : Type 0 where
   pub output : List ℕ
   pub work : List ℤ
 
--- the rules that are decided while coding, in checking order, by whether the data of a fragment are too long, the length
--- len of the output and the length n of all that is written: 17; 14, this is longer than the output, or than
--- 4,294,967,295 bytes
-abbrev pub coding_rules : Bool → ℕ → ℕ → List Rule
-coding_rules wide len n = rule 17 wide ∷ rule 14 (ltb len n || ltb unit_limit n) ∷ []
+-- the rules that are decided while coding, by the length n of the unit and len of the output: 14, the unit is longer
+-- than the output, or than 4,294,967,295 bytes
+abbrev pub coding_rules : ℕ → ℕ → List Rule
+coding_rules len n = rule 14 (ltb len n || ltb unit_limit n) ∷ []
 
 -- the number of the first of them that is broken; 0 where none is
-abbrev pub coding_refusal : Bool → ℕ → ℕ → ℕ
-coding_refusal wide len n = first (coding_rules wide len n)
+abbrev pub coding_refusal : ℕ → ℕ → ℕ
+coding_refusal len n = first (coding_rules len n)
 
--- that number for a call of plan a and an output of len bytes
-abbrev pub coding_refusal_of : Settings → Plan → ℕ → ℕ
-coding_refusal_of s a len = coding_refusal (wide_of s a) len (length (written_of s a))
-
--- what coding leaves, by that number: a refusal fills both slices with zeros; else what is written goes to the output's
--- start, the rest of it stays, and the work slice is filled with zeros
+-- what coding leaves, by that number: a refusal fills both slices with zeros; else the unit goes to the output's start,
+-- the rest of it stays, and the work slice is filled with zeros
 abbrev pub coded_if : Settings → Plan → List ℕ → List ℤ → ℕ → Outcome
 coded_if s a out work zero =
-    record { answer = Accepted (coded_of s a); output = written_of s a ++ drop (length (written_of s a)) out; work = replicate (length work) (pos 0) }
+    record { answer = Accepted (coded_of s a); output = unit_of s a ++ drop (length_of s a) out; work = replicate (length work) (pos 0) }
 coded_if s a out work (suc n) = record { answer = Refused (suc n); output = replicate (length out) 0; work = replicate (length work) (pos 0) }
 
 abbrev pub coded : Settings → Plan → List ℕ → List ℤ → Outcome
-coded s a out work = coded_if s a out work (coding_refusal_of s a (length out))
+coded s a out work = coded_if s a out work (coding_refusal (length out) (length_of s a))
 
--- the outcome by the number of the first rule before coding that is broken: a refusal leaves both slices as they came
+-- the outcome by the number of the first of rules 1 to 13 that is broken: a refusal leaves both slices as they came
 abbrev pub outcome_if : Settings → List ℕ → Three (List ℕ) → List ℕ → List ℤ → ℕ → Outcome
 outcome_if s m p out work zero = coded s (plan_of s m p) out work
 outcome_if s m p out work (suc n) = record { answer = Refused (suc n); output = out; work = work }

@@ -1,5 +1,4 @@
--- Refusals before a picture is coded, in checking order: document 01, "Answers that turn a call away"; document 02, (i)
--- and (iii).
+-- Refusals 1 to 13 in checking order: document 01, "Answers that turn a call away"; document 02, (iii).
 use Rattle.std.specs.Prelude.{Bool, true, false, not, ◌&&◌, ◌||◌, List, [], ◌∷◌, ◌++◌, ℕ, ◌*◌, eqb, ltb, ℤ, length}
 use Rattle.std.proofs.Math.Option.{Option, none, some}
 use Rattle.wavelet.specs.Depth.{too_deep}
@@ -8,9 +7,7 @@ use Rattle.unit.specs.declared.PictureKind.{PictureKind}
 use Rattle.unit.specs.declared.PictureKind.TheVariants.{LowDelay, HighQuality}
 use Rattle.unit.specs.declared.RateControl.{RateControl}
 use Rattle.unit.specs.declared.RateControl.TheVariants.{Lossless, FixedQuantIndex, PictureBytes}
-use Rattle.unit.specs.declared.FragmentSlices.{FragmentSlices}
-use Rattle.unit.specs.declared.FragmentSlices.TheVariants.{Whole, Each}
-use Rattle.unit.specs.Limits.{last_wavelet, side_limit, slice_limit, prefix_limit, fragment_limit, last_index, target_limit, last_format, last_mode, value_limit, area_limit}
+use Rattle.unit.specs.Limits.{last_wavelet, side_limit, slice_limit, prefix_limit, last_index, target_limit, last_format, last_mode, value_limit, area_limit}
 use Rattle.unit.specs.Three.{Three}
 use Rattle.unit.specs.Sizes.{area, luma_size, colour_size}
 use Rattle.unit.specs.Subbands.{subband_count, padded_area, work_needed}
@@ -46,11 +43,6 @@ bad_slices s = outside side_limit s.slices_x || (outside side_limit s.slices_y |
 -- 4: scaler and prefix bytes
 abbrev pub bad_sizes : Settings → Bool
 bad_sizes s = outside side_limit s.slice_size_scaler || ltb prefix_limit s.slice_prefix_bytes
-
--- 16: the slices of a fragment
-abbrev pub bad_fragments : FragmentSlices → Bool
-bad_fragments Whole = false
-bad_fragments (Each n) = outside fragment_limit n
 
 -- 5: low delay without a picture's bytes
 abbrev pub no_target : PictureKind → RateControl → Bool
@@ -103,10 +95,9 @@ abbrev pub short_work : Settings → List ℤ → Bool
 short_work s work = ltb (length work) (work_needed s)
 
 -- ---- the rules, in checking order
--- wavelets, depths, slices and fragments
+-- wavelets, depths and slices
 abbrev pub shape_rules : Settings → List Rule
-shape_rules s =
-    rule 1 (bad_wavelets s) ∷ rule 2 (bad_depths s) ∷ rule 3 (bad_slices s) ∷ rule 4 (bad_sizes s) ∷ rule 16 (bad_fragments s.fragment_slices) ∷ []
+shape_rules s = rule 1 (bad_wavelets s) ∷ rule 2 (bad_depths s) ∷ rule 3 (bad_slices s) ∷ rule 4 (bad_sizes s) ∷ []
 
 -- kind and rate
 abbrev pub rate_rules : PictureKind → RateControl → List Rule

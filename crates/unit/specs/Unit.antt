@@ -1,4 +1,4 @@
--- The plan of a picture, and its unit: document 01, "Slices and unit"; the major version also document 02, (i).
+-- The unit that a call writes: document 01, "Slices and unit".
 use Rattle.std.specs.Prelude.{Bool, true, false, not, ◌||◌, ℕ, ◌+◌, ◌*◌, ◌-◌, eqb, length}
 use mathlib.Core.List.{List, ◌++◌, map, flatten}
 use Rattle.codewords.specs.Bit.{Bits, lit}
@@ -9,8 +9,6 @@ use Rattle.unit.specs.declared.PictureKind.{PictureKind}
 use Rattle.unit.specs.declared.PictureKind.TheVariants.{LowDelay, HighQuality}
 use Rattle.unit.specs.declared.RateControl.{RateControl}
 use Rattle.unit.specs.declared.RateControl.TheVariants.{Lossless, FixedQuantIndex, PictureBytes}
-use Rattle.unit.specs.declared.FragmentSlices.{FragmentSlices}
-use Rattle.unit.specs.declared.FragmentSlices.TheVariants.{Whole, Each}
 use Rattle.unit.specs.Three.{Three}
 use Rattle.unit.specs.Sizes.{luma_size}
 use Rattle.unit.specs.Slices.{Grid, slice_count}
@@ -21,25 +19,19 @@ use Rattle.unit.specs.Coefficients.{coefficients_of}
 use Rattle.unit.specs.Plan.{SlicePlan, Plan}
 use Rattle.unit.specs.LowDelay.{numerator, low_slices, zero_planes}
 use Rattle.unit.specs.HighQuality.{high_slices, scaler_from}
-use Rattle.unit.specs.Framing.{info_bits}
 
 -- document 01's asymmetric: the wavelet indices differ, or the horizontal-only depth is not 0
 abbrev pub asymmetric : Settings → Bool
 asymmetric s = not (eqb s.wavelet_index s.wavelet_index_ho) || not (eqb s.dwt_depth_ho 0)
-
--- whether a picture is cut into fragments
-abbrev pub fragmented : FragmentSlices → Bool
-fragmented Whole = false
-fragmented (Each n) = true
 
 abbrev pub version_by : Bool → PictureKind → ℕ
 version_by true k = 3
 version_by false HighQuality = 2
 version_by false LowDelay = 1
 
--- major_version: 3 if extended, asymmetric or in fragments, else 2 for high quality, else 1
+-- major_version: 3 if extended or asymmetric, else 2 for high quality, else 1
 unfoldable pub major_version : Settings → ℕ
-major_version s = version_by (s.extended || (fragmented s.fragment_slices || asymmetric s)) s.kind
+major_version s = version_by (s.extended || asymmetric s) s.kind
 
 -- the slices across and down
 abbrev pub grid_of : Settings → Grid
@@ -110,7 +102,8 @@ slice_runs ss = map (λ p. to_bytes p.bits) ss
 unfoldable pub head_bits : Settings → ℕ → Parameters → Bits
 head_bits s n t =
     let b = parameter_bits (major_version s) t in
-    info_bits (parse_code s.kind) n s.prev_unit_len ++ (lit 32 s.picture_number ++ (b ++ fill (length b)))
+    lit 32 0x42424344 ++ (lit 8 (parse_code s.kind) ++ (lit 32 n ++ (lit 32 s.prev_unit_len ++ (lit 32 s.picture_number
+    ++ (b ++ fill (length b))))))
 
 -- the length of the unit
 unfoldable pub length_of : Settings → Plan → ℕ

@@ -14,13 +14,6 @@ pub enum RateControl {
     PictureBytes(u32),
 }
 
-// One picture data unit, or fragments of so many slices each: document 02, (i).
-#[derive(Drop)]
-pub enum FragmentSlices {
-    Whole,
-    Each(u32),
-}
-
 #[derive(Drop)]
 pub struct Settings {
     pub kind: PictureKind,
@@ -43,17 +36,14 @@ pub struct Settings {
     pub custom_matrix: bool,
     pub picture_number: u32,
     pub prev_unit_len: u32,
-    pub fragment_slices: FragmentSlices,
 }
 
-// What an accepted call tells of what it wrote: how many bytes, how many slices are cut, the final scaler, and the
-// length of the last data unit, which is the previous length for what follows.
+// What an accepted call tells of its unit.
 #[derive(Drop)]
 pub struct Coded {
     pub written: u32,
     pub cut_slices: u32,
     pub slice_size_scaler: u32,
-    pub last_unit_len: u32,
 }
 
 #[derive(Drop)]

@@ -1,4 +1,4 @@
--- What is known of a call that no refusal before coding turns away: Valid, made of what each group of rules says.
+-- What is known of a call that none of refusals 1 to 13 turns away: Valid, made of what each group of rules says.
 use Rattle.std.specs.Prelude.{◌≡◌, Bool, true, false, List, [], ◌∷◌, ℕ, ◌+◌, ◌*◌, ◌≤◌, ℤ, length}
 use Rattle.std.proofs.Math.Option.{Option, none, some}
 use Rattle.wavelet.specs.RowCall.{row_limit}
@@ -7,9 +7,7 @@ use Rattle.unit.specs.declared.PictureKind.{PictureKind}
 use Rattle.unit.specs.declared.PictureKind.TheVariants.{LowDelay, HighQuality}
 use Rattle.unit.specs.declared.RateControl.{RateControl}
 use Rattle.unit.specs.declared.RateControl.TheVariants.{Lossless, FixedQuantIndex, PictureBytes}
-use Rattle.unit.specs.declared.FragmentSlices.{FragmentSlices}
-use Rattle.unit.specs.declared.FragmentSlices.TheVariants.{Whole, Each}
-use Rattle.unit.specs.Limits.{depth_limit, last_wavelet, side_limit, slice_limit, prefix_limit, fragment_limit, last_index, target_limit, last_format, last_mode, value_limit, area_limit}
+use Rattle.unit.specs.Limits.{depth_limit, last_wavelet, side_limit, slice_limit, prefix_limit, last_index, target_limit, last_format, last_mode, value_limit, area_limit}
 use Rattle.unit.specs.Three.{Three}
 use Rattle.unit.specs.Sizes.{area, luma_size, colour_size, Size}
 use Rattle.unit.specs.Subbands.{subband_count, padded_size, padded_area, work_needed}
@@ -28,10 +26,6 @@ RateFits HighQuality Lossless = Unit {0}
 RateFits HighQuality (FixedQuantIndex q) = q ≤ last_index HighQuality
 RateFits HighQuality (PictureBytes n) = n ≤ target_limit
 
-abbrev pub FragmentsFit : FragmentSlices → Type 0
-FragmentsFit Whole = Unit {0}
-FragmentsFit (Each n) = Between fragment_limit n
-
 abbrev pub AllMost : ℕ → List ℕ → Type 0
 AllMost most [] = Unit {0}
 AllMost most (v ∷ vs) = (v ≤ most) × AllMost most vs
@@ -42,7 +36,7 @@ MatrixFits s m false none = ⊥
 MatrixFits s m false (some vs) = Unit {0}
 
 -- ---- by groups of rules
--- rules 1 to 4 and 16
+-- rules 1 to 4
 pub record Shaped (s : Settings) : Type 0 where
   pub wavelet : s.wavelet_index ≤ last_wavelet
   pub wavelet-ho : s.wavelet_index_ho ≤ last_wavelet
@@ -52,7 +46,6 @@ pub record Shaped (s : Settings) : Type 0 where
   pub slices : s.slices_x * s.slices_y ≤ slice_limit
   pub scaler : Between side_limit s.slice_size_scaler
   pub prefix : s.slice_prefix_bytes ≤ prefix_limit
-  pub fragments : FragmentsFit s.fragment_slices
 
 -- rule 8
 pub record Framed (s : Settings) : Type 0 where
