@@ -1,4 +1,6 @@
 // Code words: their lengths, and the writer of bits. The port of bitio.rs.
+#![tactic(auto)]
+
 pub mod bitio;
 mod lent;
 pub mod writer;

@@ -9,7 +9,7 @@ ghost use Rattle.codewords.specs.Code.Spread.{spread_bits};
 ghost use Rattle.codewords.specs.Code.Writer.{Room, Wrote, Flushes, Aligns};
 
 // The place where the bits pending go, these bits, and how many they are: fewer than 32.
-#[derive(Drop)]
+#[derive(Clone, Copy)]
 pub struct BitWriter {
     pub at: usize,
     pub pending: u64,
@@ -17,7 +17,7 @@ pub struct BitWriter {
 }
 
 // A code word as the low bits of a number, and how many bits it has.
-#[derive(Drop)]
+#[derive(Clone, Copy)]
 struct Word {
     bits: u64,
     len: u32,

@@ -1,5 +1,7 @@
 // Entry points for C and Rust callers; include/rumqeshi.h declares them. Each does what the call inside does. A slice
 // is a pointer and a count, in this order.
+#![tactic(auto)]
+
 ghost use Rattle.std.specs.Prelude.{◌≡◌, pos, length};
 ghost use Rattle.codewords.specs.CodeWord.{code_u, code_s};
 ghost use Rattle.quantiser.specs.Quant.{quant_factor, quant_offset, forward_quant, inverse_quant};

@@ -4,6 +4,8 @@
 // then kinds 1 matrix, 2 luma, 3 and 4 colour, one number a word; one last word of kind 15, content 0. A malformed job
 // prints `job`, a refusal its number, and an accepted one 0, length, cut slices and scaler on one line, and then the
 // unit's bytes, 16 a line.
+#![tactic(auto)]
+
 use libc::{STDIN_FILENO, STDOUT_FILENO};
 
 fn main() {

@@ -6,7 +6,7 @@ ghost use Rattle.jobs.specs.Job.{words_of, kind_of, content_of, is_end, in_order
 ghost use Rattle.jobs.specs.Code.Steps.{word_from, run_end, ends_of, counted};
 
 // Where the words of each kind end: settings, matrix, luma and the two colours.
-#[derive(Drop)]
+#[derive(Clone, Copy)]
 pub(crate) struct Ends {
     pub settings: usize,
     pub matrix: usize,

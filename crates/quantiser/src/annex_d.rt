@@ -190,7 +190,7 @@ const MATRICES: [[u8; 266]; 8] = [
 const STARTS: [u32; 6] = [0, 5, 10, 14, 17, 19];
 
 // Whether there is a default, and its values in subband order with zeros behind them.
-#[derive(Drop)]
+#[derive(Clone, Copy)]
 pub struct DefaultMatrix {
     pub found: bool,
     pub values: [u32; 25],

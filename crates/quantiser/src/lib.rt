@@ -1,4 +1,6 @@
 // Factors, offsets and the quantiser, and the default matrices. The port of quant.rs.
+#![tactic(auto)]
+
 pub mod annex_d;
 pub mod factors;
 
@@ -10,7 +12,7 @@ ghost use Rattle.quantiser.specs.Quant.{cap, quant_factor, quant_offset, forward
 ghost use Rattle.quantiser.specs.Code.Step.{Doubles};
 
 // A call's value, or its refusal's number in document 01.
-#[derive(Drop)]
+#[derive(Clone, Copy)]
 pub enum QuantAnswer {
     Value(i64),
     Refused(u32),
@@ -73,7 +75,7 @@ fn cap(n: u64) -> u64
 }
 
 // A quotient and its remainder.
-#[derive(Drop)]
+#[derive(Clone, Copy)]
 struct Quotient {
     quotient: u64,
     remainder: u64,

@@ -26,7 +26,7 @@ pub(crate) fn sint_len(w: &[u64]) -> Verdict {
 }
 
 // What a case puts behind the ones.
-#[derive(Drop)]
+#[derive(Clone, Copy)]
 enum Put {
     Uint(u32),
     Sint(i64),

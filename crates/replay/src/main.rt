@@ -23,6 +23,8 @@
 // What is printed: a line for each case that differs or is malformed, with its number from 1 on and its kind; then for
 // each kind how many were run and how many differ, and how many cases were malformed. A case of another kind or form is
 // malformed; one that is cut off, or longer than 8,192 words, is malformed and ends the run.
+#![tactic(auto)]
+
 mod case;
 mod codes;
 mod job;

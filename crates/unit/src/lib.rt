@@ -1,20 +1,21 @@
 // The settings of a picture call and its answers. What they mean, the unit that a call writes, the standard's reader
 // and what it gives back of a unit stand in specs/. There is no code here.
+#![tactic(auto)]
 
-#[derive(Drop)]
+#[derive(Clone, Copy)]
 pub enum PictureKind {
     LowDelay,
     HighQuality,
 }
 
-#[derive(Drop)]
+#[derive(Clone, Copy)]
 pub enum RateControl {
     Lossless,
     FixedQuantIndex(u32),
     PictureBytes(u32),
 }
 
-#[derive(Drop)]
+#[derive(Clone, Copy)]
 pub struct Settings {
     pub kind: PictureKind,
     pub wavelet_index: u32,
@@ -39,14 +40,14 @@ pub struct Settings {
 }
 
 // What an accepted call tells of its unit.
-#[derive(Drop)]
+#[derive(Clone, Copy)]
 pub struct Coded {
     pub written: u32,
     pub cut_slices: u32,
     pub slice_size_scaler: u32,
 }
 
-#[derive(Drop)]
+#[derive(Clone, Copy)]
 pub enum Answer {
     Accepted(Coded),
     Refused(u32),

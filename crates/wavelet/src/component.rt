@@ -11,7 +11,7 @@ ghost use Rattle.wavelet.specs.Code.Component.{component_of, SamplesIn, Componen
 use crate::{arith, lift, pad, plane};
 
 // The sides of a component, its padded sides, and its sample offset.
-#[derive(Drop)]
+#[derive(Clone, Copy)]
 pub struct Component {
     pub w: usize,
     pub h: usize,
@@ -21,7 +21,7 @@ pub struct Component {
 }
 
 // The horizontal-only depth, the depth, and the wavelet indices of rows and columns.
-#[derive(Drop)]
+#[derive(Clone, Copy)]
 pub struct Transform {
     pub k: u32,
     pub d: u32,

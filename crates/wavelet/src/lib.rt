@@ -1,4 +1,6 @@
 // The wavelet layer: the analysis of rows and planes (wavelet.rs, and the analysis of transform.rs).
+#![tactic(auto)]
+
 ghost use Rattle.wavelet.specs.RowCall.{Analysed};
 
 mod arith;

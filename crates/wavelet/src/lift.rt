@@ -12,7 +12,7 @@ use crate::arith;
 
 // A stage: to is 0 where it goes to the even places and 1 where it goes to the odd ones; the standard's D is ahead less
 // back; the first count of the taps are its own.
-#[derive(Drop)]
+#[derive(Clone, Copy)]
 pub(crate) struct LiftStage {
     pub to: usize,
     pub adds: bool,

@@ -17,7 +17,7 @@ use crate::slices::layout::Picture;
 use unit::{RateControl, Settings};
 
 // The final scaler, and where the unit ends.
-#[derive(Drop)]
+#[derive(Clone, Copy)]
 pub(crate) struct Settled {
     pub scaler: u32,
     pub end: usize,

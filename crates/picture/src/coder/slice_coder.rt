@@ -16,7 +16,7 @@ use crate::slices::layout::Picture;
 // Where the next slice goes in the output, how many low-delay slices are cut, the largest need of a component, the
 // index of the slice before, from which the search in high quality and the bracket in low delay begin, and where the
 // words of the next slice stand in the work slice.
-#[derive(Drop)]
+#[derive(Clone, Copy)]
 pub(crate) struct SliceCoder {
     pub at: usize,
     pub cut_slices: u32,

@@ -10,7 +10,7 @@ use crate::high::size::Terms;
 use crate::slices::layout::Picture;
 
 // A slice's index, and the runs of its components there, whose words stand one after the other.
-#[derive(Drop)]
+#[derive(Clone, Copy)]
 pub(crate) struct Choice {
     pub index: u32,
     pub y: Packed,

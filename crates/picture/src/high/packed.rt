@@ -15,7 +15,7 @@ use crate::slices::strip::Strip;
 use codewords::writer::BitWriter;
 
 // Where the next word goes, the zeros that have none yet, and the bits of the words so far.
-#[derive(Drop)]
+#[derive(Clone, Copy)]
 pub(crate) struct Packing {
     pub at: usize,
     pub zeros: usize,
@@ -23,7 +23,7 @@ pub(crate) struct Packing {
 }
 
 // A packed run: how many words, and their bits.
-#[derive(Drop)]
+#[derive(Clone, Copy)]
 pub(crate) struct Packed {
     pub words: usize,
     pub bits: u64,

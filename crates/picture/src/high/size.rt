@@ -7,7 +7,7 @@ ghost use Rattle.picture.specs.Code.Choice.{needs_by, TermsIn};
 use unit::RateControl;
 
 // The bytes that the components of a slice need.
-#[derive(Drop)]
+#[derive(Clone, Copy)]
 pub(crate) struct Needs {
     pub y: u64,
     pub c1: u64,
@@ -16,7 +16,7 @@ pub(crate) struct Needs {
 
 // What all slices share: the rate, prefix bytes, the scaler, the bytes for all slices, and the index where elections
 // begin.
-#[derive(Drop)]
+#[derive(Clone, Copy)]
 pub(crate) struct Terms {
     pub rate: RateControl,
     pub prefix: u32,

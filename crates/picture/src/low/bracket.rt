@@ -9,14 +9,14 @@ use crate::low::trial::{Rest, Windows};
 use crate::slices::layout::Picture;
 
 // Whether a slice fits at an index, and its runs there.
-#[derive(Drop)]
+#[derive(Clone, Copy)]
 pub(crate) struct Probe {
     pub fits: bool,
     pub rest: Rest,
 }
 
 // A slice's runs at two indices, as in a trial.
-#[derive(Drop)]
+#[derive(Clone, Copy)]
 pub(crate) struct Bracket {
     pub low: Rest,
     pub high: Rest,

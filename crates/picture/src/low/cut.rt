@@ -12,7 +12,7 @@ use crate::slices::tally::Trimmed;
 
 // The runs that are written: how many numbers of luma and of the colours, and their bits; cut is 1 where a number that
 // is not 0 is left out, else 0.
-#[derive(Drop)]
+#[derive(Clone, Copy)]
 pub(crate) struct Kept {
     pub luma: usize,
     pub luma_bits: u64,

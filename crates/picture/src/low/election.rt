@@ -12,7 +12,7 @@ use crate::slices::layout::Picture;
 use crate::slices::search::Range;
 
 // The elected index, and the slice's runs at an index.
-#[derive(Drop)]
+#[derive(Clone, Copy)]
 pub(crate) struct Elected {
     pub index: u32,
     pub rest: Rest,

@@ -10,7 +10,7 @@ use crate::slices::strip::Strip;
 use codewords::writer::BitWriter;
 
 // The bit writer, and how many numbers are still to be kept.
-#[derive(Drop)]
+#[derive(Clone, Copy)]
 pub(crate) struct Put {
     pub writer: BitWriter,
     pub left: usize,

@@ -12,21 +12,21 @@ use crate::slices::layout::{Component, Picture, Window};
 use crate::slices::tally::{Tally, Trimmed};
 
 // What a slice has of level 0: of luma, and of each colour.
-#[derive(Drop)]
+#[derive(Clone, Copy)]
 pub(crate) struct Windows {
     pub luma: Window,
     pub colour: Window,
 }
 
 // The tallies of a slice's level-0 numbers, of luma and of the two colours.
-#[derive(Drop)]
+#[derive(Clone, Copy)]
 pub(crate) struct First {
     pub luma: Tally,
     pub colour: Tally,
 }
 
 // A slice's runs of the subbands behind the first at an index, without trailing zeros: luma, and the two colours.
-#[derive(Drop)]
+#[derive(Clone, Copy)]
 pub(crate) struct Rest {
     pub index: u32,
     pub luma: Trimmed,
@@ -35,7 +35,7 @@ pub(crate) struct Rest {
 
 // Whether a slice fits at an index, and its runs at two indices: as a rule low did not fit and high did. What is proved
 // needs no such rule, and no order.
-#[derive(Drop)]
+#[derive(Clone, Copy)]
 pub(crate) struct Trial {
     pub fits: bool,
     pub low: Rest,

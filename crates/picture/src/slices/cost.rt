@@ -7,7 +7,7 @@ use crate::slices::strip::Strip;
 
 // The bits and the count of the numbers so far, the same up to the last number that is not 0, and of the longest run
 // from the start that takes at most room bits.
-#[derive(Drop)]
+#[derive(Clone, Copy)]
 pub(crate) struct Cost {
     pub room: u64,
     pub bits: u64,

@@ -15,7 +15,7 @@ use crate::front::sizes::Sides;
 use crate::slices::strip::Strip;
 
 // A component: where its coefficients begin, where its rebuilt level-0 plane begins, and its padded sides.
-#[derive(Drop)]
+#[derive(Clone, Copy)]
 pub(crate) struct Component {
     pub coefs: usize,
     pub rebuilt: usize,
@@ -24,7 +24,7 @@ pub(crate) struct Component {
 }
 
 // What all slices share: the depths, the slices across and down, the matrix values, and whether level 0 is predicted.
-#[derive(Drop)]
+#[derive(Clone, Copy)]
 pub(crate) struct Layout {
     pub depth_ho: u32,
     pub depth: u32,
@@ -35,7 +35,7 @@ pub(crate) struct Layout {
 }
 
 // What a slice has of a subband: the subband's sides, and the slice's rows top to bottom and columns left to right.
-#[derive(Drop)]
+#[derive(Clone, Copy)]
 pub(crate) struct Window {
     pub width: usize,
     pub height: usize,
@@ -47,7 +47,7 @@ pub(crate) struct Window {
 
 // A picture in the work slice: its layout and its components. Before front stand rebuilt level-0 planes in low delay
 // and packed runs in high quality, from front to end the coefficients.
-#[derive(Drop)]
+#[derive(Clone, Copy)]
 pub(crate) struct Picture {
     pub layout: Layout,
     pub y: Component,

@@ -9,7 +9,7 @@ use crate::slices::cost::Cost;
 use crate::slices::strip::Strip;
 
 // The bits and the count of the numbers so far, and the count up to the last number that is not 0.
-#[derive(Drop)]
+#[derive(Clone, Copy)]
 pub(crate) struct Tally {
     pub bits: u64,
     pub count: usize,
@@ -17,7 +17,7 @@ pub(crate) struct Tally {
 }
 
 // A run without its trailing zeros: how many numbers, and their bits.
-#[derive(Drop)]
+#[derive(Clone, Copy)]
 pub(crate) struct Trimmed {
     pub count: usize,
     pub bits: u64,
