@@ -46,7 +46,7 @@ def snake(word):
     return re.sub(r"(?<=[a-z0-9])([A-Z]+)", r"_\1", word).lower()
 
 
-DECL = re.compile(r"^(\s*)((?:(?:abbrev|unfoldable|pub|record|data)\s+)*)(" + TOKEN + r")((?:\s*[({][^=]*?[)}])*)\s*:\s+(.*)$")
+DECL = re.compile(r"^(\s*)((?:(?:abbrev|unfoldable|pub|record|data)\s+)*)(" + TOKEN + r")((?:\s*[({][^=]*?[)}])*)\s*:(?:\s+(.*))?$")
 
 
 def declarations(path):
@@ -59,7 +59,7 @@ def declarations(path):
         m = DECL.match(line)
         if not m or m.group(3) in ("let", "in", "where", "elim"):
             continue
-        kind, rest = m.group(2), m.group(5)
+        kind, rest = m.group(2), m.group(5) or ""
         j = i + 1
         while j < len(lines) and lines[j].startswith(m.group(1) + " ") and not DECL.match(lines[j]):
             rest += " " + lines[j].strip()

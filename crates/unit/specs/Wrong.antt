@@ -155,7 +155,7 @@ pub record Becomes (i : ℕ) (xs ys : List ℕ) (wrong : List (List ℕ)) : Type
 pub record WrongEncoders : Type 0 where
   -- ---- high quality
   -- Also work_as_left: it leaves the work slice as it used it, 2, -3, 0, 2, 0, -3, 0, 1, 4.
-  pub one-sample :
+  pub one_sample_lem :
       GivesHigh job (planes (130 ∷ []) (128 ∷ []) (125 ∷ []))
       (0x32 ∷ 0x64 ∷ 0x00 ∷ 0x01 ∷ 0x6F ∷ 0x00 ∷ 0x01 ∷ 0x0F ∷ [])
       -- all_refused turns everything away
@@ -175,7 +175,7 @@ pub record WrongEncoders : Type 0 where
       -- cut_high counts a cut slice in high quality
       ∷ left 25 1 1 0xE8 (0x32 ∷ 0x64 ∷ 0x00 ∷ 0x01 ∷ 0x6F ∷ 0x00 ∷ 0x01 ∷ 0x0F ∷ [])
       ∷ [])
-  pub longer-output :
+  pub longer_output :
       GivesList (outcome job [] (luma (128 ∷ [])) 25).output
       (unit 0xE8 (0x32 ∷ 0x64 ∷ 0 ∷ 0 ∷ 0 ∷ 0 ∷ []) ++ (0xAA ∷ 0xAA ∷ []))
       -- says_14 says 14 with space enough
@@ -183,7 +183,7 @@ pub record WrongEncoders : Type 0 where
       -- clears_output_first clears the output behind the unit
       ∷ headed 0xE8 23 (0x32 ∷ 0x64 ∷ 0x00 ∷ 0x00 ∷ 0x00 ∷ 0x00 ∷ 0x00 ∷ 0x00 ∷ [])
       ∷ [])
-  pub short-output :
+  pub short_output :
       Leaves (outcome job [] (luma (128 ∷ [])) 22)
       (record { answer = Refused 14; output = replicate 22 0; work = replicate 9 (pos 0) })
       -- never_14 writes what there is room for of a unit longer than the output
@@ -203,7 +203,7 @@ pub record WrongEncoders : Type 0 where
       -- turned_round searches above an index that fits; fit_without_4 forgets the slice's own four bytes
       ∷ (14 ∷ replicate 28 0)
       ∷ [])
-  pub trimmed-share :
+  pub trimmed_share :
       GivesHigh (target 24 job) (luma (160 ∷ []))
       (0x32 ∷ 0x64 ∷ 0x05 ∷ 0x01 ∷ 0x46 ∷ 0x00 ∷ 0x00 ∷ [])
       -- untrimmed_fit_high compares the budget with the untrimmed cost
@@ -219,7 +219,7 @@ pub record WrongEncoders : Type 0 where
       -- zero_as_two packs each zero before a number as two
       ∷ left 24 0 1 0xE8 (0x32 ∷ 0x64 ∷ 0x00 ∷ 0x01 ∷ 0xF3 ∷ 0x00 ∷ 0x00 ∷ [])
       ∷ [])
-  pub fixed-index :
+  pub fixed_index :
       GivesHigh (index 4 job) (luma (128 ∷ []))
       (0x32 ∷ 0x64 ∷ 0x04 ∷ 0x00 ∷ 0x00 ∷ 0x00 ∷ [])
       -- fixed_as_0 takes a fixed index for 0
@@ -232,21 +232,21 @@ pub record WrongEncoders : Type 0 where
       (left 25 0 1 0xE8 (0x24 ∷ 0x99 ∷ 0x00 ∷ 0x00 ∷ 0x01 ∷ 0x06 ∷ 0x00 ∷ 0x00 ∷ [])
       ∷ [])
   -- Luma needs 256 bytes.
-  pub final-scaler :
+  pub final_scaler :
       GivesList (tells (outcome (excursion 1 (wide 64 job)) [] (planes (replicate 64 65535) (replicate 64 1) (replicate 64 1)) 279).answer)
       (0 ∷ 279 ∷ 0 ∷ 2 ∷ [])
       -- setting_scaler tells the setting's scaler; scaler_never_grows keeps the setting's scaler
       ((0 ∷ 279 ∷ 0 ∷ 1 ∷ [])
       ∷ [])
   -- With scaler 2 the slice no longer fits at index 0.
-  pub chosen-anew :
+  pub chosen_anew :
       GivesList (tells (outcome (excursion 1 (wide 64 (target 280 job))) [] (planes (replicate 64 65535) (2 ∷ replicate 63 1) (replicate 64 1)) 281).answer)
       (0 ∷ 279 ∷ 0 ∷ 2 ∷ [])
       -- choices_kept keeps the indices of scaler 1
       ((0 ∷ 281 ∷ 0 ∷ 2 ∷ [])
       ∷ [])
   -- A longer work slice has room for notes.
-  pub longer-work :
+  pub longer_work :
       GivesList (outcome_of (settings_of (across 2 (wide 2 job))) [] (planes (130 ∷ 127 ∷ []) (129 ∷ 128 ∷ []) (128 ∷ 126 ∷ [])) (replicate 31 0xAA)
       (replicate 26 (pos 5))).output
       (unit 0xE8 (0x36 ∷ 0x64 ∷ 0x00 ∷ 0x01 ∷ 0x6F ∷ 0x01 ∷ 0x2F ∷ 0x00 ∷ 0x00 ∷ 0x01 ∷ 0x3F ∷ 0x00 ∷ 0x01 ∷ 0x7F ∷ []))
@@ -256,7 +256,7 @@ pub record WrongEncoders : Type 0 where
       ∷ headed 0xE8 31 (0x36 ∷ 0x64 ∷ 0x00 ∷ 0x01 ∷ 0x6F ∷ 0x00 ∷ 0x00 ∷ 0x00 ∷ 0x01 ∷ 0x2F ∷ 0x01 ∷ 0x3F ∷ 0x01 ∷ 0x7F ∷ [])
       ∷ [])
   -- ---- low delay
-  pub two-parts :
+  pub two_parts :
       GivesLow (across 2 (wide 2 (low 25))) (luma (121 ∷ 128 ∷ []))
       (0x36 ∷ 0x52 ∷ 0xC0 ∷ 0x0A ∷ 0x8F ∷ 0x00 ∷ 0x65 ∷ 0xBF ∷ [])
       -- all_refused turns everything away
@@ -306,27 +306,27 @@ pub record WrongEncoders : Type 0 where
       (left 22 1 1 0xC8 (0x32 ∷ 0x49 ∷ 0xAA ∷ 0xAC ∷ 0xFF ∷ [])
       ∷ [])
   -- Index 5 fits; halving ends at 8.
-  pub not-the-least :
+  pub not_the_least :
       GivesLow (high 2 (low 23)) (luma (76 ∷ 79 ∷ []))
       (0x32 ∷ 0x42 ∷ 0x40 ∷ 0x10 ∷ 0xC5 ∷ 0x32 ∷ [])
       -- least_fit_low elects the least index that fits
       (left 23 0 1 0xC8 (0x32 ∷ 0x42 ∷ 0x40 ∷ 0x0A ∷ 0xA1 ∷ 0x1F ∷ [])
       ∷ [])
   -- Once it is 6, twice 7, and then 6 again, and so on.
-  pub numerator-twice :
+  pub numerator_twice :
       GivesLow (extended (wavelet 3 (low 27))) (luma (130 ∷ []))
       (0x0C ∷ 0x24 ∷ 0x09 ∷ 0x00 ∷ 0x00 ∷ 0x23 ∷ 0x7F ∷ 0xFF ∷ 0xFF ∷ 0xFF ∷ 0xFF ∷ [])
       -- numerator_once works out the numerator once; numerator_stable works out the numerator until it is stable, in
       -- at most 1,001 turns
       (left 26 0 1 0xC8 (0x0C ∷ 0x25 ∷ 0x64 ∷ 0x00 ∷ 0x23 ∷ 0x7F ∷ 0xFF ∷ 0xFF ∷ 0xFF ∷ 0xAA ∷ 0xAA ∷ [])
       ∷ [])
-  pub mean-floors :
+  pub mean_floors :
       GivesLow (high 2 (wide 2 (low 24))) (luma (127 ∷ 127 ∷ 127 ∷ 127 ∷ []))
       (0x32 ∷ 0x46 ∷ 0x40 ∷ 0x00 ∷ 0x43 ∷ 0xFF ∷ 0xFF ∷ [])
       -- prediction_truncates truncates the mean of three
       (left 24 0 1 0xC8 (0x32 ∷ 0x46 ∷ 0x40 ∷ 0x00 ∷ 0xA3 ∷ 0xCF ∷ 0xFF ∷ [])
       ∷ [])
-  pub colours-alternate :
+  pub colours_alternate :
       GivesLow (wide 2 (low 23)) (planes (128 ∷ 128 ∷ []) (129 ∷ 130 ∷ []) (128 ∷ 128 ∷ []))
       (0x32 ∷ 0x42 ∷ 0x40 ∷ 0x00 ∷ 0x02 ∷ 0x97 ∷ [])
       -- colours_in_turn writes the first colour and then the second
@@ -334,19 +334,19 @@ pub record WrongEncoders : Type 0 where
       -- colours_apart swaps the colours
       ∷ left 23 0 1 0xC8 (0x32 ∷ 0x42 ∷ 0x40 ∷ 0x00 ∷ 0x09 ∷ 0xAA ∷ [])
       ∷ [])
-  pub one-shift-low :
+  pub one_shift_low :
       GivesLow (depth 1 (low 24)) (luma (130 ∷ []))
       (0x24 ∷ 0x91 ∷ 0x90 ∷ 0x00 ∷ 0x61 ∷ 0xBF ∷ 0xFF ∷ [])
       -- shift_added adds the column filter's shift
       (left 24 0 1 0xC8 (0x24 ∷ 0x91 ∷ 0x90 ∷ 0x00 ∷ 0x80 ∷ 0x6F ∷ 0xFF ∷ [])
       ∷ [])
-  pub setting-scaler :
+  pub setting_scaler :
       Gives 0xC8 (scaler 2 (low 21)) [] (luma (128 ∷ [])) 0 2 (0x32 ∷ 0x49 ∷ 0x00 ∷ 0x01 ∷ [])
       -- scaler_low_one tells scaler 1
       (left 21 0 1 0xC8 (0x32 ∷ 0x49 ∷ 0x00 ∷ 0x01 ∷ [])
       ∷ [])
   -- ---- wavelet
-  pub first-shift :
+  pub first_shift :
       GivesHigh (wavelet 3 (depth 1 job)) (luma (129 ∷ []))
       (0x09 ∷ 0x26 ∷ 0x40 ∷ 0x00 ∷ 0x01 ∷ 0x2F ∷ 0x00 ∷ 0x00 ∷ [])
       -- first_shift raises the first level of a filter that has no shift
@@ -359,7 +359,7 @@ pub record WrongEncoders : Type 0 where
       (left 26 0 1 0xE8 (0x24 ∷ 0x99 ∷ 0x00 ∷ 0x00 ∷ 0x02 ∷ 0x6B ∷ 0xFF ∷ 0x00 ∷ 0x00 ∷ [])
       ∷ [])
   -- Two levels both ways, and one horizontal-only.
-  pub height-halved :
+  pub height_halved :
       Gives 0xE8 (custom (wide 2 (wavelet 3 (depth_ho 1 (depth 2 job))))) (replicate 8 0) (luma (129 ∷ 128 ∷ [])) 0 1
       (0x0B ∷ 0x49 ∷ 0x33 ∷ 0xFF ∷ 0x00 ∷ 0x04 ∷ 0x23 ∷ 0x3F ∷ 0x9F ∷ 0x3F ∷ 0x00 ∷ 0x00 ∷ [])
       -- height_kept takes the next level as high as this one
@@ -367,7 +367,7 @@ pub record WrongEncoders : Type 0 where
       ∷ [])
   -- ---- refusals
   -- clears_when_refused answers 13 too, and clears the work slice.
-  pub short-work :
+  pub short_work_lem :
       outcome_of (settings_of job) [] (luma (128 ∷ [])) (0xAA ∷ []) (replicate 8 (pos 5))
       ≡ record { answer = Refused 13; output = 0xAA ∷ []; work = replicate 8 (pos 5) }
   -- The first rule that each of these calls breaks.
@@ -452,7 +452,7 @@ pub record WrongRows : Type 0 where
       ∷ [])
   -- the row call's refusals, and the row of 65,536 numbers, which is not refused
   pub row_numbers_lem : answer_of 6 [] ∷ answer_of 7 [] ∷ answer_of 1 (replicate 65537 (pos 0)) ∷ answer_of 7 (replicate 65537 (pos 0)) ∷ [] ≡ 0 ∷ 1 ∷ 15 ∷ 1 ∷ []
-  pub longest-row :
+  pub longest_row :
       GivesList (answer_of 1 (replicate 65536 (pos 0)) ∷ []) (0 ∷ [])
       -- longest_refused refuses a row of 65,536 numbers
       ((15 ∷ [])
@@ -461,30 +461,30 @@ pub record WrongRows : Type 0 where
 pub wrong_encoders : WrongEncoders
 unfolding settings_of outcome_of refusal_of work_needed coded_of any_lost is_cut cut_count unit_of head_bits length_of flatten plan_of scaler_of numerator_of major_version matrix_values carried_matrix extended_bits codes_u parameter_bits parameter_bytes luma_size colour_size intlog2 depths_of padded_size region coefficients_of bands_of predict first_row rest_row next_row next_rows scan_rows scan trimmed trimmed_cost fit_prefix halve upward elect numbers_from rebuilt numbers_ld left_ld slice_bytes numerator alternated low_bits kept_runs low_index low_plan low_slices component_bits high_bits slice_size share_of high_numbers high_index index_by high_plan largest_need scaler_from lit pack log2_in log2 interleaved code_u code_s codes zero_filled factor cap quant_factor quant_offset forward_by forward_quant inverse_by inverse_quant table_d2 table_d4 default_matrix within dot delta lifted analysis legall rows_by dwt_h dwt depth_limit evens odds haar0
 wrong_encoders = record {
-  one-sample = record { right = refl; apart = refl };
-  longer-output = record { right = refl; apart = refl };
-  short-output = record { right = refl; apart = refl };
+  one_sample_lem = record { right = refl; apart = refl };
+  longer_output = record { right = refl; apart = refl };
+  short_output = record { right = refl; apart = refl };
   two-slices = record { right = refl; apart = refl };
-  trimmed-share = record { right = refl; apart = refl };
+  trimmed_share = record { right = refl; apart = refl };
   two-zeros = record { right = refl; apart = refl };
-  fixed-index = record { right = refl; apart = refl };
+  fixed_index = record { right = refl; apart = refl };
   one_shift = record { right = refl; apart = refl };
-  final-scaler = record { right = refl; apart = refl };
-  chosen-anew = record { right = refl; apart = refl };
-  longer-work = record { right = refl; apart = refl };
-  two-parts = record { right = refl; apart = refl };
+  final_scaler = record { right = refl; apart = refl };
+  chosen_anew = record { right = refl; apart = refl };
+  longer_work = record { right = refl; apart = refl };
+  two_parts = record { right = refl; apart = refl };
   first-cut = record { right = refl; apart = refl };
   last_fits = record { right = refl; apart = refl };
-  not-the-least = record { right = refl; apart = refl };
+  not_the_least = record { right = refl; apart = refl };
   numerator_twice = record { right = refl; apart = refl };
-  mean-floors = record { right = refl; apart = refl };
-  colours-alternate = record { right = refl; apart = refl };
-  one-shift-low = record { right = refl; apart = refl };
-  setting-scaler = record { right = refl; apart = refl };
-  first-shift = record { right = refl; apart = refl };
+  mean_floors = record { right = refl; apart = refl };
+  colours_alternate = record { right = refl; apart = refl };
+  one_shift_low = record { right = refl; apart = refl };
+  setting_scaler = record { right = refl; apart = refl };
+  first_shift = record { right = refl; apart = refl };
   rows-first = record { right = refl; apart = refl };
-  height-halved = record { right = refl; apart = refl };
-  short-work = refl;
+  height_halved = record { right = refl; apart = refl };
+  short_work_lem = refl;
   numbers = record { right = refl; apart = refl };
 }
 
@@ -494,7 +494,7 @@ wrong_rows = record {
   legall-row = record { right = refl; apart = refl };
   fidelity-row = record { right = refl; apart = refl };
   row_numbers_lem = refl;
-  longest-row = record { right = refl; apart = refl };
+  longest_row = record { right = refl; apart = refl };
 }
 
 pub call_numbers : Numbers

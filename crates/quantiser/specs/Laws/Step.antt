@@ -17,7 +17,7 @@ use Rattle.quantiser.specs.Laws.Sign.{abs_signed}
 
 -- ---- a signed number is handed on as its bits
 pub back : (z : ℤ) → mag z < 2 ^ 63 → to_z w64 (of_z w64 z) ≡ z
-back z h = to_z-of_z (record { sfits = h })
+back z h = to_z-of_z {w = w64} (record { sfits = h })
 
 pub abs_read : (z : ℤ) (m : ℕ) → SFits w64 z → m ≡ nat_abs (to_z w64 (of_z w64 z)) → m ≡ nat_abs z
 abs_read z m h e = rw (to_z-of_z {w = w64} h) at e

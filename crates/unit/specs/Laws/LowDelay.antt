@@ -203,7 +203,7 @@ module _ (g : Grid) (m : List ℕ) (b : Three (List Band)) (n : ℕ) where
   pub low_many : (r : Three Plane) (k j : ℕ) → length (low_slices g m b n r k j) ≡ j
   unfolding low_slices
   low_many r k zero = refl
-  low_many r k (suc j) = ap suc (low_many _ (suc k) j)
+  low_many r k (suc j) = ap suc (low_many (low_left g m b r k (low_index g m b (slice_bytes n (slice_count g) k) r k)) (suc k) j)
 
   -- each takes exactly its slice bytes
   pub low_bytes : (r : Three Plane) (k j : ℕ) → 1 ≤ slice_count g → slice_count g ≤ n → map bytes_of (low_slices g m b n r k j) ≡ span (slice_bytes n (slice_count g)) k j

@@ -1,0 +1,19 @@
+-- `quantiser::forward_by` meets its contract.
+use mathlib.Core.Path.{◌∙◌}
+use mir.Syntax.{w64}
+use mir.Facts.{to_z-of_z}
+use borrow.Author.Rules.{rules}
+use Rattle.quantiser.specs.Laws.Step.{back, abs_read, forward_is}
+use Rattle.codewords.proofs.unsigned_abs.Reads as unsigned-abs-reads
+use Rattle.quantiser.proofs.cap.Reads as cap-reads
+use Rattle.quantiser.proofs.four_over.Reads as four-over-reads
+use Rattle.quantiser.proofs.signed.Reads as signed-Reads
+use Rattle.quantiser.proofs.forward_by.Goals as goal
+
+pub returns : goal.returns
+returns c =
+    let f = c.args.f in
+    let z = c.args.c in
+    let m = c.unsigned_abs-m.result in
+    back _ c.signed.type_inv ∙ c.signed.ensures
+    ∙ rw (to_z-of_z {w = w64} c.ranges.c) (forward_is f m _ _ z (abs_read z m c.ranges.c c.unsigned_abs-m.ensures.0) c.four_over.ensures c.cap.ensures.0)

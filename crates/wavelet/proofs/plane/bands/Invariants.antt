@@ -1,0 +1,13 @@
+-- `plane::bands` meets its contract. The loop's invariant: the first n bands are there.
+use Rattle.wavelet.specs.RowCall.{row_limit}
+use Rattle.std.proofs.Common.{◌+◌, ◌-◌, ◌*◌, ◌/◌, ◌%◌, ◌≤◌, mul-le-mul, arith}
+use Rattle.laws.specs.Laws.Window.{Parts, parts_first}
+use Rattle.wavelet.specs.Code.Copy.{band_of, BandIn}
+use Rattle.wavelet.specs.Laws.Copy.{bands_in, bands-turn, bands_all}
+use Rattle.wavelet.proofs.plane.bands.Given as goal
+
+abbrev pub invariant-loop-n : goal.invariant-loop-n
+invariant-loop-n l = Parts (band_of l.initial.work l.v l.a l.w) l.initial.work l.to (2 * l.v) (l.a * (l.w / 2)) l.work l.n l.at
+
+abbrev pub decreases-loop-n : goal.decreases-loop-n
+decreases-loop-n l = 2 * l.v - l.n
