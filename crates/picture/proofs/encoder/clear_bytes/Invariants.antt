@@ -1,0 +1,14 @@
+-- `encoder::clear_bytes` meets its contract. The invariant: the first i places are zeros.
+use mathlib.Core.Path.{◌≡◌, refl, ◌∙◌}
+use mathlib.Core.List.{◌++◌}
+use Prim.Native.Nat.{◌-◌, ◌≤◌}
+use lib.ListN.{length, drop, replicate, length-set}
+use Rattle.picture.specs.Laws.Encoded.{zeros-turn, zeros_all}
+use native.Mathlib.Omega.{arith}
+use Rattle.picture.proofs.encoder.clear_bytes.Given as goal
+
+abbrev pub invariant-loop-i : goal.invariant-loop-i
+invariant-loop-i l = (l.i ≤ length l.initial.a) × (length l.a ≡ length l.initial.a) × (l.a ≡ replicate l.i 0 ++ drop l.i l.initial.a)
+
+abbrev pub decreases-loop-i : goal.decreases-loop-i
+decreases-loop-i l = length l.initial.a - l.i

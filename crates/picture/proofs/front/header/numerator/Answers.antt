@@ -1,0 +1,18 @@
+-- `picture::front::header::numerator` meets its contract.
+use mathlib.Core.Path.{sym, ap, ◌∙◌}
+use Rattle.picture.specs.Code.Matrix.{lent_in}
+use Rattle.picture.specs.Code.Head.{numerator_after}
+use Rattle.picture.specs.Laws.Head.{numerator_twice}
+use borrow.Author.Rules.{rules}
+use Rattle.picture.proofs.front.header.numerator_after.Reads as numerator-after-reads
+use Rattle.picture.proofs.front.header.target_of.Reads as target-of-reads
+use Rattle.picture.proofs.front.header.numerator.Goals as goal
+
+pub returns : goal.returns
+returns c =
+    let a = c.args in
+    let s = a.s in
+    let m = lent_in a.m in
+    c.numerator_after.ensures
+    ∙ ap (numerator_after s m) (c.numerator_after-first.ensures ∙ ap (numerator_after s m) c.target_of.ensures)
+    ∙ sym (numerator_twice s m)

@@ -1,0 +1,21 @@
+-- `high::election::elect_qindex` meets its contract. The invariant: the least index that fits lies in the range.
+use Prim.Native.Nat.{◌-◌, ◌≤◌}
+use native.Mathlib.Omega.{arith}
+use Rattle.unit.specs.declared.PictureKind.TheVariants.{HighQuality}
+use Rattle.unit.specs.Limits.{last_index}
+use Rattle.unit.specs.HighQuality.{fits_by}
+use Rattle.picture.specs.Code.Picture.{numbers_in}
+use Rattle.picture.specs.Laws.HighIndex.{plan_slice}
+use Rattle.picture.specs.Laws.Rises.{fits_rises}
+use Rattle.picture.specs.Laws.Search.{Searches, search_start, search_turn, search_less, search_end}
+use Rattle.picture.proofs.high.election.fits.Reads as fits-reads
+use Rattle.picture.proofs.slices.search.narrowed.Reads as narrowed-reads
+use Rattle.picture.proofs.high.election.next_index.Reads as next-index-reads
+use Rattle.picture.proofs.slices.search.wider.Reads as wider-reads
+use Rattle.picture.proofs.high.election.elect_qindex.Given as goal
+
+abbrev pub invariant-loop-r : goal.invariant-loop-r
+invariant-loop-r l = Searches (fits_by l.t.prefix l.t.scaler l.share (numbers_in l.work l.p l.k)) l.t.lo (last_index HighQuality) l.r × ((1 ≤ l.step) × (l.step ≤ 256))
+
+abbrev pub decreases-loop-r : goal.decreases-loop-r
+decreases-loop-r l = l.r.hi - l.r.lo

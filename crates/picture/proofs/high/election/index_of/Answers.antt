@@ -1,0 +1,22 @@
+-- `high::election::index_of` meets its contract.
+use native.Mathlib.Omega.{arith}
+use Rattle.picture.specs.Laws.HighIndex.{index_lossless, index_fixed, index_elected, index-most}
+use borrow.Author.Rules.{rules}
+use Rattle.picture.proofs.high.election.elect_qindex.Reads as elect-qindex-reads
+use Rattle.picture.proofs.high.size.share_of.Reads as share-of-reads
+use Rattle.picture.proofs.slices.layout.slice_count.Reads as slice-count-reads
+use Rattle.picture.proofs.high.election.index_of.Goals as goal
+
+pub returns-in-Lossless : goal.returns-in-Lossless
+returns-in-Lossless c = let a = c.args in (index_lossless a.work.now a.p a.t a.k c.in-Lossless.is, omega arith)
+
+pub returns-in-FixedQuantIndex : goal.returns-in-FixedQuantIndex
+returns-in-FixedQuantIndex c =
+    let a = c.args in
+    index_fixed a.work.now a.p a.t a.k c.requires.0.terms _ c.in-FixedQuantIndex.is
+
+pub returns-in-PictureBytes : goal.returns-in-PictureBytes
+returns-in-PictureBytes c =
+    let a = c.args in
+    let e = index_elected a.work.now a.p a.t a.k _ _ _ _ c.in-PictureBytes.is c.slice_count.ensures.0 c.share_of-share.ensures c.elect_qindex.ensures in
+    (e, omega (arith, e, index-most a.work.now a.p a.t a.k c.requires.0.terms))

@@ -1,0 +1,43 @@
+use mathlib.Core.Path.{◌≡◌, sym, ap, ◌∙◌}
+use Prim.Native.Nat.{◌-◌, ◌≤◌}
+use native.Mathlib.Omega.{arith}
+use Rattle.laws.specs.Code.Chunks.{chunks}
+use Rattle.picture.specs.Code.Strip.{Inside}
+use Rattle.picture.specs.Laws.Strip.{places, row-chunks}
+use Rattle.picture.specs.Code.Packed.{Packs}
+use Rattle.picture.specs.Laws.Packed.{packs_same, packs_start, packs_length, row_ready, row-turn}
+use Rattle.picture.proofs.high.packed.pack_row.Goals as goal
+use Rattle.picture.proofs.high.packed.pack_row.Goals.{In-loop-x}
+
+within : (c : In-loop-x) → let a = c.args in Inside a.s a.y c.loop-x.x
+within c =
+    let h = c.requires in
+    record { below = h.1.0; above = h.1.1; right_of = c.loop-x.invariant.0; left-of = c.loop-x-test.true }
+
+pub loop-x-init : goal.loop-x-init
+loop-x-init c =
+    let a = c.args in
+    let h = c.requires.0.holds.0.plain in
+    (omega arith, (h.within.columns, packs_start (places a.work.now a.s a.y a.s.left) a.work.now a.t a.s.left))
+
+pub pack_place-r-requires : goal.pack_place-r-requires
+pack_place-r-requires c =
+    let a = c.args in
+    let l = c.loop-x in
+    let i = within (goal.at.pack_place-r-requires c).In-loop-x in
+    (row_ready c.requires.0.holds.0 a.y l.x i c.requires.0.holds.1 l.invariant.1.1, i)
+
+pub loop-x-preserved : goal.loop-x-preserved
+loop-x-preserved c =
+    let a = c.args in
+    let l = c.loop-x in
+    let i = within (goal.at.loop-x-preserved c).In-loop-x in
+    (omega (arith, l.invariant.0), (omega (arith, i.left-of), row-turn c.requires.0.holds.0 a.y l.x i c.requires.0.holds.1 l.invariant.1.1 c.pack_place-r.ensures))
+
+pub returns : goal.returns
+returns c =
+    let a = c.args in
+    let l = c.loop-x in
+    let e : l.x - a.s.left ≡ a.s.right - a.s.left = omega (arith, l.invariant.1.0, c.loop-x-test.false) in
+    let F = places a.work.now a.s a.y a.s.left in
+    packs_same (ap (chunks F) e ∙ sym (row-chunks a.work.now a.s a.y a.s.left (a.s.right - a.s.left))) l.invariant.1.1

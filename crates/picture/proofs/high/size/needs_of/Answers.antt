@@ -1,0 +1,10 @@
+-- `high::size::needs_of` meets its contract.
+use Rattle.picture.specs.Laws.HighIndex.{needs_by_lem}
+use borrow.Author.Rules.{rules}
+use Rattle.picture.proofs.high.size.need.Reads as need-reads
+use Rattle.picture.proofs.high.size.needs_of.Goals as goal
+
+pub returns : goal.returns
+returns c =
+    let a = c.args in
+    needs_by_lem a.y a.c1 a.c2 _ _ _ c.need.ensures c.need-2.ensures c.need-3.ensures

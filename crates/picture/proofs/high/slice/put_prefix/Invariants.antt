@@ -1,0 +1,14 @@
+-- `high::slice::put_prefix` meets its contract. The loop's invariant: i bytes are written.
+use Prim.Native.Nat.{◌*◌, ◌-◌, ◌≤◌}
+use native.Mathlib.Omega.{arith}
+use Rattle.codewords.specs.Bit.{zero_bits}
+use Rattle.codewords.specs.Code.Writer.{Wrote}
+use Rattle.codewords.specs.Laws.Writer.{wrote_none}
+use Rattle.picture.specs.Laws.HighSlice.{prefix_next, prefix_turn, prefix_all}
+use Rattle.picture.proofs.high.slice.put_prefix.Given as goal
+
+abbrev pub invariant-loop-i : goal.invariant-loop-i
+invariant-loop-i l = (l.i ≤ l.n) × Wrote l.initial.out l.initial.s (zero_bits (8 * l.i)) l.out l.s
+
+abbrev pub decreases-loop-i : goal.decreases-loop-i
+decreases-loop-i l = l.n - l.i

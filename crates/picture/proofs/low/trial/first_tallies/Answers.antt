@@ -1,0 +1,13 @@
+-- `low::trial::first_tallies` meets its contract.
+use mathlib.Core.Path.{ap}
+use Rattle.picture.specs.declared.low.trial.Windows.{Windows}
+use Rattle.picture.specs.Laws.Layout.{run_lies}
+use Rattle.picture.specs.Laws.Picture.{run_y, run_pair}
+use borrow.Author.Rules.{rules}
+use Rattle.picture.proofs.low.trial.first_tallies.Goals as goal
+
+pub first_tally-requires : goal.first_tally-requires
+first_tally-requires c = let h = c.requires in (run_lies (run_y h.0), (h.0.arranged.y.area, ap (λ (v : Windows). v.luma) h.1))
+
+pub first_tally-requires-2 : goal.first_tally-requires-2
+first_tally-requires-2 c = let h = c.requires in (run_lies (run_pair h.0), (h.0.arranged.c1.area, ap (λ (v : Windows). v.colour) h.1))
