@@ -109,12 +109,12 @@ pub extern "C" fn vc2_encode_picture(
 ) -> u32
     ensures { Picture settings.now matrix.now (planes y.now c1.now c2.now)
         out.old work.old
-        (record { written = written.entry.now; cut = cut_slices.old; scaler = slice_size_scaler.old })
+        (record { written = written.old; cut = cut_slices.old; scaler = slice_size_scaler.old })
         (record {
           number = result;
           output = out.new;
           work = work.new;
-          values = record { written = written.exit.now; cut = cut_slices.new; scaler = slice_size_scaler.new };
+          values = record { written = written.new; cut = cut_slices.new; scaler = slice_size_scaler.new };
         }) }
 {
     if !words::known(settings) {

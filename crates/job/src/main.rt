@@ -6,9 +6,10 @@
 // unit's bytes, 16 a line.
 #![tactic(auto)]
 
-use libc::{STDIN_FILENO, STDOUT_FILENO};
+use jobs::input::read_full;
+use std::io::{self, Write};
 
-fn main() {
+fn main(rt: HostRuntime) -> io::Result<()> {
     // One word more than the longest job has: what is longer is malformed.
     let mut bytes = [0u8; 16732];
     let mut words = [0u32; 4183];
@@ -17,7 +18,8 @@ fn main() {
     let mut work = [0i64; 6144];
     let mut out = [0u8; 8192];
     let mut text = [0u8; 24640];
-    let got = io::read_full(STDIN_FILENO, &mut bytes);
+    let mut input = rt.reader();
+    let got = read_full(&mut input, &mut bytes)?;
     let n = jobs::encode::run(
         &bytes[..got],
         &mut words,
@@ -27,5 +29,6 @@ fn main() {
         &mut out,
         &mut text,
     );
-    io::write_all(STDOUT_FILENO, &text[..n]);
+    let mut output = io::writer(&rt);
+    output.write_all(&text[..n])
 }

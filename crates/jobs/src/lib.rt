@@ -2,5 +2,6 @@
 #![tactic(auto)]
 
 pub mod encode;
+pub mod input;
 mod parse;
 mod print;

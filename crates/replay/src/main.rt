@@ -35,7 +35,8 @@ mod transform;
 ghost use Rattle.std.specs.Prelude.{◌*◌, ◌≤◌, ◌<◌, ◌≡◌, length};
 
 use case::Verdict;
-use libc::STDIN_FILENO;
+use jobs::input::read_full;
+use std::io::{self, Read};
 use tally::Tally;
 
 // A case of the quantiser is run.
@@ -82,51 +83,63 @@ fn run_bytes(kind: u64, n: usize, bytes: &[u8], words: &mut [u64]) -> Verdict
 }
 
 // One case more is read and run.
-fn step(bytes: &mut [u8], words: &mut [u64], t: Tally) -> Tally
+fn step<R: Read>(
+    rt: &impl Print,
+    input: &mut R,
+    bytes: &mut [u8],
+    words: &mut [u64],
+    t: Tally,
+) -> io::Result<Tally>
     requires { (65536 ≡ length bytes.old) × (8192 ≡ length words.old) }
 {
-    let head = io::read_full(STDIN_FILENO, &mut bytes[..8]);
+    let head = read_full(input, &mut bytes[..8])?;
     if head == 0 {
-        return t.ended();
+        return Ok(t.ended());
     }
     if head < 8 {
-        return t.cut(0);
+        return t.cut(rt, 0);
     }
     let first = case::word_at(bytes, 0);
     let kind = first / 0x1_0000_0000;
     let n = (first % 0x1_0000_0000) as usize;
     if n > 8192 {
-        return t.cut(kind);
+        return t.cut(rt, kind);
     }
     let e = 8 * n;
-    let got = io::read_full(STDIN_FILENO, &mut bytes[..e]);
+    let got = read_full(input, &mut bytes[..e])?;
     if got < e {
-        return t.cut(kind);
+        return t.cut(rt, kind);
     }
     let v = run_bytes(kind, n, bytes, words);
-    t.counted(kind, v)
+    t.counted(rt, kind, v)
 }
 
 // All cases, at most a million.
-fn replay(bytes: &mut [u8], words: &mut [u64]) -> Tally
+fn replay<R: Read>(
+    rt: &impl Print,
+    input: &mut R,
+    bytes: &mut [u8],
+    words: &mut [u64],
+) -> io::Result<Tally>
     requires { (65536 ≡ length bytes.old) × (8192 ≡ length words.old) }
 {
     let mut t = Tally::new();
     let mut turns: u64 = 1000000;
     while 0 < turns {
-        t = step(bytes, words, t);
+        t = step(rt, input, bytes, words, t)?;
         if t.done {
             turns = 0;
         } else {
             turns -= 1;
         }
     }
-    t
+    Ok(t)
 }
 
-fn main() {
+fn main(rt: HostRuntime) -> io::Result<()> {
     let mut bytes = [0u8; 65536];
     let mut words = [0u64; 8192];
-    let t = replay(&mut bytes, &mut words);
-    t.print();
+    let mut input = rt.reader();
+    let t = replay(&rt, &mut input, &mut bytes, &mut words)?;
+    t.print(&rt)
 }

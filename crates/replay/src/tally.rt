@@ -2,7 +2,7 @@
 ghost use Rattle.std.specs.Prelude.{◌<◌};
 
 use crate::case::Verdict;
-use libc::STDOUT_FILENO;
+use std::io;
 
 #[derive(Clone, Copy)]
 pub(crate) struct Tally {
@@ -17,13 +17,8 @@ fn more(n: u64) -> u64 {
     if n < 1000000 { n + 1 } else { n }
 }
 
-fn say(text: &[u8], number: u64, kind: u64) {
-    io::write_all(STDOUT_FILENO, text);
-    io::write_all(STDOUT_FILENO, b" case ");
-    io::print_decimal(STDOUT_FILENO, number);
-    io::write_all(STDOUT_FILENO, b" kind ");
-    io::print_decimal(STDOUT_FILENO, kind);
-    io::write_all(STDOUT_FILENO, b"\n");
+fn say(rt: &impl Print, text: &str, number: u64, kind: u64) -> io::Result<()> {
+    println!(rt; "{text} case {number} kind {kind}")
 }
 
 impl Tally {
@@ -44,17 +39,17 @@ impl Tally {
     }
 
     // A case that is cut off or too long: the run ends.
-    pub(crate) fn cut(self, kind: u64) -> Tally {
-        let mut t = self.broken(kind);
+    pub(crate) fn cut(self, rt: &impl Print, kind: u64) -> io::Result<Tally> {
+        let mut t = self.broken(rt, kind)?;
         t.done = true;
-        t
+        Ok(t)
     }
 
-    fn broken(mut self, kind: u64) -> Tally {
+    fn broken(mut self, rt: &impl Print, kind: u64) -> io::Result<Tally> {
         self.cases = more(self.cases);
         self.malformed = more(self.malformed);
-        say(b"malformed", self.cases, kind);
-        self
+        say(rt, "malformed", self.cases, kind)?;
+        Ok(self)
     }
 
     fn ran(mut self, kind: usize) -> Tally
@@ -65,55 +60,48 @@ impl Tally {
         self
     }
 
-    fn differs(mut self, kind: usize) -> Tally
+    fn differs(mut self, rt: &impl Print, kind: usize) -> io::Result<Tally>
         requires { kind < 64 }
     {
         self.differ[kind] = more(self.differ[kind]);
-        say(b"differs", self.cases, kind as u64);
-        self
+        say(rt, "differs", self.cases, kind as u64)?;
+        Ok(self)
     }
 
     // One case more. A kind from 64 on is always malformed.
-    pub(crate) fn counted(self, kind: u64, v: Verdict) -> Tally {
+    pub(crate) fn counted(self, rt: &impl Print, kind: u64, v: Verdict) -> io::Result<Tally> {
         if kind >= 64 {
-            return self.broken(kind);
+            return self.broken(rt, kind);
         }
         let k = kind as usize;
         match v {
-            Verdict::Malformed => self.broken(kind),
-            Verdict::Same => self.ran(k),
-            Verdict::Differs => self.ran(k).differs(k),
+            Verdict::Malformed => self.broken(rt, kind),
+            Verdict::Same => Ok(self.ran(k)),
+            Verdict::Differs => self.ran(k).differs(rt, k),
         }
     }
 
-    fn line(self, name: &[u8], kind: usize)
+    fn line(self, rt: &impl Print, name: &str, kind: usize) -> io::Result<()>
         requires { kind < 64 }
     {
-        io::write_all(STDOUT_FILENO, name);
-        io::write_all(STDOUT_FILENO, b": ");
-        io::print_decimal(STDOUT_FILENO, self.run[kind]);
-        io::write_all(STDOUT_FILENO, b" run, ");
-        io::print_decimal(STDOUT_FILENO, self.differ[kind]);
-        io::write_all(STDOUT_FILENO, b" differ\n");
+        println!(rt; "{name}: {} run, {} differ", self.run[kind], self.differ[kind])
     }
 
-    pub(crate) fn print(self) {
-        self.line(b"uint_code_len", 1);
-        self.line(b"sint_code_len", 2);
-        self.line(b"put_uint", 3);
-        self.line(b"put_sint", 4);
-        self.line(b"put_nbits", 5);
-        self.line(b"quant_factor", 16);
-        self.line(b"quant_offset", 17);
-        self.line(b"forward_quant", 18);
-        self.line(b"inverse_quant", 19);
-        self.line(b"default_quant_matrix", 20);
-        self.line(b"oned_analysis", 32);
-        self.line(b"dwt", 33);
-        self.line(b"long row", 34);
-        self.line(b"job", 48);
-        io::write_all(STDOUT_FILENO, b"malformed: ");
-        io::print_decimal(STDOUT_FILENO, self.malformed);
-        io::write_all(STDOUT_FILENO, b"\n");
+    pub(crate) fn print(self, rt: &impl Print) -> io::Result<()> {
+        self.line(rt, "uint_code_len", 1)?;
+        self.line(rt, "sint_code_len", 2)?;
+        self.line(rt, "put_uint", 3)?;
+        self.line(rt, "put_sint", 4)?;
+        self.line(rt, "put_nbits", 5)?;
+        self.line(rt, "quant_factor", 16)?;
+        self.line(rt, "quant_offset", 17)?;
+        self.line(rt, "forward_quant", 18)?;
+        self.line(rt, "inverse_quant", 19)?;
+        self.line(rt, "default_quant_matrix", 20)?;
+        self.line(rt, "oned_analysis", 32)?;
+        self.line(rt, "dwt", 33)?;
+        self.line(rt, "long row", 34)?;
+        self.line(rt, "job", 48)?;
+        println!(rt; "malformed: {}", self.malformed)
     }
 }

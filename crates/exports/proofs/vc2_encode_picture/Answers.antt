@@ -1,0 +1,42 @@
+-- `vc2_encode_picture` meets its contract.
+use mathlib.Core.Path.{◌≡◌, sym, ◌∙◌}
+use mathlib.Core.Bool.{true}
+use borrow.Author.Tests.{not-true, not-false}
+use Rattle.unit.specs.Words.{known}
+use Rattle.unit.specs.Three.{planes}
+use Rattle.exports.specs.Laws.Calls.{picture_unknown, picture_accepted, picture_refused}
+use borrow.Author.Rules.{rules}
+use Rattle.picture.proofs.encoder.encode_picture.Reads as encode-picture-reads
+use Rattle.words.proofs.known.Reads as known-reads
+use Rattle.words.proofs.settings_of.Reads as settings-of-reads
+use Rattle.exports.proofs.vc2_encode_picture.Goals as goal
+use Rattle.exports.proofs.vc2_encode_picture.Goals.{Else-not-known}
+
+pub returns-then-not-known : goal.returns-then-not-known
+returns-then-not-known c =
+    let a = c.args in
+    picture_unknown a.settings.now a.matrix.now (planes a.y.now a.c1.now a.c2.now) a.out.now a.work.now _
+    (sym c.known.ensures ∙ c.if-not-known.true)
+
+-- the words are settings
+are-known : (c : Else-not-known) → known c.args.settings.now ≡ true
+are-known c = sym c.known.ensures ∙ c.if-not-known.false
+
+pub settings_of-s-requires : goal.settings_of-s-requires
+settings_of-s-requires c = are-known c
+
+pub returns-in-Accepted : goal.returns-in-Accepted
+returns-in-Accepted c =
+    let a = c.args in
+    let k = c.settings_of-s in
+    let e = c.encode_picture-r in
+    picture_accepted a.settings.now a.matrix.now (planes a.y.now a.c1.now a.c2.now) a.out.now a.work.now _ k.result
+    e.new.out e.new.work e.result (are-known (goal.at.returns-in-Accepted c).Else-not-known) k.ensures e.ensures _ c.in-Accepted.is
+
+pub returns-in-Refused : goal.returns-in-Refused
+returns-in-Refused c =
+    let a = c.args in
+    let k = c.settings_of-s in
+    let e = c.encode_picture-r in
+    picture_refused a.settings.now a.matrix.now (planes a.y.now a.c1.now a.c2.now) a.out.now a.work.now _ k.result
+    e.new.out e.new.work e.result (are-known (goal.at.returns-in-Refused c).Else-not-known) k.ensures e.ensures _ c.in-Refused.is

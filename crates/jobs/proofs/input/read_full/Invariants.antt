@@ -1,0 +1,9 @@
+-- `input::read_full` ends: less of buf is left after each read.
+use Rattle.std.proofs.Common.{◌-◌, ◌≤◌, length}
+use Rattle.jobs.proofs.input.read_full.Given as goal
+
+abbrev pub invariant-loop-done : goal.invariant-loop-done
+invariant-loop-done g l = l.done ≤ length l.buf
+
+abbrev pub decreases-loop-done : goal.decreases-loop-done
+decreases-loop-done g l = length l.buf - l.done

@@ -1,0 +1,5 @@
+-- `print::put_number` calls itself. The measure is the number.
+use Rattle.jobs.proofs.print.+put_number.Given as goal
+
+abbrev pub decreases-put_number : goal.decreases-put_number
+decreases-put_number l = l.n

@@ -1,0 +1,10 @@
+-- `print::put_byte` meets its contract.
+use Rattle.jobs.specs.Laws.Print.{chunk-laid}
+use borrow.Author.Rules.{rules}
+use Rattle.jobs.proofs.print.put_byte.Goals as goal
+
+pub returns : goal.returns
+returns c =
+    let a = c.args in
+    chunk-laid a.b a.last c.digit.ensures c.digit-2.ensures c.gap.ensures
+    c.put-i.ensures c.put-j.ensures c.put.ensures
