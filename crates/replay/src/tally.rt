@@ -84,7 +84,9 @@ impl Tally {
     fn line(self, rt: &impl Print, name: &str, kind: usize) -> io::Result<()>
         requires { kind < 64 }
     {
-        println!(rt; "{name}: {} run, {} differ", self.run[kind], self.differ[kind])
+        let run = self.run[kind];
+        let differ = self.differ[kind];
+        println!(rt; "{name}: {run} run, {differ} differ")
     }
 
     pub(crate) fn print(self, rt: &impl Print) -> io::Result<()> {
