@@ -173,6 +173,8 @@ def main(argv):
             def put(m):
                 t = m.group(0)
                 before = text[m.start() - 1:m.start()]
+                if t not in camel and text[text.rfind("\n", 0, m.start()) + 1:m.start()].lstrip().startswith("--"):
+                    return t
                 if t in names:
                     return names[t]
                 if t in fields and (before == "." or re.match(r"\s*=\s", text[m.end():m.end() + 3])):

@@ -42,7 +42,7 @@ unfolding analysis
 one_number wr [] z = refl
 one_number wr (st ∷ ss) z = rw (one_number wr ss z) (one-stage wr st (not st.adds) z)
 
--- ---- one_slice_lem 4:4:4 low delay
+-- ---- one-slice 4:4:4 low delay
 -- both wavelets 1, both depths 0, default matrix, not extended, target 51; the other settings are those of r
 unfoldable pub one_slice : Settings → Settings
 one_slice r = record {
@@ -119,7 +119,7 @@ pub record MarkedExamples : Type 0 where
   -- band width 5 in two slices: 0 to 2, 2 to 5
   pub slice_0 : (left halves five 0 ≡ 0) × (right halves five 0 ≡ 2)
   pub slice_1 : (left halves five 1 ≡ 2) × (right halves five 1 ≡ 5)
-  -- one_slice_lem 4:4:4 low delay, target 51: numerator 31, and 52 bytes for every picture
+  -- one-slice 4:4:4 low delay, target 51: numerator 31, and 52 bytes for every picture
   pub one_slice_numerator : (r : Settings) (m : List ℕ) → numerator_of (one_slice r) m ≡ 31
   pub one_slice_length : (r : Settings) (m : List ℕ) (p : Three (List ℕ)) → length_of (one_slice r) (plan_of (one_slice r) m p) ≡ 52
 
