@@ -27,4 +27,3 @@ pub mod DepthExamples
 pub mod CutExamples
 pub mod Wrong
 pub mod Code
-pub mod Laws

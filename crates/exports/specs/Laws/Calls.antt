@@ -14,13 +14,13 @@ use Rattle.unit.specs.declared.Coded.{Coded}
 use Rattle.unit.specs.declared.Answer.{Answer}
 use Rattle.unit.specs.declared.Answer.TheVariants.{Accepted, Refused}
 use Rattle.unit.specs.Three.{Three}
-use Rattle.unit.specs.Laws.Test.{no_truth}
+use Rattle.unit.proofs.Laws.Test.{no_truth}
 use Rattle.unit.specs.Refusal.{refusal_of}
 use Rattle.unit.specs.Plan.{Plan}
 use Rattle.unit.specs.Unit.{plan_of, length_of}
 use Rattle.unit.specs.Words.{known, settings_of}
 use Rattle.unit.specs.Outcome.{Outcome, number_of, coding_refusal, coded_if, outcome_if, outcome_of}
-use Rattle.unit.specs.Laws.Demand.{is_accepted}
+use Rattle.unit.proofs.Laws.Demand.{is_accepted}
 use Rattle.unit.specs.Demand.{Undropped, Demand3}
 use Rattle.unit.specs.Encoded.{Encodes}
 use Rattle.exports.specs.Calls.{Gives, Values, values_of, Left, left_if, left_of, Picture}

@@ -11,7 +11,7 @@ use Rattle.unit.specs.Unit.{plan_of, length_of}
 use Rattle.unit.specs.Refusal.{any_above, refusal_of}
 use Rattle.unit.specs.Words.{known, settings_of}
 use Rattle.unit.specs.Outcome.{tells, length_in, coded_of, coding_refusal, coded_if, coded, Outcome, outcome_if, outcome_of}
-use Rattle.unit.specs.Laws.Demand.{not-long}
+use Rattle.unit.proofs.Laws.Demand.{not-long}
 use Rattle.unit.specs.Encoded.{Encodes}
 use Rattle.jobs.specs.declared.parse.Ends.{Ends}
 use Rattle.jobs.specs.Job.{words_of, content_of, parts_of, in_order, line_of, bytes_from, unit_in, text_of, job_text, outcome_in, printed}

@@ -11,7 +11,7 @@ use Rattle.std.proofs.lemmas.Bool.{not-true}
 use Rattle.laws.specs.Code.Laid.{Lays}
 use Rattle.laws.specs.Laws.Laid.{lays_on}
 use Rattle.unit.specs.Refusal.{any_above}
-use Rattle.unit.specs.Laws.Test.{or-none, all_most, most-at}
+use Rattle.unit.proofs.Laws.Test.{or-none, all_most, most-at}
 use Rattle.unit.specs.Words.{word_at, known}
 use Rattle.words.specs.Laws.Words.{both_true, known-long}
 use Rattle.jobs.specs.declared.parse.Ends.{Ends}

@@ -6,7 +6,7 @@ use Rattle.std.proofs.Math.Decide.{dec_le, dec_lt}
 use Rattle.std.proofs.Math.Arith.{digits_lt}
 use Rattle.laws.specs.Rows.{at}
 use Rattle.quantiser.specs.Quant.{forward_by, inverse_by}
-use Rattle.unit.specs.Laws.Scan.{Neighbours, by_neighbours, predict-same}
+use Rattle.unit.proofs.Laws.Scan.{Neighbours, by_neighbours, predict-same}
 use Rattle.picture.specs.declared.slices.strip.Strip.{Strip}
 use Rattle.picture.specs.declared.slices.layout.Component.{Component}
 use Rattle.picture.specs.declared.slices.layout.Picture.{Picture}

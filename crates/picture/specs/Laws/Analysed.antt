@@ -28,16 +28,16 @@ use Rattle.unit.specs.Sizes.{Size, luma_size, colour_size, depths_of, offset_of}
 use Rattle.unit.specs.Slices.{slice_count}
 use Rattle.unit.specs.Subbands.{subband_count}
 use Rattle.unit.specs.Matrix.{default_of, matrix_values}
-use Rattle.unit.specs.Laws.Matrix.{MatrixIf, default_matrix_lem, plan-same}
+use Rattle.unit.proofs.Laws.Matrix.{MatrixIf, default_matrix_lem, plan-same}
 use Rattle.unit.specs.Parameters.{overhead}
 use Rattle.unit.specs.Coefficients.{bands_of, coefficients_of}
 use Rattle.unit.specs.Plan.{SlicePlan, Plan}
 use Rattle.unit.specs.Unit.{major_version, grid_of, plan_of, slice_runs, head_bits, length_of, unit_of}
-use Rattle.unit.specs.Laws.Unit.{length-unit}
+use Rattle.unit.proofs.Laws.Unit.{length-unit}
 use Rattle.unit.specs.Outcome.{coded_of, coding_refusal}
-use Rattle.unit.specs.Laws.Demand.{not-long}
+use Rattle.unit.proofs.Laws.Demand.{not-long}
 use Rattle.unit.specs.Code.Valid.{MatrixFits, Valid, Sized}
-use Rattle.unit.specs.Laws.Valid.{levels_few, luma_sides, colour_sides}
+use Rattle.unit.proofs.Laws.Valid.{levels_few, luma_sides, colour_sides}
 use Rattle.picture.specs.declared.front.matrix.Carried.{Carried}
 use Rattle.picture.specs.Code.Matrix.{lent_in, Carries, CarriedOf}
 use Rattle.picture.specs.Code.Head.{CanCarry}

@@ -26,8 +26,8 @@ use Rattle.unit.specs.Matrix.{matrix_values}
 use Rattle.unit.specs.Coefficients.{bands_of, coefficients_of}
 use Rattle.unit.specs.Code.Valid.{Between}
 use Rattle.unit.specs.Code.Valid as valid
-use Rattle.unit.specs.Laws.Intlog2.{depth_range, offset_is, offset_range}
-use Rattle.unit.specs.Laws.Padded.{padded_is}
+use Rattle.unit.proofs.Laws.Intlog2.{depth_range, offset_is, offset_range}
+use Rattle.unit.proofs.Laws.Padded.{padded_is}
 use Rattle.picture.specs.declared.slices.layout.Component.{Component}
 use Rattle.picture.specs.declared.slices.layout.Layout.{Layout}
 use Rattle.picture.specs.declared.slices.layout.Picture.{Picture}

@@ -7,7 +7,7 @@ use Rattle.std.proofs.Math.Seq.{append_snoc}
 use Rattle.codewords.specs.CodeWord.{code_s, codes}
 use Rattle.codewords.specs.Laws.Code.{codes-more, length-code_s-zero, length-code_s}
 use Rattle.unit.specs.Trim.{is_zero, trim_cons, trimmed, bits_of, trimmed_cost, fit_prefix}
-use Rattle.unit.specs.Laws.Trim.{Small, bits_most, fit_all, fit_prefix_lem}
+use Rattle.unit.proofs.Laws.Trim.{Small, bits_most, fit_all, fit_prefix_lem}
 use Rattle.picture.specs.declared.slices.cost.Cost.{Cost}
 use Rattle.picture.specs.Code.Cost.{fitted, kept, add_len, add1, added, add_all, no_cost, Countable, KeptTo}
 use Rattle.picture.specs.Laws.Added.{added-one}

@@ -12,7 +12,7 @@ use Rattle.std.proofs.Math.Arith.{digits_div, digits_mod}
 use Rattle.std.proofs.Math.ListN.{length, length-append}
 use Rattle.unit.specs.Sizes.{Size, area}
 use Rattle.unit.specs.Slices.{bound, slice_count, part_size}
-use Rattle.unit.specs.Laws.Slice.{bound_rises, bound-most}
+use Rattle.unit.proofs.Laws.Slice.{bound_rises, bound-most}
 use Rattle.picture.specs.declared.slices.layout.Component.{Component}
 use Rattle.picture.specs.declared.slices.layout.Layout.{Layout}
 use Rattle.picture.specs.Code.Layout.{band_count, grid_in, band_size, start_of, run_numbers, LayoutIn}

@@ -5,7 +5,7 @@ use Rattle.std.proofs.Common.{sym, ◌∙◌, arith, lt-ltb, le-ltb, ltb-true, l
 use Rattle.std.proofs.Math.Bool.{true, false}
 use Prim.Native.Nat.{ℕ, zero, suc, ◌+◌, ◌-◌, ◌/◌, ◌≤◌, ◌<◌}
 use Rattle.unit.specs.Elect.{halve, elect}
-use Rattle.unit.specs.Laws.Elect.{elect-halves}
+use Rattle.unit.proofs.Laws.Elect.{elect-halves}
 use Rattle.picture.specs.declared.slices.search.Range.{Range}
 use Rattle.picture.specs.Code.Search.{half_of}
 

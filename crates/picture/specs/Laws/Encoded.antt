@@ -14,8 +14,8 @@ use Rattle.unit.specs.Refusal.{refusal_of}
 use Rattle.unit.specs.Plan.{Plan}
 use Rattle.unit.specs.Unit.{plan_of, length_of}
 use Rattle.unit.specs.Outcome.{number_of, tells, coded_of, Outcome, coding_refusal, coded_if, coded, outcome_if, outcome_of}
-use Rattle.unit.specs.Laws.Planned.{Component, Y, C1, C2, pick}
-use Rattle.unit.specs.Laws.Demand.{Typed, accepted, accepted_uncut}
+use Rattle.unit.proofs.Laws.Planned.{Component, Y, C1, C2, pick}
+use Rattle.unit.proofs.Laws.Demand.{Typed, accepted, accepted_uncut}
 use Rattle.unit.specs.Encoded.{told_by, Encodes}
 use Rattle.picture.specs.Code.Coded.{answer_by, output_by, Codes, cleared_by}
 

@@ -14,12 +14,12 @@ use Rattle.unit.specs.declared.RateControl.TheVariants.{Lossless, FixedQuantInde
 use Rattle.unit.specs.Limits.{area_limit, last_index}
 use Rattle.unit.specs.Three.{Three}
 use Rattle.unit.specs.Slices.{part_size}
-use Rattle.unit.specs.Laws.Slice.{part_size-most}
+use Rattle.unit.proofs.Laws.Slice.{part_size-most}
 use Rattle.unit.specs.Trim.{trimmed_cost}
-use Rattle.unit.specs.Laws.Trim.{cost-most}
+use Rattle.unit.proofs.Laws.Trim.{cost-most}
 use Rattle.unit.specs.Elect.{elect}
-use Rattle.unit.specs.Laws.Elect.{elected}
-use Rattle.unit.specs.Laws.Test.{no_truth}
+use Rattle.unit.proofs.Laws.Elect.{elected}
+use Rattle.unit.proofs.Laws.Test.{no_truth}
 use Rattle.unit.specs.Code.Valid.{RateFits}
 use Rattle.unit.specs.HighQuality.{slice_size_by, need_of, slice_size, share_of, fits_by, index_by}
 use Rattle.picture.specs.declared.slices.layout.Component.{Component}

@@ -25,16 +25,16 @@ use Rattle.unit.specs.Coefficients.{coefficients_of}
 use Rattle.unit.specs.Quantised.{numbers_hq}
 use Rattle.unit.specs.Plan.{SlicePlan, Plan}
 use Rattle.unit.specs.HighQuality.{share_of, index_by, high_plan_of, high_numbers, high_index, high_plan, scaler_from}
-use Rattle.unit.specs.Laws.HighQuality.{needs_most}
+use Rattle.unit.proofs.Laws.HighQuality.{needs_most}
 use Rattle.unit.specs.Unit.{major_version, grid_of, high_parameters, high_bytes, high_slices_of, scaler_of, plan_of, slice_runs, head_bits, length_of}
 use Rattle.unit.specs.Unit as unit
 use Rattle.unit.specs.Cut.{cut_count}
 use Rattle.unit.specs.Outcome.{coded_of, coding_refusal}
-use Rattle.unit.specs.Laws.Demand.{not-long}
-use Rattle.unit.specs.Laws.Drop.{Whole, all_high, whole_count}
+use Rattle.unit.proofs.Laws.Demand.{not-long}
+use Rattle.unit.proofs.Laws.Drop.{Whole, all_high, whole_count}
 use Rattle.unit.specs.Code.Valid.{RateFits}
-use Rattle.unit.specs.Laws.Valid.{target_few}
-use Rattle.unit.specs.Laws.Soundness.{three, coefficients-within}
+use Rattle.unit.proofs.Laws.Valid.{target_few}
+use Rattle.unit.proofs.Laws.Soundness.{three, coefficients-within}
 use Rattle.picture.specs.declared.slices.layout.Component.{Component}
 use Rattle.picture.specs.declared.slices.layout.Picture.{Picture}
 use Rattle.picture.specs.declared.high.size.Terms.{Terms}

@@ -21,10 +21,10 @@ use Rattle.unit.specs.declared.RateControl.TheVariants.{Lossless, FixedQuantInde
 use Rattle.unit.specs.Limits.{side_limit, lowest_index}
 use Rattle.unit.specs.Three.{Three}
 use Rattle.unit.specs.Plan.{SlicePlan}
-use Rattle.unit.specs.Laws.Valid.{target_few}
+use Rattle.unit.proofs.Laws.Valid.{target_few}
 use Rattle.unit.specs.Parameters.{overhead}
 use Rattle.unit.specs.HighQuality.{slice_size_by, need_of, slice_size, high_bits, largest_need, scaler_from}
-use Rattle.unit.specs.Laws.HighQuality.{length_high, next_rises}
+use Rattle.unit.proofs.Laws.HighQuality.{length_high, next_rises}
 use Rattle.unit.specs.Unit.{major_version, high_parameters, target_of}
 use Rattle.picture.specs.declared.slices.layout.Picture.{Picture}
 use Rattle.picture.specs.declared.high.size.Needs.{Needs}

@@ -22,7 +22,7 @@ use Rattle.codewords.specs.declared.writer.BitWriter.{BitWriter}
 use Rattle.unit.specs.Three.{Three}
 use Rattle.unit.specs.Trim.{trimmed, bits_of, trimmed_cost}
 use Rattle.unit.specs.HighQuality.{scalers_of, component_bits, high_bits}
-use Rattle.unit.specs.Laws.HighQuality.{cost_held, length_component, length_high}
+use Rattle.unit.proofs.Laws.HighQuality.{cost_held, length_component, length_high}
 use Rattle.picture.specs.declared.slices.layout.Picture.{Picture}
 use Rattle.picture.specs.declared.high.choice.Choice.{Choice}
 use Rattle.picture.specs.declared.high.size.Terms.{Terms}

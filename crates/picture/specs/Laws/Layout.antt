@@ -16,10 +16,10 @@ use Rattle.codewords.specs.Code.Writer.{Sound, Room}
 use Rattle.unit.specs.Limits.{area_limit}
 use Rattle.unit.specs.Sizes.{Size, area}
 use Rattle.unit.specs.Slices.{bound, slice_count, part_size}
-use Rattle.unit.specs.Laws.Subband.{half, quarter}
-use Rattle.unit.specs.Laws.Slice.{bound_rises, bound-most, part_size-most}
-use Rattle.unit.specs.Laws.Trim.{small_append}
-use Rattle.unit.specs.Laws.Trim as trim
+use Rattle.unit.proofs.Laws.Subband.{half, quarter}
+use Rattle.unit.proofs.Laws.Slice.{bound_rises, bound-most, part_size-most}
+use Rattle.unit.proofs.Laws.Trim.{small_append}
+use Rattle.unit.proofs.Laws.Trim as trim
 use Rattle.picture.specs.declared.slices.strip.Strip.{Strip}
 use Rattle.picture.specs.declared.slices.cost.Cost.{Cost}
 use Rattle.picture.specs.declared.low.put.Put.{Put}

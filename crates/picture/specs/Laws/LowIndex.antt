@@ -5,10 +5,10 @@ use Rattle.std.proofs.Common.{ap, ◌∙◌, add-one, arith}
 use Prim.Native.Nat.{ℕ, suc, ◌+◌, ◌*◌, ◌-◌, ◌/◌, ◌^◌, ◌≤◌}
 use Rattle.std.proofs.Math.Nat.{suc-mul, mul-le-mul_left, mul-one, add-mul-div_right}
 use Rattle.unit.specs.Limits.{area_limit}
-use Rattle.unit.specs.Laws.Slice.{div_rises}
-use Rattle.unit.specs.Laws.Intlog2.{intlog2-least, intlog2-most}
+use Rattle.unit.proofs.Laws.Slice.{div_rises}
+use Rattle.unit.proofs.Laws.Intlog2.{intlog2-least, intlog2-most}
 use Rattle.unit.specs.LowDelay.{slice_bytes, length_bits}
-use Rattle.unit.specs.Laws.LowDelay.{bytes_some}
+use Rattle.unit.proofs.Laws.LowDelay.{bytes_some}
 use Rattle.picture.specs.declared.slices.layout.Component.{Component}
 use Rattle.picture.specs.declared.slices.layout.Picture.{Picture}
 use Rattle.picture.specs.Code.Strip.{rebuilt_strip}

@@ -21,13 +21,13 @@ use Rattle.unit.specs.Limits.{target_limit, lowest_index, last_index}
 use Rattle.unit.specs.Three.{Three}
 use Rattle.unit.specs.Sizes.{Size}
 use Rattle.unit.specs.Slices.{Grid, slice_count}
-use Rattle.unit.specs.Laws.Slice.{bound_rises}
+use Rattle.unit.proofs.Laws.Slice.{bound_rises}
 use Rattle.unit.specs.Trim.{trimmed_cost}
 use Rattle.unit.specs.Elect.{elect}
 use Rattle.unit.specs.Quantised.{size_of, rebuilt, numbers_ld, left_ld}
 use Rattle.unit.specs.Plan.{SlicePlan, Plan}
 use Rattle.unit.specs.LowDelay.{numerator, slice_bytes, room_of, alternated, low_bits, kept_runs, low_numbers, low_left, low_fits, low_index, low_plan, low_slices, zero_plane, zero_planes}
-use Rattle.unit.specs.Laws.Planned.{low_state, low_elected, low_at, low-span}
+use Rattle.unit.proofs.Laws.Planned.{low_state, low_elected, low_at, low-span}
 use Rattle.unit.specs.declared.Settings.{Settings}
 use Rattle.unit.specs.declared.PictureKind.{PictureKind}
 use Rattle.unit.specs.declared.PictureKind.TheVariants.{LowDelay}
@@ -37,13 +37,13 @@ use Rattle.unit.specs.Parameters.{low_delay, Parameters, overhead}
 use Rattle.unit.specs.Matrix.{matrix_values}
 use Rattle.unit.specs.Coefficients.{coefficients_of}
 use Rattle.unit.specs.Code.Valid.{RateFits}
-use Rattle.unit.specs.Laws.Valid.{target_few}
+use Rattle.unit.proofs.Laws.Valid.{target_few}
 use Rattle.unit.specs.Unit.{major_version, grid_of, parameters_by, target_of, low_parameters, numerator_of, plan_by, plan_of, slice_runs, head_bits, length_of}
 use Rattle.unit.specs.Cut.{cut_of, cut_count}
 use Rattle.unit.specs.Outcome.{scaler_in, coded_of, coding_refusal}
-use Rattle.unit.specs.Laws.LowDelay.{numerator-least, bytes_all, low_bytes}
-use Rattle.unit.specs.Laws.Soundness.{length_is}
-use Rattle.unit.specs.Laws.Drop.{cut_unfit, alike_of}
+use Rattle.unit.proofs.Laws.LowDelay.{numerator-least, bytes_all, low_bytes}
+use Rattle.unit.proofs.Laws.Soundness.{length_is}
+use Rattle.unit.proofs.Laws.Drop.{cut_unfit, alike_of}
 use Rattle.picture.specs.declared.slices.layout.Component.{Component}
 use Rattle.picture.specs.declared.slices.layout.Picture.{Picture}
 use Rattle.picture.specs.Code.Strip.{plane_from, rebuilt_strip, Small}

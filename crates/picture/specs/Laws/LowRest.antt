@@ -13,8 +13,8 @@ use Rattle.codewords.specs.CodeWord.{codes}
 use Rattle.codewords.specs.Laws.Code.{codes-append}
 use Rattle.unit.specs.Limits.{area_limit}
 use Rattle.unit.specs.Trim.{trim_cons, trimmed, bits_of, trimmed_cost}
-use Rattle.unit.specs.Laws.Trim.{length-trimmed, bits_most, cost-most}
-use Rattle.unit.specs.Laws.Trim as trim
+use Rattle.unit.proofs.Laws.Trim.{length-trimmed, bits_most, cost-most}
+use Rattle.unit.proofs.Laws.Trim as trim
 use Rattle.picture.specs.declared.slices.tally.Tally.{Tally}
 use Rattle.picture.specs.declared.slices.layout.Component.{Component}
 use Rattle.picture.specs.declared.slices.layout.Layout.{Layout}

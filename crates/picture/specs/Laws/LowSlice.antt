@@ -24,11 +24,11 @@ use Rattle.codewords.specs.declared.writer.BitWriter.{BitWriter}
 use Rattle.unit.specs.declared.PictureKind.TheVariants.{LowDelay}
 use Rattle.unit.specs.Limits.{lowest_index, last_index}
 use Rattle.unit.specs.Trim.{trimmed, bits_of, trimmed_cost, fit_prefix}
-use Rattle.unit.specs.Laws.Trim.{fit_bits}
+use Rattle.unit.proofs.Laws.Trim.{fit_bits}
 use Rattle.unit.specs.Elect.{elect}
-use Rattle.unit.specs.Laws.Slice.{div_rises}
+use Rattle.unit.proofs.Laws.Slice.{div_rises}
 use Rattle.unit.specs.LowDelay.{slice_bytes, length_bits, room_of, low_bits, Runs, kept_runs}
-use Rattle.unit.specs.Laws.LowDelay.{bytes_some, runs_fit, runs-whole, length-low}
+use Rattle.unit.proofs.Laws.LowDelay.{bytes_some, runs_fit, runs-whole, length-low}
 use Rattle.picture.specs.declared.slices.layout.Picture.{Picture}
 use Rattle.picture.specs.declared.slices.cost.Cost.{Cost}
 use Rattle.picture.specs.declared.slices.tally.Trimmed.{Trimmed}

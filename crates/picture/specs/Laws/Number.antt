@@ -28,7 +28,7 @@ use Rattle.unit.specs.Slices.{Grid, slice_count, top, bottom, left, right, part,
 use Rattle.unit.specs.Predict.{predict}
 use Rattle.unit.specs.Quantised.{size_of, numbers_from, numbers_hq, number_at, rebuilt, numbers_ld, left_ld}
 use Rattle.unit.specs.LowDelay.{alternated}
-use Rattle.unit.specs.Laws.Slice.{bound_rises, bound-most}
+use Rattle.unit.proofs.Laws.Slice.{bound_rises, bound-most}
 use Rattle.picture.specs.Laws.Layout.{level_low, first_fits, run-chunks}
 use Rattle.picture.specs.declared.slices.strip.Strip.{Strip}
 use Rattle.picture.specs.declared.slices.layout.Component.{Component}

@@ -20,10 +20,10 @@ use Rattle.codewords.specs.CodeWord.{code_s}
 use Rattle.codewords.specs.Laws.Code.{length-code_s-zero}
 use Rattle.quantiser.specs.Quant.{forward_by}
 use Rattle.unit.specs.Slices.{part_size}
-use Rattle.unit.specs.Laws.Test.{no_truth}
+use Rattle.unit.proofs.Laws.Test.{no_truth}
 use Rattle.unit.specs.Trim.{is_zero, bits_of}
-use Rattle.unit.specs.Laws.Trim.{bits_most}
-use Rattle.unit.specs.Laws.Trim as trim
+use Rattle.unit.proofs.Laws.Trim.{bits_most}
+use Rattle.unit.proofs.Laws.Trim as trim
 use Rattle.picture.specs.declared.slices.strip.Strip.{Strip}
 use Rattle.picture.specs.declared.slices.layout.Component.{Component}
 use Rattle.picture.specs.declared.slices.layout.Layout.{Layout}

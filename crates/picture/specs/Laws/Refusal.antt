@@ -6,8 +6,8 @@ use Rattle.unit.specs.declared.Settings.{Settings}
 use Rattle.unit.specs.Three.{Three}
 use Rattle.unit.specs.Rules.{first, or_else}
 use Rattle.unit.specs.Refusal.{any_above, shape_rules, rate_rules, frame_rules, matrix_rules, memory_rules, refusal_of}
-use Rattle.unit.specs.Laws.Rules.{first-append, none_of}
-use Rattle.unit.specs.Laws.Valid.{shape-kept, frame-kept}
+use Rattle.unit.proofs.Laws.Rules.{first-append, none_of}
+use Rattle.unit.proofs.Laws.Valid.{shape-kept, frame-kept}
 use Rattle.picture.specs.Code.Sides.{Measured}
 
 -- ---- values from place i on

@@ -20,9 +20,9 @@ use Rattle.unit.specs.Slices.{region, Grid, top, bottom, left, right}
 use Rattle.unit.specs.Predict.{predict}
 use Rattle.unit.specs.Quantised.{size_of, inside, number_at, rebuilt_at, rebuilt}
 use Rattle.unit.specs.LowDelay.{alternated}
-use Rattle.unit.specs.Laws.Test.{no_truth}
-use Rattle.unit.specs.Laws.Scan.{Neighbours, neighbours, predict-same, scan_unique}
-use Rattle.unit.specs.Laws.Place.{inside→within, within→inside}
+use Rattle.unit.proofs.Laws.Test.{no_truth}
+use Rattle.unit.proofs.Laws.Scan.{Neighbours, neighbours, predict-same, scan_unique}
+use Rattle.unit.proofs.Laws.Place.{inside→within, within→inside}
 use Rattle.picture.specs.declared.slices.strip.Strip.{Strip}
 use Rattle.picture.specs.Code.Strip.{plane_from, prediction_in, number_in, place_numbers, row_numbers, rows_numbers, strip_numbers, value_in, rebuilt_row, rebuilt_rows, rebuilt_strip, Inside}
 use Rattle.picture.specs.Laws.Strip.{prediction_yes}

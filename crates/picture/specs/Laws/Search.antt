@@ -2,7 +2,7 @@
 use Rattle.std.specs.Prelude.{◌≡◌, Bool, true, false, ℕ, ◌+◌, ◌-◌, ◌≤◌, ◌<◌}
 use Rattle.std.proofs.Common.{sym, ap, ◌∙◌, arith, le_antisymm}
 use Rattle.unit.specs.Elect.{elect}
-use Rattle.unit.specs.Laws.Elect.{elect-least}
+use Rattle.unit.proofs.Laws.Elect.{elect-least}
 use Rattle.picture.specs.declared.slices.search.Range.{Range}
 use Rattle.picture.specs.Code.Search.{half_of}
 

@@ -18,10 +18,10 @@ use Rattle.unit.specs.Subbands.{padded_size, padded_area}
 use Rattle.unit.specs.Matrix.{default_of, matrix_values, carried_matrix}
 use Rattle.unit.specs.Refusal.{is_none}
 use Rattle.unit.specs.Code.Valid.{MatrixFits}
-use Rattle.unit.specs.Laws.Test.{no_truth}
-use Rattle.unit.specs.Laws.Intlog2.{intlog2-least}
-use Rattle.unit.specs.Laws.Padded.{wide_few, high_few}
-use Rattle.unit.specs.Laws.Valid.{levels_few, luma-fits, colour-fits}
+use Rattle.unit.proofs.Laws.Test.{no_truth}
+use Rattle.unit.proofs.Laws.Intlog2.{intlog2-least}
+use Rattle.unit.proofs.Laws.Padded.{wide_few, high_few}
+use Rattle.unit.proofs.Laws.Valid.{levels_few, luma-fits, colour-fits}
 use Rattle.picture.specs.Code.Sides.{Measured, InFrame}
 use Rattle.picture.specs.Code.Matrix.{CarriedOf}
 use Rattle.wavelet.specs.RowCall.{row_limit}

@@ -17,10 +17,10 @@ use Rattle.laws.specs.Laws.Machine.{fit}
 use Rattle.quantiser.specs.Quant.{quant_factor, quant_offset, forward_by, forward_quant, inverse_by, inverse_quant}
 use Rattle.quantiser.specs.Laws.Quant.{quant_factor-least, quant_factor-lt, number-most}
 use Rattle.unit.specs.Predict.{mean, predict}
-use Rattle.unit.specs.Laws.Scan.{neighbours, predict-most}
-use Rattle.unit.specs.Laws.Rebuilt.{step-most}
-use Rattle.unit.specs.Laws.Trim.{small_append}
-use Rattle.unit.specs.Laws.Trim as trim
+use Rattle.unit.proofs.Laws.Scan.{neighbours, predict-most}
+use Rattle.unit.proofs.Laws.Rebuilt.{step-most}
+use Rattle.unit.proofs.Laws.Trim.{small_append}
+use Rattle.unit.proofs.Laws.Trim as trim
 use Rattle.picture.specs.declared.slices.strip.Strip.{Strip}
 use Rattle.picture.specs.Code.Strip.{plane_from, prediction_in, number_in, second_number, place_numbers, row_numbers, rows_numbers, value_in, rebuilt_row, rebuilt_rows, most, reach, Readable, Numbered, Small, Within, Inside}
 

@@ -7,7 +7,7 @@ use Rattle.codewords.specs.CodeWord.{code_s, codes}
 use Rattle.codewords.specs.Laws.Code.{length-code_s-zero}
 use Rattle.quantiser.specs.Quant.{forward_by}
 use Rattle.unit.specs.Trim.{trim_cons, trimmed, bits_of, trimmed_cost}
-use Rattle.unit.specs.Laws.Trim.{length-trimmed, Small, bits_most}
+use Rattle.unit.proofs.Laws.Trim.{length-trimmed, Small, bits_most}
 use Rattle.picture.specs.declared.slices.strip.Strip.{Strip}
 use Rattle.picture.specs.declared.slices.cost.Cost.{Cost}
 use Rattle.picture.specs.declared.slices.tally.Tally.{Tally}

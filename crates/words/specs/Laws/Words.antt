@@ -4,7 +4,7 @@ use Rattle.std.proofs.Math.Bool.{and_assoc}
 use Rattle.std.proofs.Common.{eqb-true, eq-eqb, ne_eqb}
 use Rattle.unit.specs.declared.PictureKind.TheVariants.{HighQuality}
 use Rattle.unit.specs.declared.RateControl.TheVariants.{PictureBytes}
-use Rattle.unit.specs.Laws.Test.{no_truth}
+use Rattle.unit.proofs.Laws.Test.{no_truth}
 use Rattle.unit.specs.Words.{word_at, known, kind_in, rate_in}
 
 -- both tests hold

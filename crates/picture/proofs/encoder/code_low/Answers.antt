@@ -4,7 +4,7 @@ use Prim.Native.Nat.{ℕ, ◌+◌, ◌≤◌}
 use native.Mathlib.Omega.{arith}
 use lib.ListN.{length}
 use Rattle.unit.specs.Limits.{unit_limit}
-use Rattle.unit.specs.Laws.Demand.{not-long}
+use Rattle.unit.proofs.Laws.Demand.{not-long}
 use Rattle.picture.specs.Code.Matrix.{lent_in}
 use Rattle.picture.specs.Code.Head.{CanCarry}
 use Rattle.picture.specs.Laws.Analysed.{called_arranged, called_carry}

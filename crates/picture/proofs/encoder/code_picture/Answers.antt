@@ -1,7 +1,7 @@
 -- `encoder::code_picture` meets its contract.
 use mathlib.Core.Path.{◌∙◌}
 use Rattle.unit.specs.Three.{planes}
-use Rattle.unit.specs.Laws.Valid.{levels_few}
+use Rattle.unit.proofs.Laws.Valid.{levels_few}
 use Rattle.picture.specs.Code.Matrix.{lent_in}
 use Rattle.picture.specs.Code.Analysed.{Called}
 use Rattle.picture.specs.Laws.Analysed.{called, ready, codes-lent}

@@ -1,8 +1,8 @@
 -- `encoder::encode_picture` meets its contract.
 use mathlib.Core.Path.{◌≡◌, sym, ◌∙◌}
 use native.Mathlib.Omega.{arith}
-use Rattle.unit.specs.Laws.Valid.{valid}
-use Rattle.unit.specs.Laws.Demand.{Typed}
+use Rattle.unit.proofs.Laws.Valid.{valid}
+use Rattle.unit.proofs.Laws.Demand.{Typed}
 use Rattle.unit.specs.Three.{planes}
 use Rattle.picture.specs.Laws.Encoded.{typed_by, encodes_refused, encodes_coded}
 use borrow.Author.Rules.{rules}

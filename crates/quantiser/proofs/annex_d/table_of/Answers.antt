@@ -18,6 +18,6 @@ pub returns-else-wavelet-eq3 : goal.returns-else-wavelet-eq3
 returns-else-wavelet-eq3 c =
     mixed_none c.args.wavelet c.args.wavelet_ho c.if-wavelet-wavelet_ho.false
     (λ p q. elim c.else-wavelet-eq3.branch [
-      else-wavelet-eq3-via-then-wavelet-eq3+else-wavelet_ho-eq1 w ↦ w.if-wavelet_ho-eq1.false q
-    | else-wavelet-eq3-via-else-wavelet-eq3 w ↦ w.if-wavelet-eq3.false p
+      | else-wavelet-eq3-via-then-wavelet-eq3+else-wavelet_ho-eq1 w ↦ w.if-wavelet_ho-eq1.false q
+      | else-wavelet-eq3-via-else-wavelet-eq3 w ↦ w.if-wavelet-eq3.false p
     ])

@@ -62,11 +62,10 @@ pub slice_bounds-pad_row-end : goal.slice_bounds-pad_row-end
 slice_bounds-pad_row-end c = omega (arith, room (goal.at.slice_bounds-pad_row-end c).In-loop-n, c.loop-n.invariant.long)
 
 pub pad_row-requires : goal.pad_row-requires
-pad_row-requires c =
-    (
-      (c.requires.0.some.0, rw c.least.ensures (room (goal.at.pad_row-requires c).In-loop-n).source),
-      rw c.filter_shift-bits.ensures (bits-le c.args.index c.requires.1),
-    )
+pad_row-requires c = (
+  (c.requires.0.some.0, rw c.least.ensures (room (goal.at.pad_row-requires c).In-loop-n).source),
+  rw c.filter_shift-bits.ensures (bits-le c.args.index c.requires.1),
+)
 
 pub offset_bounds-work-at-in-loop-n : goal.offset_bounds-work-at-in-loop-n
 offset_bounds-work-at-in-loop-n c = omega (arith, room (goal.at.offset_bounds-work-at-in-loop-n c).In-loop-n)

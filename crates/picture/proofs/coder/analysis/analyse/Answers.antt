@@ -1,7 +1,7 @@
 -- `coder::analysis::analyse` meets its contract.
 use Prim.Native.Nat.{ℕ, ◌+◌, ◌-◌, ◌*◌}
 use lib.ListN.{drop}
-use Rattle.unit.specs.Laws.Valid.{levels_few}
+use Rattle.unit.proofs.Laws.Valid.{levels_few}
 use Rattle.unit.specs.Sizes.{luma_size, colour_size}
 use Rattle.unit.specs.Three.{planes}
 use Rattle.picture.specs.Laws.Analysis.{padded_asks, taken_is, Taken, taken_of_lem, front_is, components_in, Sampled, front_room, analysed-of}

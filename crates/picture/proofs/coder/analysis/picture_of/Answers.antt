@@ -1,6 +1,6 @@
 -- `coder::analysis::picture_of` meets its contract.
 use Rattle.unit.specs.Sizes.{luma_size, colour_size}
-use Rattle.unit.specs.Laws.Valid.{levels_few}
+use Rattle.unit.proofs.Laws.Valid.{levels_few}
 use Rattle.picture.specs.Code.Matrix.{lent_in}
 use Rattle.picture.specs.Laws.Analysis.{padded_asks, Measures, measures_of, picture_is}
 use native.Mathlib.Omega.{arith}

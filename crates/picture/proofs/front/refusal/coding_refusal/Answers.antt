@@ -1,7 +1,7 @@
 -- `front::refusal::coding_refusal` meets its contract.
 use mathlib.Core.Path.{refl}
 use mathlib.Core.List.{[]}
-use Rattle.unit.specs.Laws.Rules.{stops, goes_on}
+use Rattle.unit.proofs.Laws.Rules.{stops, goes_on}
 use Rattle.picture.proofs.front.refusal.coding_refusal.Goals as goal
 
 pub returns-then-len-n : goal.returns-then-len-n

@@ -4,7 +4,7 @@ use mathlib.Core.List.{List}
 use lib.ListN.{drop}
 use Rattle.unit.specs.Rules.{Rule, first}
 use Rattle.unit.specs.Refusal.{matrix_rules}
-use Rattle.unit.specs.Laws.Rules.{stops, goes_on}
+use Rattle.unit.proofs.Laws.Rules.{stops, goes_on}
 use Rattle.picture.proofs.front.refusal.bad_matrix.Reads as bad-matrix-reads
 use Rattle.picture.proofs.front.refusal.no_matrix.Reads as no-matrix-reads
 use Rattle.picture.proofs.front.refusal.matrix_refusal.Lts as lts

@@ -5,7 +5,7 @@ use lib.ListN.{drop}
 use Rattle.unit.specs.Rules.{Rule, first}
 use Rattle.unit.specs.Refusal.{memory_rules}
 use Rattle.unit.specs.Three.{planes}
-use Rattle.unit.specs.Laws.Rules.{stops, goes_on}
+use Rattle.unit.proofs.Laws.Rules.{stops, goes_on}
 use Rattle.picture.proofs.front.refusal.bad_area.Reads as bad-area-reads
 use Rattle.picture.proofs.front.refusal.bad_planes.Reads as bad-planes-reads
 use Rattle.picture.proofs.front.refusal.short_work.Reads as short-work-reads

@@ -3,7 +3,7 @@ use mathlib.Core.Path.{◌≡◌, ap, ◌∙◌}
 use native.Mathlib.Omega.{arith}
 use Rattle.unit.specs.Sizes.{Size, area}
 use Rattle.unit.specs.Subbands.{padded_area}
-use Rattle.unit.specs.Laws.Valid.{levels_few}
+use Rattle.unit.proofs.Laws.Valid.{levels_few}
 use Rattle.picture.specs.Code.Sides.{size_in}
 use Rattle.picture.specs.Laws.Sides.{padded-area_few}
 use borrow.Author.Rules.{rules}

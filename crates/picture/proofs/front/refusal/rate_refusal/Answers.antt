@@ -4,7 +4,7 @@ use mathlib.Core.List.{List}
 use lib.ListN.{drop}
 use Rattle.unit.specs.Rules.{Rule, first}
 use Rattle.unit.specs.Refusal.{rate_rules}
-use Rattle.unit.specs.Laws.Rules.{stops, goes_on}
+use Rattle.unit.proofs.Laws.Rules.{stops, goes_on}
 use Rattle.picture.proofs.front.refusal.bad_index.Reads as bad-index-reads
 use Rattle.picture.proofs.front.refusal.bad_target.Reads as bad-target-reads
 use Rattle.picture.proofs.front.refusal.no_target.Reads as no-target-reads

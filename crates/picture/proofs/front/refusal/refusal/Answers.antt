@@ -5,7 +5,7 @@ use native.Mathlib.Omega.{arith}
 use Rattle.unit.specs.Three.{planes}
 use Rattle.unit.specs.Refusal.{shape_rules, frame_rules, memory_rules, refusal_of}
 use Rattle.unit.specs.Rules.{first, or_else}
-use Rattle.unit.specs.Laws.Rules.{or_stops, or_goes_on}
+use Rattle.unit.proofs.Laws.Rules.{or_stops, or_goes_on}
 use Rattle.picture.specs.Code.Sides.{Measured}
 use Rattle.picture.specs.Laws.Refusal.{measured, from_matrix, from_frame, from_rate, by_groups}
 use borrow.Author.Rules.{rules}

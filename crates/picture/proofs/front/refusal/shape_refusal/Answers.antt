@@ -4,7 +4,7 @@ use mathlib.Core.List.{List}
 use lib.ListN.{drop}
 use Rattle.unit.specs.Rules.{Rule, first}
 use Rattle.unit.specs.Refusal.{shape_rules}
-use Rattle.unit.specs.Laws.Rules.{stops, goes_on}
+use Rattle.unit.proofs.Laws.Rules.{stops, goes_on}
 use Rattle.picture.proofs.front.refusal.bad_depths.Reads as bad-depths-reads
 use Rattle.picture.proofs.front.refusal.bad_sizes.Reads as bad-sizes-reads
 use Rattle.picture.proofs.front.refusal.bad_slices.Reads as bad-slices-reads

@@ -20,11 +20,11 @@ use Rattle.unit.specs.Refusal.{shape_rules, frame_rules, no_target, bad_index, b
 use Rattle.unit.specs.Code.Valid.{Shaped, Framed, Between, RateFits, MatrixFits, Valid, Sized}
 use Rattle.unit.specs.Parameters.{SliceParameters}
 use Rattle.unit.specs.Unit.{version_by, major_version, grid_of, parameters_by, target_of}
-use Rattle.unit.specs.Laws.Sound.{SliceFits, CarriedFits, Legal}
-use Rattle.unit.specs.Laws.Intlog2.{depth_range}
-use Rattle.unit.specs.Laws.Padded.{padded-wide, padded-high, wide_few, high_few, padded_mono}
-use Rattle.unit.specs.Laws.Rules.{Numbered, NoneOf, none_of}
-use Rattle.unit.specs.Laws.Test.{no_truth, or-none, both, at_most, same, some_of, between, all_most}
+use Rattle.unit.proofs.Laws.Sound.{SliceFits, CarriedFits, Legal}
+use Rattle.unit.proofs.Laws.Intlog2.{depth_range}
+use Rattle.unit.proofs.Laws.Padded.{padded-wide, padded-high, wide_few, high_few, padded_mono}
+use Rattle.unit.proofs.Laws.Rules.{Numbered, NoneOf, none_of}
+use Rattle.unit.proofs.Laws.Test.{no_truth, or-none, both, at_most, same, some_of, between, all_most}
 
 -- rules 5 to 7 are not broken
 record RateKept (k : PictureKind) (r : RateControl) : Type 0 where

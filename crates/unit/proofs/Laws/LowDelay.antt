@@ -30,10 +30,10 @@ use Rattle.unit.specs.Trim.{trimmed, bits_of, trimmed_cost, fit_prefix}
 use Rattle.unit.specs.LowDelay.{slice_bytes, length_bits, room_of, numerator, alternated, evens, odds, low_bits, Runs, kept_runs, low_numbers, low_fits, low_index, low_plan_of, low_plan, low_slices, low_left}
 use Rattle.unit.specs.Reader.{SliceNumbers, read_low}
 use Rattle.unit.specs.Demand.{bytes_of}
-use Rattle.unit.specs.Laws.Intlog2.{intlog2-least, intlog2-most}
-use Rattle.unit.specs.Laws.Elect.{elected}
-use Rattle.unit.specs.Laws.Trim.{filled-trimmed, fit_bits, bare}
-use Rattle.unit.specs.Laws.Slice.{div_rises, length-alternated, evens-alternated, odds-alternated}
+use Rattle.unit.proofs.Laws.Intlog2.{intlog2-least, intlog2-most}
+use Rattle.unit.proofs.Laws.Elect.{elected}
+use Rattle.unit.proofs.Laws.Trim.{filled-trimmed, fit_bits, bare}
+use Rattle.unit.proofs.Laws.Slice.{div_rises, length-alternated, evens-alternated, odds-alternated}
 
 -- ---- bytes
 pub numerator-least : (version target slices : ℕ) (t : ℕ → Parameters) → slices ≤ numerator version target slices t

@@ -18,12 +18,12 @@ use Rattle.unit.specs.Three.{Three}
 use Rattle.unit.specs.Sizes.{Size, sizes_of}
 use Rattle.unit.specs.Slices.{slice_count}
 use Rattle.unit.specs.Parameters.{Parameters, parameter_bits, parameter_bytes, overhead, fill}
-use Rattle.unit.specs.Laws.Parameter.{reads_parameters}
+use Rattle.unit.proofs.Laws.Parameter.{reads_parameters}
 use Rattle.unit.specs.Plan.{SlicePlan, Plan}
 use Rattle.unit.specs.Unit.{major_version, parse_code, slice_runs, head_bits, length_of, unit_of}
 use Rattle.unit.specs.Reader.{SliceRead, Reading, read_parameters, SliceNumbers, bits_left, read_slice, read_each, grid_in, counts_in, kind_of, read_end, read_picture, read_unit}
 use Rattle.unit.specs.Demand.{bytes_of, SameSlices, Follow}
-use Rattle.unit.specs.Laws.Sound.{SoundSlice, SoundSlices, Legal, Sound}
+use Rattle.unit.proofs.Laws.Sound.{SoundSlice, SoundSlices, Legal, Sound}
 
 -- ---- bytes and bits of a unit
 from_append : (xs ys : List ℕ) → from_bytes (xs ++ ys) ≡ from_bytes xs ++ from_bytes ys

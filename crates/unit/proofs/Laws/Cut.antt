@@ -13,10 +13,10 @@ use Rattle.unit.specs.Trim.{is_zero, trim_cons, trimmed, bits_of, trimmed_cost, 
 use Rattle.unit.specs.Plan.{SlicePlan}
 use Rattle.unit.specs.LowDelay.{room_of, alternated, evens, odds, kept_runs, low_plan_of}
 use Rattle.unit.specs.Cut.{any_lost, is_cut}
-use Rattle.unit.specs.Laws.Trim.{fit_all}
-use Rattle.unit.specs.Laws.LowDelay.{low-whole}
-use Rattle.unit.specs.Laws.Slice.{length-alternated}
-use Rattle.unit.specs.Laws.Test.{no_truth}
+use Rattle.unit.proofs.Laws.Trim.{fit_all}
+use Rattle.unit.proofs.Laws.LowDelay.{low-whole}
+use Rattle.unit.proofs.Laws.Slice.{length-alternated}
+use Rattle.unit.proofs.Laws.Test.{no_truth}
 
 -- ---- all kept
 none_lost : (xs : List ℤ) → any_lost xs xs ≡ false

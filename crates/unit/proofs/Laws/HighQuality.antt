@@ -32,10 +32,10 @@ use Rattle.unit.specs.HighQuality.{need_of, scalers_of, component_bits, high_bit
 use Rattle.unit.specs.Reader.{read_component, read_high}
 use Rattle.unit.specs.Demand.{bytes_of}
 use Rattle.unit.specs.Code.Valid.{RateFits}
-use Rattle.unit.specs.Laws.Elect.{elected}
-use Rattle.unit.specs.Laws.Subband.{areas}
-use Rattle.unit.specs.Laws.Trim.{cost-most, filled-trimmed}
-use Rattle.unit.specs.Laws.Slice.{count_most, counted_from}
+use Rattle.unit.proofs.Laws.Elect.{elected}
+use Rattle.unit.proofs.Laws.Subband.{areas}
+use Rattle.unit.proofs.Laws.Trim.{cost-most, filled-trimmed}
+use Rattle.unit.proofs.Laws.Slice.{count_most, counted_from}
 
 -- ---- whole scalers
 module _ (n m : ℕ) (some : 1 ≤ m) where

@@ -11,7 +11,7 @@ use Rattle.wavelet.specs.Filters.{filter_of, synthesis_by}
 use Rattle.wavelet.specs.Planes.{Band, rows_by, columns_by, lower, part_h, part, h_pass, vh_pass, dwt_h, dwt, by_parity, interleave_h, interleave, h_synthesis, vh_synthesis, idwt_h, idwt, Padded}
 use Rattle.wavelet.specs.Laws.Plane.{rows_cong, columns_cong, band-right, idwt_h-left, idwt-left, length-dwt_h, length-dwt}
 use Rattle.wavelet.specs.Laws.Theorems.{idwt_undoes_dwt}
-use Rattle.unit.specs.Laws.Near.{EqualBand, EqualBands}
+use Rattle.unit.proofs.Laws.Near.{EqualBand, EqualBands}
 
 -- ---- a list of bands taken apart as its pattern is
 record Split (bs ts rs : List Band) : Type 0 where

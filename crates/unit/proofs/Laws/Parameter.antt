@@ -11,7 +11,7 @@ use Rattle.unit.specs.declared.PictureKind.TheVariants.{LowDelay, HighQuality}
 use Rattle.unit.specs.Subbands.{subband_count}
 use Rattle.unit.specs.Parameters.{SliceParameters, low_delay, high_quality, Parameters, flagged, extended_bits, slice_parameter_bits, codes_u, matrix_bits, parameter_bits}
 use Rattle.unit.specs.Reader.{read_flagged, any_number, Extended, read_extended, read_slice_parameters, read_uints, is_some, read_matrix, read_parameters}
-use Rattle.unit.specs.Laws.Sound.{SliceFits, CarriedFits, Legal}
+use Rattle.unit.proofs.Laws.Sound.{SliceFits, CarriedFits, Legal}
 
 -- a flagged number, where what stands for it without a flag is the number itself
 reads_flagged : (test : ℕ → Bool) (f : Bool) (n d : ℕ) → T (test n) → (f ≡ false → d ≡ n) → Reads (read_flagged test d) (flagged f n) n

@@ -9,7 +9,7 @@ use Rattle.wavelet.specs.Laws.Pad.{padded_sides}
 use Rattle.unit.specs.Limits.{side_limit}
 use Rattle.unit.specs.Sizes.{Size, area}
 use Rattle.unit.specs.Subbands.{padded_size}
-use Rattle.unit.specs.Laws.Slice.{div_rises}
+use Rattle.unit.proofs.Laws.Slice.{div_rises}
 use Rattle.wavelet.specs.RowCall.{row_limit}
 
 -- r is n rounded up to a multiple of m

@@ -15,8 +15,8 @@ use Rattle.unit.specs.Slices.{bound, region, Grid, part, part_size}
 use Rattle.unit.specs.Quantised.{size_of, numbers_from, numbers_ld}
 use Rattle.unit.specs.LowDelay.{alternated, evens, odds}
 use Rattle.unit.specs.Reader.{number_count}
-use Rattle.unit.specs.Laws.Subband.{areas}
-use Rattle.unit.specs.Laws.Trim.{Small, small_append}
+use Rattle.unit.proofs.Laws.Subband.{areas}
+use Rattle.unit.proofs.Laws.Trim.{Small, small_append}
 
 -- ---- bounds
 pub div_rises : (n : ℕ) {a b : ℕ} → a ≤ b → a / n ≤ b / n

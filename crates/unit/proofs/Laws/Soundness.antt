@@ -30,12 +30,12 @@ use Rattle.unit.specs.Unit.{major_version, grid_of, parameters_by, target_of, lo
 use Rattle.unit.specs.Reader.{SliceRead, number_count, read_low, read_high, grid_in, counts_in}
 use Rattle.unit.specs.Demand.{bytes_of, SameSlices, Bytes}
 use Rattle.unit.specs.Code.Valid.{RateFits, Valid}
-use Rattle.unit.specs.Laws.Sound.{Legal, SoundSlice, SoundSlices, Sound}
-use Rattle.unit.specs.Laws.Subband.{sizes-of, areas, areas-most}
-use Rattle.unit.specs.Laws.Slice.{counted_from, counted-low}
-use Rattle.unit.specs.Laws.Valid.{colour-most, slice_count_lem, legal}
-use Rattle.unit.specs.Laws.LowDelay.{numerator-least, bytes_some, bytes_all, low_full, low_reads, low-index, low_many, low_bytes}
-use Rattle.unit.specs.Laws.HighQuality.{Needs, Within, full_high, reads_high, needs_split, needs_most, scaler_rises, scaler_ends, takes, high_many, high_bytes_lem, high-index, shares_kept}
+use Rattle.unit.proofs.Laws.Sound.{Legal, SoundSlice, SoundSlices, Sound}
+use Rattle.unit.proofs.Laws.Subband.{sizes-of, areas, areas-most}
+use Rattle.unit.proofs.Laws.Slice.{counted_from, counted-low}
+use Rattle.unit.proofs.Laws.Valid.{colour-most, slice_count_lem, legal}
+use Rattle.unit.proofs.Laws.LowDelay.{numerator-least, bytes_some, bytes_all, low_full, low_reads, low-index, low_many, low_bytes}
+use Rattle.unit.proofs.Laws.HighQuality.{Needs, Within, full_high, reads_high, needs_split, needs_most, scaler_rises, scaler_ends, takes, high_many, high_bytes_lem, high-index, shares_kept}
 
 -- ---- the components' sizes
 bands-most : (s : Settings) (z : Size) (d : ℕ) (samples : List ℕ) → areas (map size_of (bands_of s z d samples)) ≤ padded_area s z

@@ -17,8 +17,8 @@ use Rattle.unit.specs.Predict.{predict, scan}
 use Rattle.unit.specs.Quantised.{size_of, inside, numbers_from, number_at, rebuilt_at, rebuilt, numbers_ld, left_ld}
 use Rattle.unit.specs.LowDelay.{zero_plane}
 use Rattle.unit.specs.Reader.{number_plane, index_at, inverse_plane, predicted_band}
-use Rattle.unit.specs.Laws.Place.{slice_mono, slice_lt, inside_own, inside_other, number_back}
-use Rattle.unit.specs.Laws.Scan.{Neighbours, neighbours_map, neighbours, by_neighbours, predict-same, predict-most, Recurs, scan_recurs, scan_unique}
+use Rattle.unit.proofs.Laws.Place.{slice_mono, slice_lt, inside_own, inside_other, number_back}
+use Rattle.unit.proofs.Laws.Scan.{Neighbours, neighbours_map, neighbours, by_neighbours, predict-same, predict-most, Recurs, scan_recurs, scan_unique}
 use Rattle.quantiser.specs.Laws.Quant.{rebuilt as quantised, standard_same}
 
 -- ---- one slice

@@ -11,10 +11,10 @@ use Rattle.unit.specs.declared.Settings.{Settings}
 use Rattle.unit.specs.Three.{Three}
 use Rattle.unit.specs.Rules.{Rule, rule, first}
 use Rattle.unit.specs.Refusal.{rules, refusal_of}
-use Rattle.unit.specs.Laws.Matrix.{no_default}
-use Rattle.unit.specs.Laws.Rules.{none_of}
-use Rattle.unit.specs.Laws.Valid.{numbered}
-use Rattle.unit.specs.Laws.Test.{no_truth, both, at_most}
+use Rattle.unit.proofs.Laws.Matrix.{no_default}
+use Rattle.unit.proofs.Laws.Rules.{none_of}
+use Rattle.unit.proofs.Laws.Valid.{numbered}
+use Rattle.unit.proofs.Laws.Test.{no_truth, both, at_most}
 
 -- no rule has the number n
 abbrev NoneHas : ℕ → List Rule → Type 0

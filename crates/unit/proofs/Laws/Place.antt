@@ -17,7 +17,7 @@ use Rattle.unit.specs.Sizes.{Size}
 use Rattle.unit.specs.Slices.{bound, region, Grid, slice_count, top, bottom, left, right, part_size, part, part_of, slice_of, place_in}
 use Rattle.unit.specs.Quantised.{inside}
 use Rattle.unit.specs.Reader.{number_plane}
-use Rattle.unit.specs.Laws.Slice.{length_part}
+use Rattle.unit.proofs.Laws.Slice.{length_part}
 
 -- ---- a side w cut into n parts
 module _ (n w x : ℕ) (hn : 0 < n) (hx : x < w) where

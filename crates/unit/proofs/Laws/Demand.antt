@@ -35,19 +35,19 @@ use Rattle.unit.specs.Outcome.{tells, length_in, coded_of, coding_rules, coding_
 use Rattle.unit.specs.Reader.{Reading, grid_in, band_sizes_in, values_by, values_in, read_bands, read_samples_of, read_samples}
 use Rattle.unit.specs.Demand.{SameSlices, Follow, Undropped, AllZero, plan_index, NearBands, SameSamples, Demand3}
 use Rattle.unit.specs.Code.Valid.{Between, Valid}
-use Rattle.unit.specs.Laws.Sound.{Sound}
-use Rattle.unit.specs.Laws.Unit.{reading_of, fulls, length-unit, reads_unit, same-slices, follow_on}
-use Rattle.unit.specs.Laws.Subband.{sizes-of}
-use Rattle.unit.specs.Laws.Soundness.{bytes_of_lem, sound_of}
-use Rattle.unit.specs.Laws.Near.{EqualBands}
-use Rattle.unit.specs.Laws.Synthesis.{idwt_back}
-use Rattle.unit.specs.Laws.Planned.{Component, Y, C1, C2, pick, ReadAs, call_planned, planned_near, planned_equal}
-use Rattle.unit.specs.Laws.Intlog2.{offset_range}
-use Rattle.unit.specs.Laws.Padded.{padded-wide, padded-high, padded_is}
-use Rattle.unit.specs.Laws.Drop.{drops_of, cut-none}
-use Rattle.unit.specs.Laws.Test.{no_truth, or-none}
-use Rattle.unit.specs.Laws.Rules.{none_of}
-use Rattle.unit.specs.Laws.Valid.{valid, sample_depths}
+use Rattle.unit.proofs.Laws.Sound.{Sound}
+use Rattle.unit.proofs.Laws.Unit.{reading_of, fulls, length-unit, reads_unit, same-slices, follow_on}
+use Rattle.unit.proofs.Laws.Subband.{sizes-of}
+use Rattle.unit.proofs.Laws.Soundness.{bytes_of_lem, sound_of}
+use Rattle.unit.proofs.Laws.Near.{EqualBands}
+use Rattle.unit.proofs.Laws.Synthesis.{idwt_back}
+use Rattle.unit.proofs.Laws.Planned.{Component, Y, C1, C2, pick, ReadAs, call_planned, planned_near, planned_equal}
+use Rattle.unit.proofs.Laws.Intlog2.{offset_range}
+use Rattle.unit.proofs.Laws.Padded.{padded-wide, padded-high, padded_is}
+use Rattle.unit.proofs.Laws.Drop.{drops_of, cut-none}
+use Rattle.unit.proofs.Laws.Test.{no_truth, or-none}
+use Rattle.unit.proofs.Laws.Rules.{none_of}
+use Rattle.unit.proofs.Laws.Valid.{valid, sample_depths}
 
 -- a call's numbers as its types have them: samples of 16 bits, picture number and previous length of 32
 pub record Typed (s : Settings) (p : Three (List ℕ)) : Type 0 where

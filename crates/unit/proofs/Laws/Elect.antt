@@ -5,7 +5,7 @@ use Rattle.std.proofs.Math.Path.{refl}
 use Rattle.std.proofs.Common.{sym, ap, ◌∙◌, subst, arith, le_antisymm, le_of_suc-le-suc, lt_of_not-le, ltb-true, ltb-false}
 use Prim.Native.Nat.{ℕ, zero, suc, ◌+◌, ◌-◌, ◌/◌, ◌≤◌, ◌<◌}
 use Rattle.std.proofs.Math.Decide.{ℕ_discrete}
-use Rattle.unit.specs.Laws.Test.{no_truth}
+use Rattle.unit.proofs.Laws.Test.{no_truth}
 use Rattle.unit.specs.Elect.{halve, upward, elect}
 
 -- an index q between lo and hi that fits, unless it is top, which is never tried

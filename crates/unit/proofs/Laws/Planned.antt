@@ -25,8 +25,8 @@ use Rattle.unit.specs.Coefficients.{coefficients_of}
 use Rattle.unit.specs.Unit.{grid_of, numerator_of, high_bytes, scaler_of, plan_by, plan_of}
 use Rattle.unit.specs.Reader.{SliceRead, Reading, grid_in, band_sizes_in, empty_slice, values_in, read_bands_by, read_bands_of, read_bands}
 use Rattle.unit.specs.Demand.{All, SameSlices, NearBands}
-use Rattle.unit.specs.Laws.Rebuilt.{state_at}
-use Rattle.unit.specs.Laws.Near.{numbers_by, numbers_by_cong, ReadBands, EqualBands, near_bands, equal_bands, bands-read}
+use Rattle.unit.proofs.Laws.Rebuilt.{state_at}
+use Rattle.unit.proofs.Laws.Near.{numbers_by, numbers_by_cong, ReadBands, EqualBands, near_bands, equal_bands, bands-read}
 use Rattle.wavelet.specs.Laws.PlaneBound.{AllSmall}
 
 -- ---- one of three

@@ -20,8 +20,8 @@ use Rattle.unit.specs.Predict.{predict}
 use Rattle.unit.specs.Quantised.{size_of, numbers_from, numbers_hq, number_at, rebuilt_at, rebuilt, numbers_ld}
 use Rattle.unit.specs.Reader.{index_at, plain_bands, predicted_band, read_bands_by}
 use Rattle.unit.specs.Demand.{NearBands}
-use Rattle.unit.specs.Laws.Place.{slice_lt, number_back, drop-part}
-use Rattle.unit.specs.Laws.Rebuilt.{state_at, state_cong, whole, whole_recurs, whole_room, read_whole}
+use Rattle.unit.proofs.Laws.Place.{slice_lt, number_back, drop-part}
+use Rattle.unit.proofs.Laws.Rebuilt.{state_at, state_cong, whole, whole_recurs, whole_room, read_whole}
 use Rattle.quantiser.specs.Laws.Quant.{near, exact, standard_same}
 use Rattle.wavelet.specs.Laws.PlaneBound.{Small, AllSmall}
 

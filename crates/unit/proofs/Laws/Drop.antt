@@ -26,13 +26,13 @@ use Rattle.unit.specs.Cut.{is_cut, cut_of, cut_count}
 use Rattle.unit.specs.Reader.{number_count}
 use Rattle.unit.specs.Demand.{All, bytes_of, Undropped, LowDrops, Drops}
 use Rattle.unit.specs.Code.Valid.{Valid}
-use Rattle.unit.specs.Laws.Subband.{sizes-of}
-use Rattle.unit.specs.Laws.Slice.{counted-low}
-use Rattle.unit.specs.Laws.LowDelay.{bytes_some, low-length, low-whole, low-index, low_fits_lem}
-use Rattle.unit.specs.Laws.Cut.{whole_uncut, low-cut}
-use Rattle.unit.specs.Laws.Test.{no_truth}
-use Rattle.unit.specs.Laws.Soundness.{numerator-some}
-use Rattle.unit.specs.Laws.Valid.{slice_count_lem}
+use Rattle.unit.proofs.Laws.Subband.{sizes-of}
+use Rattle.unit.proofs.Laws.Slice.{counted-low}
+use Rattle.unit.proofs.Laws.LowDelay.{bytes_some, low-length, low-whole, low-index, low_fits_lem}
+use Rattle.unit.proofs.Laws.Cut.{whole_uncut, low-cut}
+use Rattle.unit.proofs.Laws.Test.{no_truth}
+use Rattle.unit.proofs.Laws.Soundness.{numerator-some}
+use Rattle.unit.proofs.Laws.Valid.{slice_count_lem}
 
 -- a reader gets a slice's numbers as they were quantised
 abbrev pub Whole : SlicePlan → Type 0

@@ -24,10 +24,10 @@ use Rattle.unit.specs.LowDelay.{room_of, evens, odds, low_bits}
 use Rattle.unit.specs.HighQuality.{share_of}
 use Rattle.unit.specs.Reader.{SliceNumbers, read_low}
 use Rattle.unit.specs.Demand.{All}
-use Rattle.unit.specs.Laws.Trim.{bare}
-use Rattle.unit.specs.Laws.LowDelay.{low_read, reads_blocks, block_ones, one_bit}
-use Rattle.unit.specs.Laws.HighQuality.{share_falls, shares_all}
-use Rattle.unit.specs.Laws.Place.{store, store_first, put}
+use Rattle.unit.proofs.Laws.Trim.{bare}
+use Rattle.unit.proofs.Laws.LowDelay.{low_read, reads_blocks, block_ones, one_bit}
+use Rattle.unit.proofs.Laws.HighQuality.{share_falls, shares_all}
+use Rattle.unit.proofs.Laws.Place.{store, store_first, put}
 
 -- ---- the shares of n bytes among d slices
 shares_close : (n d i j : ℕ) → share_of n d i ≤ suc (share_of n d j)

@@ -23,7 +23,7 @@ use Rattle.unit.specs.LowDelay.{numerator, low_slices, zero_planes}
 use Rattle.unit.specs.HighQuality.{high_slices, scaler_from}
 use Rattle.unit.specs.Unit.{major_version, grid_of, target_of, numerator_of, scaler_of, plan_by, plan_of}
 use Rattle.unit.specs.Code.Valid.{AllMost}
-use Rattle.unit.specs.Laws.Test.{or-none, both, at_most, same, all_most}
+use Rattle.unit.proofs.Laws.Test.{or-none, both, at_most, same, all_most}
 
 -- a matrix for horizontal-only depth k and depth d
 pub record Matrix (k d : ℕ) (vs : List ℕ) : Type 0 where
