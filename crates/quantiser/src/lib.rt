@@ -63,11 +63,14 @@ fn signed(z: i64, m: u64) -> i64
     if z < 0 { 0 - n } else { n }
 }
 
+// The largest i64, 2^63 - 1.
+const LARGEST: u64 = 0x7FFF_FFFF_FFFF_FFFF;
+
 // n, capped at 2^63 - 1.
 fn cap(n: u64) -> u64
     ensures { (result ≡ cap n) × (result < 2 ^ 63) }
 {
-    if n < 0x7FFF_FFFF_FFFF_FFFF {
+    if n < LARGEST {
         n
     } else {
         0x7FFF_FFFF_FFFF_FFFF

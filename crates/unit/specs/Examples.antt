@@ -1,30 +1,20 @@
 -- Document 01's table of marked examples, proved together.
-use Rattle.std.specs.Prelude.{◌≡◌, refl, Bool, false, not, ℕ, ◌-◌, ◌/◌, ◌^◌, ◌≤◌, ◌<◌, eqb, ℤ, pos, neg_ℤ, length}
-use Rattle.std.proofs.Common.{ap, ◌∙◌, arith, lit<}
-use Rattle.std.proofs.Math.Bool.{and-false}
-use mathlib.Core.List.{List, [], ◌∷◌, map, append-nil, flatten}
+use Rattle.std.specs.Prelude.{◌≡◌, false, ℕ, ◌-◌, ◌^◌, ◌<◌, ℤ, pos, neg_ℤ, length}
+use mathlib.Core.List.{List, [], ◌∷◌, map}
 use Rattle.laws.specs.Rows.{span}
 use Rattle.laws.specs.Wrap.{wrap}
-use Rattle.codewords.specs.Bit.{lit}
-use Rattle.codewords.specs.Bytes.{to_bytes}
-use Rattle.codewords.specs.Laws.Byte.{length-to_bytes}
-use Rattle.codewords.specs.CodeWord.{log2_in, log2, interleaved, code_u, code_s}
-use Rattle.quantiser.specs.Standard.{factor}
-use Rattle.quantiser.specs.Quant.{cap, quant_factor, quant_offset, forward_by, forward_quant, inverse_by, inverse_quant}
-use Rattle.wavelet.specs.Lifting.{Stage, exact, within, dot, delta, lifted, analysis}
-use Rattle.wavelet.specs.Planes.{Band}
-use Rattle.wavelet.specs.Filters.{legall, filter_of, analysis_by}
+use Rattle.codewords.specs.CodeWord.{code_s}
+use Rattle.quantiser.specs.Quant.{quant_factor, quant_offset, forward_quant, inverse_quant}
+use Rattle.wavelet.specs.Lifting.{exact}
+use Rattle.wavelet.specs.Filters.{analysis_by}
 use Rattle.unit.specs.declared.Settings.{Settings}
 use Rattle.unit.specs.declared.PictureKind.TheVariants.{LowDelay}
 use Rattle.unit.specs.declared.RateControl.TheVariants.{PictureBytes}
-use Rattle.unit.specs.Matrix.{matrix_values, carried_matrix}
-use Rattle.unit.specs.Parameters.{extended_bits, parameter_bits, parameter_bytes}
-use Rattle.unit.specs.Unit.{major_version, grid_of, numerator_of, plan_of, length_of}
-use Rattle.unit.specs.Coefficients.{coefficients_of}
+use Rattle.unit.specs.Unit.{numerator_of, plan_of, length_of}
 use Rattle.unit.specs.Three.{Three}
 use Rattle.unit.specs.Sizes.{Size}
 use Rattle.unit.specs.Slices.{Grid, left, right}
-use Rattle.unit.specs.LowDelay.{slice_bytes, numerator, room_of, alternated, low_bits, kept_runs, low_numbers, low_index, low_plan_of, low_plan, low_slices, zero_planes}
+use Rattle.unit.specs.LowDelay.{slice_bytes}
 use Rattle.unit.specs.Predict.{mean}
 
 -- -n

@@ -5,10 +5,8 @@ use native.Mathlib.Omega.{arith}
 use lib.IntN.{nat_abs}
 use mir.Syntax.{w64}
 use mir.Facts.{to_z-of_z}
-use borrow.Author.Rules.{rules}
 use Rattle.codewords.specs.Laws.Code.{leading_log2, length-code_s, length-code_s-zero}
 use Rattle.codewords.specs.CodeWord.{log2}
-use Rattle.codewords.proofs.unsigned_abs.Reads as unsigned-abs-reads
 use Rattle.codewords.proofs.sint_code_len.Goals as goal
 use Rattle.codewords.proofs.sint_code_len.Goals.{After-unsigned_abs-m}
 

@@ -1,5 +1,4 @@
 -- `codewords::uint_code_len` meets its contract.
-use borrow.Author.Rules.{rules}
 use native.Mathlib.Omega.{arith}
 use Prim.Native.Nat.{◌+◌}
 use Rattle.codewords.specs.Laws.Code.{leading_log2, length-code_u}

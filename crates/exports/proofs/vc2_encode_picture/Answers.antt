@@ -1,14 +1,9 @@
 -- `vc2_encode_picture` meets its contract.
 use mathlib.Core.Path.{◌≡◌, sym, ◌∙◌}
 use mathlib.Core.Bool.{true}
-use borrow.Author.Tests.{not-true, not-false}
 use Rattle.unit.specs.Words.{known}
 use Rattle.unit.specs.Three.{planes}
 use Rattle.exports.specs.Laws.Calls.{picture_unknown, picture_accepted, picture_refused}
-use borrow.Author.Rules.{rules}
-use Rattle.picture.proofs.encoder.encode_picture.Reads as encode-picture-reads
-use Rattle.words.proofs.known.Reads as known-reads
-use Rattle.words.proofs.settings_of.Reads as settings-of-reads
 use Rattle.exports.proofs.vc2_encode_picture.Goals as goal
 use Rattle.exports.proofs.vc2_encode_picture.Goals.{Else-not-known}
 

@@ -6,8 +6,6 @@ use mir.Facts.{to_z-of_z}
 use Rattle.quantiser.specs.Quant.{forward_quant}
 use Rattle.quantiser.specs.Answer.{Answered}
 use Rattle.exports.specs.Laws.Calls.{gives_value, gives_refused}
-use borrow.Author.Rules.{rules}
-use Rattle.quantiser.proofs.forward_quant.Reads as forward-quant-reads
 use Rattle.exports.proofs.vc2_forward_quant.Goals as goal
 use Rattle.exports.proofs.vc2_forward_quant.Goals.{After-forward_quant-a}
 

@@ -6,8 +6,6 @@ use mir.Facts.{to_z-of_z}
 use Rattle.quantiser.specs.Quant.{inverse_quant}
 use Rattle.quantiser.specs.Answer.{Answered}
 use Rattle.exports.specs.Laws.Calls.{gives_value, gives_refused}
-use borrow.Author.Rules.{rules}
-use Rattle.quantiser.proofs.inverse_quant.Reads as inverse-quant-reads
 use Rattle.exports.proofs.vc2_inverse_quant.Goals as goal
 use Rattle.exports.proofs.vc2_inverse_quant.Goals.{After-inverse_quant-a}
 

@@ -1,7 +1,5 @@
 -- `vc2_quant_factor` meets its contract.
 use Rattle.exports.specs.Laws.Calls.{gives_value, gives_refused}
-use borrow.Author.Rules.{rules}
-use Rattle.quantiser.proofs.quant_factor.Reads as quant-factor-reads
 use Rattle.exports.proofs.vc2_quant_factor.Goals as goal
 
 pub returns-in-Value : goal.returns-in-Value

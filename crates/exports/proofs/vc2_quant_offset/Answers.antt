@@ -1,7 +1,5 @@
 -- `vc2_quant_offset` meets its contract.
 use Rattle.exports.specs.Laws.Calls.{gives_value, gives_refused}
-use borrow.Author.Rules.{rules}
-use Rattle.quantiser.proofs.quant_offset.Reads as quant-offset-reads
 use Rattle.exports.proofs.vc2_quant_offset.Goals as goal
 
 pub returns-in-Value : goal.returns-in-Value

@@ -2,8 +2,6 @@
 use mathlib.Core.Path.{◌∙◌}
 use mir.Syntax.{w64}
 use mir.Facts.{to_z-of_z}
-use borrow.Author.Rules.{rules}
-use Rattle.codewords.proofs.sint_code_len.Reads as sint-code-len-reads
 use Rattle.exports.proofs.vc2_sint_code_len.Goals as goal
 
 pub returns : goal.returns

@@ -1,6 +1,5 @@
 -- High-quality slices planned one behind the other, and the scaler that is settled on.
 use Rattle.std.specs.Prelude.{◌≡◌, false, List, ℕ, ◌+◌, ◌*◌, ◌^◌, ◌≤◌, max, ℤ, length}
-use Rattle.laws.specs.Rows.{at}
 use Rattle.codewords.specs.Bytes.{to_bytes}
 use Rattle.unit.specs.declared.Settings.{Settings}
 use Rattle.unit.specs.declared.PictureKind.TheVariants.{HighQuality}

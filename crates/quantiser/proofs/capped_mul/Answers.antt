@@ -2,7 +2,6 @@
 use mathlib.Core.Path.{sym}
 use Prim.Native.Nat.{◌*◌, ◌^◌, ◌<◌}
 use native.Mathlib.Omega.{arith}
-use borrow.Author.Rules.{rules}
 use Rattle.quantiser.specs.Laws.Cap.{cap-same}
 use Rattle.quantiser.specs.Laws.Step.{product-most, product_small}
 use Rattle.quantiser.proofs.capped_mul.Goals as goal

@@ -2,12 +2,7 @@
 use mathlib.Core.Path.{◌∙◌}
 use mir.Syntax.{w64}
 use mir.Facts.{to_z-of_z}
-use borrow.Author.Rules.{rules}
 use Rattle.quantiser.specs.Laws.Step.{back, abs_read, forward_is}
-use Rattle.codewords.proofs.unsigned_abs.Reads as unsigned-abs-reads
-use Rattle.quantiser.proofs.cap.Reads as cap-reads
-use Rattle.quantiser.proofs.four_over.Reads as four-over-reads
-use Rattle.quantiser.proofs.signed.Reads as signed-Reads
 use Rattle.quantiser.proofs.forward_by.Goals as goal
 
 pub returns : goal.returns

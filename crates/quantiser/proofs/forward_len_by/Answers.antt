@@ -2,11 +2,8 @@
 use mathlib.Core.Path.{◌≡◌}
 use native.Mathlib.Omega.{arith}
 use lib.IntN.{nat_abs}
-use borrow.Author.Rules.{rules}
 use Rattle.quantiser.specs.Laws.Step.{abs_read}
 use Rattle.quantiser.specs.Laws.Length.{Length, length_law}
-use Rattle.codewords.proofs.unsigned_abs.Reads as unsigned-abs-reads
-use Rattle.quantiser.proofs.quotient_log2.Reads as quotient-log2-reads
 use Rattle.quantiser.proofs.forward_len_by.Goals as goal
 use Rattle.quantiser.proofs.forward_len_by.Goals.{After-quotient_log2-e, After-unsigned_abs}
 

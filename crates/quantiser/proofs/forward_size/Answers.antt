@@ -3,10 +3,8 @@ use mathlib.Core.Path.{◌≡◌, sym, ap, ◌∙◌}
 use Prim.Native.Nat.{ℕ, ◌*◌, ◌/◌}
 use native.Mathlib.Omega.{arith}
 use lib.IntN.{nat_abs}
-use borrow.Author.Rules.{rules}
 use Rattle.quantiser.specs.Quant.{forward_by}
 use Rattle.quantiser.specs.Laws.Step.{abs_read, over_four, over_none, over_more, forward_abs}
-use Rattle.codewords.proofs.unsigned_abs.Reads as unsigned-abs-reads
 use Rattle.quantiser.proofs.forward_size.Goals as goal
 use Rattle.quantiser.proofs.forward_size.Goals.{After-unsigned_abs-m}
 

@@ -3,11 +3,8 @@ use mathlib.Core.Path.{◌∙◌}
 use native.Mathlib.Omega.{arith}
 use mir.Syntax.{w64}
 use mir.Facts.{to_z-of_z}
-use borrow.Author.Rules.{rules}
 use Rattle.quantiser.specs.Laws.Step.{back}
 use Rattle.quantiser.specs.Laws.Sign.{forward-sign}
-use Rattle.quantiser.proofs.forward_size.Reads as forward-size-reads
-use Rattle.quantiser.proofs.signed.Reads as signed-Reads
 use Rattle.quantiser.proofs.forward_small.Goals as goal
 
 pub signed-requires : goal.signed-requires

@@ -3,9 +3,7 @@ use mathlib.Core.Path.{refl}
 use Prim.Native.Nat.{◌/◌, ◌^◌, ◌≤◌}
 use native.Mathlib.Omega.{arith}
 use native.Mathlib.Nat.{mod-lt}
-use borrow.Author.Rules.{rules}
 use Rattle.quantiser.specs.Laws.Step.{quarter, over_four, four_times}
-use Rattle.quantiser.proofs.doubled.Reads as doubled-reads
 use Rattle.quantiser.proofs.four_over.Goals as goal
 use Rattle.quantiser.proofs.four_over.Goals.{Start}
 

@@ -4,12 +4,7 @@ use native.Mathlib.Omega.{arith}
 use lib.IntN.{nat_abs}
 use mir.Syntax.{w64}
 use mir.Facts.{to_z-of_z}
-use borrow.Author.Rules.{rules}
 use Rattle.quantiser.specs.Laws.Step.{back, abs_read, inverse-zero, inverse-more}
-use Rattle.codewords.proofs.unsigned_abs.Reads as unsigned-abs-reads
-use Rattle.quantiser.proofs.cap.Reads as cap-reads
-use Rattle.quantiser.proofs.capped_mul.Reads as capped-mul-reads
-use Rattle.quantiser.proofs.signed.Reads as signed-Reads
 use Rattle.quantiser.proofs.inverse_by.Goals as goal
 use Rattle.quantiser.proofs.inverse_by.Goals.{After-unsigned_abs-m}
 

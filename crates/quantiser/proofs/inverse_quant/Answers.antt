@@ -2,12 +2,8 @@
 use mathlib.Core.Path.{◌∙◌}
 use mir.Syntax.{w64}
 use mir.Facts.{to_z-of_z}
-use borrow.Author.Rules.{rules}
 use Rattle.quantiser.specs.Quant.{inverse_quant}
 use Rattle.quantiser.specs.Laws.Step.{back, refused, answered}
-use Rattle.quantiser.proofs.factors.table_at.Reads as table-at-reads
-use Rattle.quantiser.proofs.factors.offset_at.Reads as offset-at-reads
-use Rattle.quantiser.proofs.inverse_by.Reads as inverse-by-reads
 use Rattle.quantiser.proofs.inverse_quant.Goals as goal
 
 pub returns-then-index-gt255 : goal.returns-then-index-gt255

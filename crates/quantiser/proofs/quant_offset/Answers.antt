@@ -3,9 +3,7 @@ use mathlib.Core.Path.{ap, ◌∙◌}
 use lib.IntN.{pos}
 use mir.Syntax.{w64}
 use mir.Facts.{to_z_pos}
-use borrow.Author.Rules.{rules}
 use Rattle.quantiser.specs.Laws.Step.{refused, answered}
-use Rattle.quantiser.proofs.factors.offset_at.Reads as offset-at-reads
 use Rattle.quantiser.proofs.quant_offset.Goals as goal
 
 pub returns-then-index-gt255 : goal.returns-then-index-gt255

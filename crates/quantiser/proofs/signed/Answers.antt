@@ -4,7 +4,6 @@ use native.Mathlib.Omega.{arith}
 use lib.IntN.{pos, ◌-ℤ◌}
 use mir.Syntax.{w64}
 use mir.Facts.{to_z-of_z, to_z_pos}
-use borrow.Author.Rules.{rules}
 use Rattle.laws.specs.Laws.Integer.{abs_sub}
 use Rattle.laws.specs.Laws.Machine.{fit}
 use Rattle.quantiser.specs.Laws.Sign.{signed-minus, signed-plus}

@@ -2,9 +2,6 @@
 use mathlib.Core.Path.{sym}
 use native.Mathlib.Omega.{arith}
 use lib.Seq.{length-take-le}
-use borrow.Author.Rules.{rules}
-use Rattle.replay.proofs.case.unpack.Reads as unpack-reads
-use Rattle.replay.proofs.run_case.Reads as run-case-reads
 use Rattle.replay.proofs.run_bytes.Goals as goal
 
 pub slice_bounds-run_case-end-2 : goal.slice_bounds-run_case-end-2

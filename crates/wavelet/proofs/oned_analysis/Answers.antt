@@ -1,5 +1,5 @@
 -- `oned_analysis` meets its contract.
-use Rattle.std.proofs.Common.{arith, rules}
+use Rattle.std.proofs.Common.{arith}
 use Rattle.wavelet.specs.Laws.RowCall.{refuse_filter, refuse_long, analysed}
 use Rattle.wavelet.proofs.oned_analysis.Goals as goal
 

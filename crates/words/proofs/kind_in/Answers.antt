@@ -1,6 +1,5 @@
 -- `kind_in` meets its contract.
 use Rattle.words.specs.Laws.Words.{kind_high}
-use borrow.Author.Rules.{rules}
 use Rattle.words.proofs.kind_in.Goals as goal
 
 pub returns-else-v-eq0 : goal.returns-else-v-eq0

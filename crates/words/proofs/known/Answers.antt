@@ -1,6 +1,5 @@
 -- `known` meets its contract.
 use Rattle.words.specs.Laws.Words.{known_short, known_by}
-use borrow.Author.Rules.{rules}
 use Rattle.words.proofs.known.Goals as goal
 
 pub returns-then-words-ne21 : goal.returns-then-words-ne21

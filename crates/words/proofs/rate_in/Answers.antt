@@ -1,6 +1,5 @@
 -- `rate_in` meets its contract.
 use Rattle.words.specs.Laws.Words.{rate_bytes}
-use borrow.Author.Rules.{rules}
 use Rattle.words.proofs.rate_in.Goals as goal
 
 pub returns-then-rate-eq1 : goal.returns-then-rate-eq1

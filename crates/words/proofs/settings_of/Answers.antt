@@ -4,9 +4,6 @@ use lib.ListN.{length}
 use native.Mathlib.Omega.{arith}
 use Rattle.unit.specs.Words.{settings_of}
 use Rattle.words.specs.Laws.Words.{known-long}
-use borrow.Author.Rules.{rules}
-use Rattle.words.proofs.kind_in.Reads as kind-in-reads
-use Rattle.words.proofs.rate_in.Reads as rate-in-reads
 use Rattle.words.proofs.settings_of.Goals as goal
 use Rattle.words.proofs.settings_of.Goals.{Start}
 

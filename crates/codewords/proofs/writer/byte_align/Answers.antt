@@ -1,13 +1,10 @@
 -- `codewords::writer::byte_align` meets its contract.
 use mathlib.Core.List.{append-nil}
 use native.Mathlib.Omega.{arith}
-use borrow.Author.Rules.{rules}
 use Rattle.codewords.specs.Bit.{zero_bits}
 use Rattle.codewords.specs.Laws.Bit.{length-lit, lit-zeros}
 use Rattle.codewords.specs.Bytes.{padding}
 use Rattle.codewords.specs.Laws.Writer.{wrote_then, room_after}
-use Rattle.codewords.proofs.writer.flush.Reads as flush-reads
-use Rattle.codewords.proofs.writer.put_short.Reads as put-short-reads
 use Rattle.codewords.proofs.writer.byte_align.Goals as goal
 
 pub flush-requires : goal.flush-requires

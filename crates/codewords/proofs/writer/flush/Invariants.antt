@@ -1,20 +1,10 @@
 -- `codewords::writer::flush` meets its contract. The loop's invariant: the bytes of the bits pending from place k on
 -- are laid.
 use mathlib.Core.Path.{◌≡◌}
-use mathlib.Core.List.{List, append-nil}
-use Prim.Native.Nat.{ℕ, ◌+◌, ◌-◌, ◌/◌, ◌%◌, ◌^◌, ◌≤◌, ◌<◌}
-use native.Mathlib.Omega.{arith}
-use borrow.Author.Rules.{rules}
-use lib.ListN.{set}
-use lib.Pow.{pow_pos}
+use Prim.Native.Nat.{◌-◌, ◌/◌, ◌%◌, ◌^◌, ◌≤◌}
 use Rattle.laws.specs.Code.Laid.{Lays}
-use Rattle.laws.specs.Laws.Laid.{lays_start, lays_on, lays_first}
 use Rattle.codewords.specs.Bit.{lit}
-use Rattle.codewords.specs.Laws.Bit.{length-lit, lit-none, byte_up, one_shl}
 use Rattle.codewords.specs.Bytes.{to_bytes}
-use Rattle.codewords.specs.Laws.Byte.{pack-none, length-to_bytes, bytes_more}
-use Rattle.codewords.specs.Code.Writer.{pending_of}
-use Rattle.codewords.specs.Laws.Writer.{wrote_bits}
 use Rattle.codewords.proofs.writer.flush.Given as goal
 
 abbrev pub invariant-loop-k : goal.invariant-loop-k

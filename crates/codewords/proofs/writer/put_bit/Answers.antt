@@ -1,7 +1,5 @@
 -- `codewords::writer::put_bit` meets its contract.
-use borrow.Author.Rules.{rules}
 use Rattle.codewords.specs.Laws.Bit.{lit_bit}
-use Rattle.codewords.proofs.writer.put_short.Reads as put-short-reads
 use Rattle.codewords.proofs.writer.put_bit.Goals as goal
 
 pub returns : goal.returns

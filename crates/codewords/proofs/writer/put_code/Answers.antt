@@ -5,8 +5,6 @@ use lib.Count.{count_leading_zeros}
 use Rattle.codewords.specs.CodeWord.{log2}
 use Rattle.codewords.specs.Laws.Code.{leading_log2, length-code_u, code_u_is}
 use native.Mathlib.Omega.{arith}
-use borrow.Author.Rules.{rules}
-use Rattle.codewords.proofs.writer.put_interleaved.Reads as put-interleaved-reads
 use Rattle.codewords.proofs.writer.put_code.Goals as goal
 use Rattle.codewords.proofs.writer.put_code.Goals.{Start}
 

@@ -4,7 +4,6 @@ use mathlib.Core.List.{List, [], ◌∷◌, ◌++◌, append_assoc}
 use Prim.Native.Nat.{ℕ, ◌+◌, ◌-◌, ◌*◌, ◌/◌, ◌^◌, ◌≤◌}
 use native.Mathlib.Nat.{le_refl}
 use native.Mathlib.Omega.{arith}
-use borrow.Author.Rules.{rules}
 use Rattle.codewords.specs.declared.writer.BitWriter.{BitWriter}
 use Rattle.codewords.specs.Bit.{lit}
 use Rattle.codewords.specs.Laws.Bit.{length-lit, lit-none, lit_split, byte_up}
@@ -14,8 +13,6 @@ use Rattle.codewords.specs.Laws.Code.{interleaved-none, interleaved-append, leng
 use Rattle.codewords.specs.Laws.Word.{interleaved-spread, word_lit}
 use Rattle.codewords.specs.Code.Writer.{Sound, Room, Wrote}
 use Rattle.codewords.specs.Laws.Writer.{wrote_none, wrote_then, room_after}
-use Rattle.codewords.proofs.writer.put_short.Reads as put-short-reads
-use Rattle.codewords.proofs.writer.spread.Reads as spread-reads
 use Rattle.codewords.proofs.writer.put_interleaved.Goals as goal
 use Rattle.codewords.proofs.writer.put_interleaved.Goals.{At-loop-i}
 

@@ -1,23 +1,9 @@
 -- `codewords::writer::put_interleaved` meets its contract. The loop's invariant: the pairs of the bits of x from place
 -- i on are written.
-use mathlib.Core.Path.{◌≡◌, ap, ◌∙◌}
-use mathlib.Core.Bool.{true}
-use mathlib.Core.List.{List, [], ◌∷◌, ◌++◌, append_assoc}
-use Prim.Native.Nat.{ℕ, ◌+◌, ◌-◌, ◌*◌, ◌/◌, ◌^◌, ◌≤◌}
-use native.Mathlib.Nat.{le_refl}
-use native.Mathlib.Omega.{arith}
-use borrow.Author.Rules.{rules}
-use Rattle.codewords.specs.declared.writer.BitWriter.{BitWriter}
+use Prim.Native.Nat.{◌-◌, ◌/◌, ◌^◌, ◌≤◌}
 use Rattle.codewords.specs.Bit.{lit}
-use Rattle.codewords.specs.Laws.Bit.{length-lit, lit-none, lit_split, byte_up}
 use Rattle.codewords.specs.CodeWord.{interleaved}
-use Rattle.codewords.specs.Code.Spread.{spread_bits}
-use Rattle.codewords.specs.Laws.Code.{interleaved-none, interleaved-append, length-interleaved}
-use Rattle.codewords.specs.Laws.Word.{interleaved-spread, word_lit}
-use Rattle.codewords.specs.Code.Writer.{Sound, Room, Wrote}
-use Rattle.codewords.specs.Laws.Writer.{wrote_none, wrote_then, room_after}
-use Rattle.codewords.proofs.writer.put_short.Reads as put-short-reads
-use Rattle.codewords.proofs.writer.spread.Reads as spread-reads
+use Rattle.codewords.specs.Code.Writer.{Wrote}
 use Rattle.codewords.proofs.writer.put_interleaved.Given as goal
 
 abbrev pub invariant-loop-i : goal.invariant-loop-i

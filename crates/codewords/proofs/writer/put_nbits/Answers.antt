@@ -3,11 +3,9 @@ use mathlib.Core.Path.{◌≡◌, ap, ◌∙◌}
 use mathlib.Core.List.{◌++◌}
 use Prim.Native.Nat.{ℕ, ◌+◌, ◌-◌, ◌/◌, ◌^◌, ◌≤◌}
 use native.Mathlib.Omega.{arith}
-use borrow.Author.Rules.{rules}
 use Rattle.codewords.specs.Bit.{lit}
 use Rattle.codewords.specs.Laws.Bit.{length-lit, lit_split}
 use Rattle.codewords.specs.Laws.Writer.{wrote_then, room_after}
-use Rattle.codewords.proofs.writer.put_short.Reads as put-short-reads
 use Rattle.codewords.proofs.writer.put_nbits.Goals as goal
 
 -- the bits from place 32 on, and then the others

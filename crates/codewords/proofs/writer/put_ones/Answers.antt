@@ -1,4 +1,4 @@
-use mathlib.Core.Path.{◌≡◌, ◌∙◌}
+use mathlib.Core.Path.{◌≡◌}
 use mathlib.Core.Bool.{true}
 use mathlib.Core.List.{List}
 use Prim.Native.Nat.{ℕ, ◌+◌, ◌-◌, ◌^◌, ◌≤◌}
@@ -9,7 +9,6 @@ use Rattle.codewords.specs.Laws.Bit.{lit_ones}
 use Rattle.codewords.specs.Code.Writer.{Sound, Room, Wrote}
 use Rattle.codewords.specs.Laws.Writer.{wrote_none, wrote_then, room_after}
 use native.Mathlib.Omega.{arith}
-use Rattle.codewords.proofs.writer.put_short.Reads as put-short-reads
 use Rattle.codewords.proofs.writer.put_ones.Goals as goal
 use Rattle.codewords.proofs.writer.put_ones.Goals.{At-loop-left}
 

@@ -3,11 +3,9 @@
 use mathlib.Core.Path.{◌≡◌, sym}
 use Prim.Native.Nat.{◌+◌, ◌-◌, ◌*◌, ◌%◌, ◌^◌, ◌≤◌, ◌<◌}
 use native.Mathlib.Omega.{arith}
-use borrow.Author.Rules.{rules}
 use lib.Pow.{pow_pos, pow_mono}
 use Rattle.codewords.specs.Laws.Bit.{lit_join, one_shl}
 use Rattle.codewords.specs.Laws.Writer.{joined, joined-lt, wrote_few, wrote_bits}
-use Rattle.codewords.proofs.writer.put_four.Reads as put-four-reads
 use Rattle.codewords.proofs.writer.put_short.Goals as goal
 use Rattle.codewords.proofs.writer.put_short.Goals.{Start}
 

@@ -4,16 +4,11 @@ use mathlib.Core.Bool.{Bool}
 use mathlib.Core.List.{[], ◌∷◌, ◌++◌}
 use Prim.Native.Nat.{ℕ, ◌+◌, ◌-◌, ◌≤◌}
 use native.Mathlib.Omega.{arith}
-use borrow.Author.Rules.{rules}
 use lib.ListN.{length, length-append}
 use Rattle.codewords.specs.Laws.Bit.{length-lit}
 use Rattle.codewords.specs.CodeWord.{code_u, code_m}
 use Rattle.codewords.specs.Laws.Code.{code_m-pos}
 use Rattle.codewords.specs.Laws.Writer.{wrote_then, room_after}
-use Rattle.codewords.proofs.writer.put_bit.Reads as put-bit-reads
-use Rattle.codewords.proofs.writer.put_code.Reads as put-code-reads
-use Rattle.codewords.proofs.writer.put_short.Reads as put-short-reads
-use Rattle.codewords.proofs.writer.word_of.Reads as word-of-reads
 use Rattle.codewords.proofs.writer.put_signed.Goals as goal
 
 -- the word of a magnitude that is not 0, and the sign bit

@@ -1,7 +1,6 @@
 -- `codewords::writer::put_sint` meets its contract.
 use mathlib.Core.Path.{◌≡◌, sym, ap, ◌∙◌}
 use Prim.Native.Nat.{ℕ}
-use borrow.Author.Rules.{rules}
 use lib.IntN.{pos}
 use lib.Signed.{lt_z}
 use mir.Syntax.{w64}
@@ -9,8 +8,6 @@ use mir.Val.{of_z, to_z}
 use mir.Facts.{to_z-of_z}
 use Rattle.codewords.specs.CodeWord.{code_s, code_m}
 use Rattle.codewords.specs.Laws.Code.{code-signed}
-use Rattle.codewords.proofs.unsigned_abs.Reads as unsigned-abs-reads
-use Rattle.codewords.proofs.writer.put_signed.Reads as put-signed-reads
 use Rattle.codewords.proofs.writer.put_sint.Goals as goal
 use Rattle.codewords.proofs.writer.put_sint.Goals.{After-unsigned_abs}
 

@@ -2,8 +2,6 @@
 use native.Mathlib.Omega.{arith}
 use mathlib.Core.Path.{◌≡◌}
 use Prim.Native.Nat.{◌+◌, ◌-◌}
-use borrow.Author.Rules.{rules}
-use Rattle.codewords.proofs.writer.put_code.Reads as put-code-reads
 use Rattle.codewords.proofs.writer.put_uint.Goals as goal
 
 pub put_code-requires : goal.put_code-requires

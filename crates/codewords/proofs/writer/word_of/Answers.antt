@@ -2,14 +2,12 @@
 use mathlib.Core.Path.{◌≡◌, sym, ap, ◌∙◌}
 use Prim.Native.Nat.{ℕ, ◌+◌, ◌-◌, ◌≤◌}
 use native.Mathlib.Omega.{arith}
-use borrow.Author.Rules.{rules}
 use lib.Count.{count_leading_zeros}
 use Rattle.codewords.specs.Bit.{lit}
 use Rattle.codewords.specs.Laws.Bit.{val-lt, byte_val}
 use Rattle.codewords.specs.CodeWord.{log2, code_m}
 use Rattle.codewords.specs.Laws.Code.{leading_log2, code_m-zero}
 use Rattle.codewords.specs.Laws.Word.{code-lit}
-use Rattle.codewords.proofs.writer.spread.Reads as spread-reads
 use Rattle.codewords.proofs.writer.word_of.Goals as goal
 use Rattle.codewords.proofs.writer.word_of.Goals.{Start}
 

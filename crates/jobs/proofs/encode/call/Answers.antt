@@ -6,7 +6,6 @@ use lib.Seq.{length-take-le}
 use Rattle.jobs.specs.Laws.Parse.{length_part}
 use Rattle.jobs.specs.Laws.Job.{Able, able, loaded, called_from}
 use native.Mathlib.Omega.{arith}
-use borrow.Author.Rules.{rules}
 use Rattle.jobs.proofs.encode.call.Goals as goal
 use Rattle.jobs.proofs.encode.call.Goals.{Start}
 

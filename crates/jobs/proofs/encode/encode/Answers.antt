@@ -5,7 +5,6 @@ use Prim.Native.Nat.{◌-◌}
 use lib.ListN.{take, drop}
 use lib.Seq.{length-take-le}
 use Rattle.jobs.specs.Laws.Job.{lent-to_end}
-use borrow.Author.Rules.{rules}
 use Rattle.jobs.proofs.encode.encode.Goals as goal
 
 pub slice_bounds-encode_picture-end : goal.slice_bounds-encode_picture-end

@@ -10,7 +10,6 @@ use Rattle.jobs.specs.Job.{words_of}
 use Rattle.jobs.specs.Laws.Print.{lays_read}
 use Rattle.jobs.specs.Laws.Parse.{words_count}
 use Rattle.jobs.specs.Laws.Job.{whole-read, odd-read}
-use borrow.Author.Rules.{rules}
 use Rattle.jobs.proofs.encode.run.Goals as goal
 use Rattle.jobs.proofs.encode.run.Goals.{Start}
 

@@ -2,7 +2,6 @@
 use mathlib.Core.Path.{◌≡◌, sym, ◌∙◌}
 use native.Mathlib.Omega.{arith}
 use lib.ListN.{length}
-use borrow.Author.Tests.{not-true, not-false}
 use Rattle.jobs.specs.Laws.Job.{answer_room, answer_laid, job-laid}
 use borrow.Author.Rules.{rules}
 use Rattle.jobs.proofs.encode.run_words.Goals as goal

@@ -1,8 +1,5 @@
-use mathlib.Core.Path.{◌≡◌, refl, ◌∙◌}
+use mathlib.Core.Path.{refl, ◌∙◌}
 use mathlib.Core.List.{map}
-use Prim.Native.Nat.{◌-◌, ◌≤◌}
-use lib.ListN.{length, drop}
-use Rattle.unit.specs.Refusal.{any_above}
 use Rattle.jobs.specs.Job.{content_of}
 use Rattle.picture.specs.Laws.Refusal.{above_here, above_next, above_none}
 use Rattle.jobs.specs.Laws.Parse.{contents_count, content_at}

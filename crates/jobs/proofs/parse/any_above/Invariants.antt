@@ -1,14 +1,11 @@
 -- `parse::any_above` meets its contract. The invariant: what is asked of all contents is asked of those from place i
 -- on.
-use mathlib.Core.Path.{◌≡◌, refl, ◌∙◌}
+use mathlib.Core.Path.{◌≡◌}
 use mathlib.Core.List.{map}
 use Prim.Native.Nat.{◌-◌, ◌≤◌}
 use lib.ListN.{length, drop}
 use Rattle.unit.specs.Refusal.{any_above}
 use Rattle.jobs.specs.Job.{content_of}
-use Rattle.picture.specs.Laws.Refusal.{above_here, above_next, above_none}
-use Rattle.jobs.specs.Laws.Parse.{contents_count, content_at}
-use native.Mathlib.Omega.{arith}
 use Rattle.jobs.proofs.parse.any_above.Given as goal
 
 abbrev pub invariant-loop-i : goal.invariant-loop-i

@@ -1,6 +1,5 @@
 -- `parse::ends_of` meets its contract.
 use Rattle.jobs.specs.Laws.Parse.{ends_are}
-use borrow.Author.Rules.{rules}
 use Rattle.jobs.proofs.parse.ends_of.Goals as goal
 
 pub returns : goal.returns

@@ -1,7 +1,6 @@
 -- `parse::is_end` meets its contract.
 use native.Mathlib.Omega.{arith}
 use Rattle.jobs.specs.Laws.Parse.{end_other, end_one}
-use borrow.Author.Rules.{rules}
 use Rattle.jobs.proofs.parse.is_end.Goals as goal
 
 pub returns-then-words-eq0 : goal.returns-then-words-eq0

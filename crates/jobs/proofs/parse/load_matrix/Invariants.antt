@@ -1,13 +1,9 @@
 -- `parse::load_matrix` meets its contract. The invariant: the first i contents are laid.
-use mathlib.Core.Path.{◌∙◌}
 use mathlib.Core.List.{map}
 use Prim.Native.Nat.{◌-◌, ◌≤◌}
 use lib.ListN.{length, take}
 use Rattle.laws.specs.Code.Laid.{Lays}
-use Rattle.laws.specs.Laws.Laid.{lays_start}
 use Rattle.jobs.specs.Job.{content_of}
-use Rattle.jobs.specs.Laws.Parse.{fill-next, fill_all, contents_count, content_at}
-use native.Mathlib.Omega.{arith}
 use Rattle.jobs.proofs.parse.load_matrix.Given as goal
 
 abbrev pub invariant-loop-i : goal.invariant-loop-i

@@ -1,8 +1,6 @@
 use mathlib.Core.Path.{◌∙◌}
 use mathlib.Core.List.{map}
-use Prim.Native.Nat.{◌-◌, ◌≤◌}
-use lib.ListN.{length, take}
-use Rattle.laws.specs.Code.Laid.{Lays}
+use lib.ListN.{length}
 use Rattle.laws.specs.Laws.Laid.{lays_start}
 use Rattle.jobs.specs.Job.{content_of}
 use Rattle.jobs.specs.Laws.Parse.{fill-next, fill_all, contents_count, content_at, content_small}

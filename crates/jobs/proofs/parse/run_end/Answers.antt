@@ -1,7 +1,4 @@
-use mathlib.Core.Path.{◌≡◌, refl, sym, ◌∙◌}
-use Prim.Native.Nat.{◌-◌, ◌≤◌}
-use lib.ListN.{length}
-use Rattle.jobs.specs.Code.Steps.{run_end}
+use mathlib.Core.Path.{refl, sym, ◌∙◌}
 use Rattle.jobs.specs.Laws.Parse.{run_stop, run-next, run_over}
 use native.Mathlib.Omega.{arith}
 use Rattle.jobs.proofs.parse.run_end.Goals as goal

@@ -1,10 +1,8 @@
 -- `parse::run_end` meets its contract. The invariant: the run from place i on ends where the whole run ends.
-use mathlib.Core.Path.{◌≡◌, refl, sym, ◌∙◌}
+use mathlib.Core.Path.{◌≡◌}
 use Prim.Native.Nat.{◌-◌, ◌≤◌}
 use lib.ListN.{length}
 use Rattle.jobs.specs.Code.Steps.{run_end}
-use Rattle.jobs.specs.Laws.Parse.{run_stop, run-next, run_over}
-use native.Mathlib.Omega.{arith}
 use Rattle.jobs.proofs.parse.run_end.Given as goal
 
 abbrev pub invariant-loop-i : goal.invariant-loop-i

@@ -1,7 +1,6 @@
 use mathlib.Core.Path.{◌∙◌}
-use Prim.Native.Nat.{◌-◌, ◌/◌, ◌≤◌}
-use lib.ListN.{length, take}
-use Rattle.laws.specs.Code.Laid.{Lays}
+use Prim.Native.Nat.{◌/◌}
+use lib.ListN.{length}
 use Rattle.laws.specs.Laws.Laid.{lays_start}
 use Rattle.jobs.specs.Job.{words_of}
 use Rattle.jobs.specs.Laws.Parse.{fill-next, fill_all, words_count, words_at_lem}

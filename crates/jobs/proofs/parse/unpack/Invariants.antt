@@ -1,12 +1,8 @@
 -- `parse::unpack` meets its contract. The invariant: the first i words are laid.
-use mathlib.Core.Path.{◌∙◌}
 use Prim.Native.Nat.{◌-◌, ◌/◌, ◌≤◌}
 use lib.ListN.{length, take}
 use Rattle.laws.specs.Code.Laid.{Lays}
-use Rattle.laws.specs.Laws.Laid.{lays_start}
 use Rattle.jobs.specs.Job.{words_of}
-use Rattle.jobs.specs.Laws.Parse.{fill-next, fill_all, words_count, words_at_lem}
-use native.Mathlib.Omega.{arith}
 use Rattle.jobs.proofs.parse.unpack.Given as goal
 
 abbrev pub invariant-loop-i : goal.invariant-loop-i

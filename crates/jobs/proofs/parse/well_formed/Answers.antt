@@ -4,11 +4,9 @@ use mathlib.Core.Bool.{true, not}
 use Prim.Native.Nat.{◌≤◌}
 use lib.ListN.{length, take}
 use lib.Seq.{length-take-le}
-use borrow.Author.Tests.{not-true, not-false}
 use Rattle.unit.specs.Words.{known}
 use Rattle.jobs.specs.Laws.Parse.{Parted, parted, settings_long, order_unknown, order_endless, order_uncounted, order_last}
 use native.Mathlib.Omega.{arith}
-use borrow.Author.Rules.{rules}
 use Rattle.jobs.proofs.parse.well_formed.Goals as goal
 use Rattle.jobs.proofs.parse.well_formed.Goals.{Start}
 

@@ -1,6 +1,5 @@
 -- `print::digit` meets its contract.
 use borrow.Author.Tests.{lt-ltb, le-ltb}
-use borrow.Author.Rules.{rules}
 use Rattle.jobs.proofs.print.digit.Goals as goal
 
 pub returns-then-v-lt10 : goal.returns-then-v-lt10

@@ -1,6 +1,5 @@
 -- `print::put` meets its contract.
 use Rattle.jobs.specs.Laws.Print.{lays_one}
-use borrow.Author.Rules.{rules}
 use Rattle.jobs.proofs.print.put.Goals as goal
 
 pub returns : goal.returns

@@ -4,7 +4,6 @@ use native.Mathlib.Omega.{arith}
 use lib.ListN.{length, take}
 use lib.Seq.{length-take-le}
 use Rattle.jobs.specs.Laws.Print.{length_bytes, accepted_room, refused_laid, accepted_laid}
-use borrow.Author.Rules.{rules}
 use Rattle.jobs.proofs.print.put_answer.Goals as goal
 
 pub slice_bounds-put_bytes-end : goal.slice_bounds-put_bytes-end

@@ -1,6 +1,5 @@
 -- `print::put_byte` meets its contract.
 use Rattle.jobs.specs.Laws.Print.{chunk-laid}
-use borrow.Author.Rules.{rules}
 use Rattle.jobs.proofs.print.put_byte.Goals as goal
 
 pub returns : goal.returns

@@ -1,7 +1,6 @@
 -- `print::put_coded` meets its contract.
 use native.Mathlib.Omega.{arith}
 use Rattle.jobs.specs.Laws.Print.{line-laid}
-use borrow.Author.Rules.{rules}
 use Rattle.jobs.proofs.print.put_coded.Goals as goal
 
 pub put_value-b-requires : goal.put_value-b-requires

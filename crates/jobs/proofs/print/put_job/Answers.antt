@@ -1,6 +1,5 @@
 -- `print::put_job` meets its contract.
 use Rattle.laws.specs.Laws.Laid.{lays_on}
-use borrow.Author.Rules.{rules}
 use Rattle.jobs.proofs.print.put_job.Goals as goal
 
 pub returns : goal.returns

@@ -3,7 +3,6 @@ use Prim.Native.Nat.{◌^◌, ◌<◌}
 use native.Mathlib.Omega.{arith}
 use Rattle.laws.specs.Laws.Laid.{lays_on}
 use Rattle.jobs.specs.Laws.Print.{decimal_ten, value_short}
-use borrow.Author.Rules.{rules}
 use Rattle.jobs.proofs.print.put_value.Goals as goal
 
 pub put_number-e-requires : goal.put_number-e-requires

@@ -1,7 +1,5 @@
-use mathlib.Core.Path.{◌≡◌, refl, ◌∙◌}
-use mathlib.Core.List.{◌++◌}
-use Prim.Native.Nat.{◌-◌, ◌≤◌}
-use lib.ListN.{length, drop, replicate, length-set}
+use mathlib.Core.Path.{refl, ◌∙◌}
+use lib.ListN.{length-set}
 use Rattle.picture.specs.Laws.Encoded.{zeros-turn, zeros_all}
 use native.Mathlib.Omega.{arith}
 use Rattle.picture.proofs.encoder.clear_bytes.Goals as goal

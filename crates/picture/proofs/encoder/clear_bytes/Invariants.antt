@@ -1,10 +1,8 @@
 -- `encoder::clear_bytes` meets its contract. The invariant: the first i places are zeros.
-use mathlib.Core.Path.{◌≡◌, refl, ◌∙◌}
+use mathlib.Core.Path.{◌≡◌}
 use mathlib.Core.List.{◌++◌}
 use Prim.Native.Nat.{◌-◌, ◌≤◌}
-use lib.ListN.{length, drop, replicate, length-set}
-use Rattle.picture.specs.Laws.Encoded.{zeros-turn, zeros_all}
-use native.Mathlib.Omega.{arith}
+use lib.ListN.{length, drop, replicate}
 use Rattle.picture.proofs.encoder.clear_bytes.Given as goal
 
 abbrev pub invariant-loop-i : goal.invariant-loop-i

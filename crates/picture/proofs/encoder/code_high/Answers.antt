@@ -1,7 +1,6 @@
 -- `encoder::code_high` meets its contract.
 use mathlib.Core.Path.{◌≡◌, refl, sym, ap, ◌∙◌}
 use native.Mathlib.Omega.{arith}
-use borrow.Author.Rules.{rules}
 use lib.ListN.{length}
 use Rattle.unit.specs.Outcome.{coding_refusal}
 use Rattle.picture.specs.Code.Head.{CanCarry}

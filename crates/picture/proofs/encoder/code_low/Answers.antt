@@ -9,7 +9,6 @@ use Rattle.picture.specs.Code.Matrix.{lent_in}
 use Rattle.picture.specs.Code.Head.{CanCarry}
 use Rattle.picture.specs.Laws.Analysed.{called_arranged, called_carry}
 use Rattle.picture.specs.Laws.LowLink.{Worked, low_refused, low_ready, low_written}
-use borrow.Author.Rules.{rules}
 use Rattle.picture.proofs.encoder.code_low.Goals as goal
 use Rattle.picture.proofs.encoder.code_low.Goals.{After-coding_refusal-r, Start}
 

@@ -5,12 +5,6 @@ use Rattle.unit.proofs.Laws.Valid.{levels_few}
 use Rattle.picture.specs.Code.Matrix.{lent_in}
 use Rattle.picture.specs.Code.Analysed.{Called}
 use Rattle.picture.specs.Laws.Analysed.{called, ready, codes-lent}
-use borrow.Author.Rules.{rules}
-use Rattle.picture.proofs.coder.analysis.analyse.Reads as analyse-reads
-use Rattle.picture.proofs.coder.analysis.picture_of.Reads as picture-of-reads
-use Rattle.picture.proofs.front.matrix.carried_of.Reads as carried-of-reads
-use Rattle.picture.proofs.encoder.code_high.Reads as code-high-reads
-use Rattle.picture.proofs.encoder.code_low.Reads as code-low-reads
 use Rattle.picture.proofs.encoder.code_picture.Goals as goal
 use Rattle.picture.proofs.encoder.code_picture.Goals.{After-carried_of-m}
 

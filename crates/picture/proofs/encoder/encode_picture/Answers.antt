@@ -5,11 +5,6 @@ use Rattle.unit.proofs.Laws.Valid.{valid}
 use Rattle.unit.proofs.Laws.Demand.{Typed}
 use Rattle.unit.specs.Three.{planes}
 use Rattle.picture.specs.Laws.Encoded.{typed_by, encodes_refused, encodes_coded}
-use borrow.Author.Rules.{rules}
-use Rattle.picture.proofs.coder.analysis.clear.Reads as clear_reads
-use Rattle.picture.proofs.encoder.clear_refused.Reads as clear-refused-reads
-use Rattle.picture.proofs.encoder.code_picture.Reads as code-picture-reads
-use Rattle.picture.proofs.front.refusal.refusal.Reads as refusal-reads
 use Rattle.picture.proofs.encoder.encode_picture.Goals as goal
 use Rattle.picture.proofs.encoder.encode_picture.Goals.{After-shared_slice_known-4-1}
 

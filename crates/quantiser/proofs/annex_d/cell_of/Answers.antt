@@ -1,5 +1,4 @@
 -- `quantiser::annex_d::cell_of` meets its contract.
-use borrow.Author.Rules.{rules}
 use Rattle.quantiser.specs.Laws.Cell.{PlaceAt, place, cell_past}
 use Rattle.quantiser.proofs.annex_d.cell_of.Goals as goal
 use Rattle.quantiser.proofs.annex_d.cell_of.Goals.{Else-depth_ho-gt4}

@@ -1,9 +1,5 @@
 -- `quantiser::annex_d::default_quant_matrix` meets its contract.
-use borrow.Author.Rules.{rules}
 use Rattle.quantiser.specs.Laws.Cell.{no_table, no_matrix_lem, is_matrix}
-use Rattle.quantiser.proofs.annex_d.cell_of.Reads as cell-of-reads
-use Rattle.quantiser.proofs.annex_d.matrix_at.Reads as matrix-at-reads
-use Rattle.quantiser.proofs.annex_d.table_of.Reads as table-of-reads
 use Rattle.quantiser.proofs.annex_d.default_quant_matrix.Goals as goal
 
 pub returns-then-cell-lt19 : goal.returns-then-cell-lt19

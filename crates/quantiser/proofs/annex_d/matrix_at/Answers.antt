@@ -1,10 +1,6 @@
-use mathlib.Core.Path.{◌≡◌, refl}
-use Prim.Native.Nat.{◌-◌, ◌≤◌}
+use mathlib.Core.Path.{refl}
 use native.Mathlib.Omega.{arith}
-use borrow.Author.Rules.{rules}
-use Rattle.quantiser.specs.Code.Cells.{matrix_at}
-use Rattle.quantiser.specs.Laws.Cell.{filled, filled-turn, filled_all}
-use Rattle.quantiser.proofs.annex_d.value_at.Reads as value-at-reads
+use Rattle.quantiser.specs.Laws.Cell.{filled-turn, filled_all}
 use Rattle.quantiser.proofs.annex_d.matrix_at.Goals as goal
 
 pub loop-i-init : goal.loop-i-init

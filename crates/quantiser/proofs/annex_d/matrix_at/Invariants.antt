@@ -1,11 +1,8 @@
 -- `quantiser::annex_d::matrix_at` meets its contract. The invariant: the first i values stand in their places.
-use mathlib.Core.Path.{◌≡◌, refl}
+use mathlib.Core.Path.{◌≡◌}
 use Prim.Native.Nat.{◌-◌, ◌≤◌}
-use native.Mathlib.Omega.{arith}
-use borrow.Author.Rules.{rules}
 use Rattle.quantiser.specs.Code.Cells.{matrix_at}
-use Rattle.quantiser.specs.Laws.Cell.{filled, filled-turn, filled_all}
-use Rattle.quantiser.proofs.annex_d.value_at.Reads as value-at-reads
+use Rattle.quantiser.specs.Laws.Cell.{filled}
 use Rattle.quantiser.proofs.annex_d.matrix_at.Given as goal
 
 abbrev pub invariant-loop-i : goal.invariant-loop-i

@@ -1,6 +1,4 @@
 -- `quantiser::annex_d::table_of` meets its contract.
-use mathlib.Core.Logic.{⊎_elim}
-use borrow.Author.Tests.{eqb-true, eqb-false}
 use Rattle.quantiser.specs.Laws.Cell.{same_table, same_none, mixed_table, mixed_none}
 use Rattle.quantiser.proofs.annex_d.table_of.Goals as goal
 use Rattle.quantiser.proofs.annex_d.table_of.Goals.{else-wavelet-eq3-via-then-wavelet-eq3+else-wavelet_ho-eq1, else-wavelet-eq3-via-else-wavelet-eq3}

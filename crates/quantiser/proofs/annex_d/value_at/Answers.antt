@@ -3,11 +3,9 @@ use mathlib.Core.Path.{◌≡◌, ◌∙◌}
 use mathlib.Core.List.{[], flatten}
 use Prim.Native.Nat.{◌+◌, ◌*◌}
 use lib.ListN.{get_or}
-use borrow.Author.Rules.{rules}
 use Rattle.laws.specs.Rows.{span}
 use Rattle.quantiser.specs.Code.Cells.{all_tables, matrix_at}
 use Rattle.quantiser.specs.Laws.Cell.{numbers_at, number_at}
-use Rattle.quantiser.proofs.annex_d.wide.Reads as wide-reads
 use Rattle.quantiser.proofs.annex_d.value_at.Goals as goal
 
 pub returns : goal.returns

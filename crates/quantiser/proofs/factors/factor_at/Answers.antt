@@ -1,9 +1,6 @@
 -- `quantiser::factors::factor_at` meets its contract.
 use mathlib.Core.Path.{◌∙◌}
-use borrow.Author.Rules.{rules}
 use Rattle.quantiser.specs.Laws.Cap.{base_small, factor-low, is_factor}
-use Rattle.quantiser.proofs.factors.factor_by.Reads as factor-by-reads
-use Rattle.quantiser.proofs.factors.table_at.Reads as table-at-reads
 use Rattle.quantiser.proofs.factors.factor_at.Goals as goal
 
 pub factor_by-requires : goal.factor_by-requires

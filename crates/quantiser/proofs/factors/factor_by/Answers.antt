@@ -1,6 +1,5 @@
 -- `quantiser::factors::factor_by` meets its contract.
 use native.Mathlib.Omega.{arith}
-use borrow.Author.Rules.{rules}
 use Rattle.quantiser.specs.Laws.Cap.{factor_by_rest}
 use Rattle.quantiser.proofs.factors.factor_by.Goals as goal
 

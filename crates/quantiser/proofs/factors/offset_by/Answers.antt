@@ -2,10 +2,8 @@
 use mathlib.Core.Path.{◌≡◌, sym, ap}
 use Prim.Native.Nat.{◌/◌}
 use native.Mathlib.Omega.{arith}
-use borrow.Author.Rules.{rules}
 use Rattle.quantiser.specs.Quant.{quant_offset}
 use Rattle.quantiser.specs.Laws.Cap.{quant_offset_half}
-use Rattle.quantiser.proofs.cap.Reads as cap-reads
 use Rattle.quantiser.proofs.factors.offset_by.Goals as goal
 
 pub returns-then-index-eq0 : goal.returns-then-index-eq0

@@ -1,10 +1,7 @@
 -- `replay::case::unpack` is safe and ends.
-use mathlib.Core.Path.{◌≡◌, refl}
+use mathlib.Core.Path.{◌≡◌}
 use Prim.Native.Nat.{◌-◌, ◌≤◌}
 use lib.ListN.{length}
-use borrow.Author.Rules.{rules}
-use native.Mathlib.Omega.{arith}
-use Rattle.replay.proofs.case.word_at.Reads as word-at-reads
 use Rattle.replay.proofs.case.unpack.Given as goal
 
 abbrev pub invariant-loop-i : goal.invariant-loop-i

@@ -1,7 +1,5 @@
 -- `replay::case::word_at` is safe and ends.
 use Prim.Native.Nat.{◌-◌, ◌^◌, ◌<◌, ◌≤◌}
-use native.Mathlib.Omega.{arith}
-use Rattle.replay.proofs.case.wide.Reads as wide-reads
 use Rattle.replay.proofs.case.word_at.Given as goal
 
 abbrev pub invariant-loop-i : goal.invariant-loop-i

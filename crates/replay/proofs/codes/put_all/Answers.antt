@@ -5,10 +5,6 @@ use Rattle.codewords.specs.Code.Writer.{Room}
 use Rattle.codewords.specs.Laws.Writer.{room_after}
 use Rattle.replay.specs.Laws.Put.{short}
 use native.Mathlib.Omega.{arith}
-use borrow.Author.Rules.{rules}
-use Rattle.codewords.proofs.bitio.byte_align.Reads as byte-align-reads
-use Rattle.codewords.proofs.bitio.put_ones.Reads as put-ones-reads
-use Rattle.replay.proofs.codes.put_one.Reads as put-one-reads
 use Rattle.replay.proofs.codes.put_all.Lts as lts
 use Rattle.replay.proofs.codes.put_all.Tie as tie
 use Rattle.replay.proofs.codes.put_all.Reads as reads

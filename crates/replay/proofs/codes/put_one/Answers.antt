@@ -2,10 +2,6 @@
 use mir.Syntax.{w64}
 use mir.Facts.{to_z-of_z}
 use Rattle.codewords.specs.Laws.Bit.{length-lit}
-use borrow.Author.Rules.{rules}
-use Rattle.codewords.proofs.bitio.put_nbits.Reads as put-nbits-reads
-use Rattle.codewords.proofs.bitio.put_sint.Reads as put-sint-reads
-use Rattle.codewords.proofs.bitio.put_uint.Reads as put-uint-reads
 use Rattle.replay.proofs.codes.put_one.Goals as goal
 
 pub put_uint-requires : goal.put_uint-requires

@@ -1,9 +1,6 @@
 -- `replay::words::same_words` is safe and ends.
 use Prim.Native.Nat.{◌-◌, ◌≤◌}
 use lib.ListN.{length}
-use borrow.Author.Rules.{rules}
-use native.Mathlib.Omega.{arith}
-use Rattle.replay.proofs.case.word_at.Reads as word-at-reads
 use Rattle.replay.proofs.codes.same_words.Given as goal
 
 abbrev pub invariant-loop-k : goal.invariant-loop-k

@@ -1,7 +1,5 @@
 -- `replay::job::byte_at` is safe and ends.
 use Prim.Native.Nat.{◌≤◌}
-use borrow.Author.Rules.{rules}
-use native.Mathlib.Omega.{arith}
 use Rattle.replay.proofs.job.byte_at.Given as goal
 
 abbrev pub invariant-loop-n : goal.invariant-loop-n

@@ -1,9 +1,5 @@
-use mathlib.Core.Path.{◌≡◌, refl}
-use Prim.Native.Nat.{◌-◌, ◌≤◌}
-use lib.ListN.{length}
-use borrow.Author.Rules.{rules}
+use mathlib.Core.Path.{refl}
 use native.Mathlib.Omega.{arith}
-use Rattle.replay.proofs.job.byte_at.Reads as byte-at-reads
 use Rattle.replay.proofs.job.load.Goals as goal
 
 pub loop-i-init : goal.loop-i-init

@@ -1,10 +1,7 @@
 -- `replay::job::load` is safe and ends.
-use mathlib.Core.Path.{◌≡◌, refl}
+use mathlib.Core.Path.{◌≡◌}
 use Prim.Native.Nat.{◌-◌, ◌≤◌}
 use lib.ListN.{length}
-use borrow.Author.Rules.{rules}
-use native.Mathlib.Omega.{arith}
-use Rattle.replay.proofs.job.byte_at.Reads as byte-at-reads
 use Rattle.replay.proofs.job.load.Given as goal
 
 abbrev pub invariant-loop-i : goal.invariant-loop-i

@@ -4,10 +4,6 @@ use lib.ListN.{length-take}
 use lib.Seq.{length-take-le}
 use native.Mathlib.Omega.{arith}
 use borrow.Author.Rules.{rules}
-use Rattle.replay.proofs.case.judged.Reads as judged-reads
-use Rattle.replay.proofs.job.load.Reads as load-reads
-use Rattle.replay.proofs.job.printed.Reads as printed-reads
-use Rattle.replay.proofs.job.same_text.Reads as same-text-reads
 use Rattle.replay.proofs.job.run.Goals as goal
 
 pub slice_bounds-printed-end : goal.slice_bounds-printed-end

@@ -1,9 +1,6 @@
 -- `replay::job::same_text` is safe and ends.
 use Prim.Native.Nat.{◌-◌, ◌≤◌}
 use lib.ListN.{length}
-use borrow.Author.Rules.{rules}
-use native.Mathlib.Omega.{arith}
-use Rattle.replay.proofs.job.byte_at.Reads as byte-at-reads
 use Rattle.replay.proofs.job.same_text.Given as goal
 
 abbrev pub invariant-loop-i : goal.invariant-loop-i

@@ -1,8 +1,5 @@
 -- `replay::quant::same_values` is safe and ends.
 use Prim.Native.Nat.{◌-◌, ◌≤◌}
-use borrow.Author.Rules.{rules}
-use native.Mathlib.Omega.{arith}
-use Rattle.replay.proofs.quant.agrees_at.Reads as agrees-at-reads
 use Rattle.replay.proofs.quant.same_values.Given as goal
 
 abbrev pub invariant-loop-i : goal.invariant-loop-i

@@ -1,8 +1,6 @@
 -- `replay::transform::analyse_first` is safe.
 use mathlib.Core.Path.{sym}
 use lib.Seq.{length-take-le}
-use borrow.Author.Rules.{rules}
-use Rattle.wavelet.proofs.oned_analysis.Reads as oned-analysis-reads
 use Rattle.replay.proofs.transform.analyse_first.Goals as goal
 
 pub slice_bounds-oned_analysis-end-2 : goal.slice_bounds-oned_analysis-end-2

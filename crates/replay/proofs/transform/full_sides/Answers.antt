@@ -1,8 +1,6 @@
 -- `replay::transform::full_sides` is safe.
 use mathlib.Core.Path.{refl}
 use Rattle.replay.specs.Laws.Planes.{full}
-use borrow.Author.Rules.{rules}
-use Rattle.wavelet.proofs.pad.padded_side.Reads as padded-side-reads
 use Rattle.replay.proofs.transform.full_sides.Goals as goal
 
 pub returns : goal.returns

@@ -1,9 +1,7 @@
 -- `replay::transform::load_samples` is safe and ends.
-use mathlib.Core.Path.{◌≡◌, refl}
+use mathlib.Core.Path.{◌≡◌}
 use Prim.Native.Nat.{◌-◌, ◌≤◌}
 use lib.ListN.{length}
-use borrow.Author.Rules.{rules}
-use native.Mathlib.Omega.{arith}
 use Rattle.replay.proofs.transform.load_samples.Given as goal
 
 abbrev pub invariant-loop-i : goal.invariant-loop-i

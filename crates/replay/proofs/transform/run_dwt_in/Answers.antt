@@ -1,8 +1,6 @@
 -- `replay::transform::run_dwt_in` is safe.
 use mathlib.Core.Path.{sym}
 use lib.Seq.{length-take-le}
-use borrow.Author.Rules.{rules}
-use Rattle.replay.proofs.transform.run_planes.Reads as run-planes-reads
 use Rattle.replay.proofs.transform.run_dwt_in.Goals as goal
 
 pub slice_bounds-run_planes-end-2 : goal.slice_bounds-run_planes-end-2

@@ -2,8 +2,6 @@
 use mathlib.Core.Path.{sym}
 use lib.Seq.{length-take-le}
 use native.Mathlib.Omega.{arith}
-use borrow.Author.Rules.{rules}
-use Rattle.replay.proofs.transform.run_row.Reads as run-row-reads
 use Rattle.replay.proofs.transform.run_row_in.Goals as goal
 
 pub slice_bounds-run_row-end-2 : goal.slice_bounds-run_row-end-2

@@ -2,9 +2,6 @@
 use mathlib.Core.Path.{◌≡◌}
 use Prim.Native.Nat.{◌-◌, ◌≤◌}
 use lib.ListN.{length}
-use borrow.Author.Rules.{rules}
-use native.Mathlib.Omega.{arith}
-use Rattle.replay.proofs.case.signed.Reads as signed-Reads
 use Rattle.replay.proofs.transform.same_row.Given as goal
 
 abbrev pub invariant-loop-i : goal.invariant-loop-i

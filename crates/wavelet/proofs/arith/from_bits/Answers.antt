@@ -1,4 +1,4 @@
-use Rattle.std.proofs.Common.{◌≡◌, ◌-◌, ◌^◌, ap, arith, w64, to_z, rules}
+use Rattle.std.proofs.Common.{◌≡◌, ◌-◌, ◌^◌, ap, arith, w64, to_z}
 use Rattle.wavelet.proofs.arith.from_bits.Goals as goal
 
 pub returns-else-u-lt9223372036854775808 : goal.returns-else-u-lt9223372036854775808

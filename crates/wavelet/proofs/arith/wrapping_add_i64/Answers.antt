@@ -1,4 +1,4 @@
-use Rattle.std.proofs.Common.{ℕ, ◌+◌, ◌%◌, ◌^◌, ap, ◌∙◌, ap₂, to_z-of_z, w64, to_z, of_z, rules}
+use Rattle.std.proofs.Common.{ℕ, ◌+◌, ◌%◌, ◌^◌, ap, ◌∙◌, ap₂, to_z-of_z, w64, to_z, of_z}
 use Rattle.laws.specs.Laws.Wrap.{add-bits}
 use Rattle.wavelet.proofs.arith.wrapping_add_i64.Goals as goal
 

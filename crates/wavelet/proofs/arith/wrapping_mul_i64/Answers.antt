@@ -1,5 +1,5 @@
 -- `arith::wrapping_mul_i64` meets its contract.
-use Rattle.std.proofs.Common.{ℕ, ◌*◌, ◌%◌, ◌^◌, ap, ◌∙◌, ap₂, to_z-of_z, w64, to_z, of_z, rules}
+use Rattle.std.proofs.Common.{ℕ, ◌*◌, ◌%◌, ◌^◌, ap, ◌∙◌, ap₂, to_z-of_z, w64, to_z, of_z}
 use borrow.Author.Rules.{sfits_of}
 use Rattle.wavelet.specs.Laws.Product.{mul-bits}
 use Rattle.wavelet.proofs.arith.wrapping_mul_i64.Goals as goal

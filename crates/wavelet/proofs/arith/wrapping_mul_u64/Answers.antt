@@ -1,6 +1,6 @@
 -- `arith::wrapping_mul_u64` meets its contract: no product of two halves passes 64 bits, and the halves make up the
 -- product.
-use Rattle.std.proofs.Common.{ℕ, ◌+◌, ◌*◌, ◌/◌, ◌%◌, ◌^◌, ap, ◌∙◌, arith, rules}
+use Rattle.std.proofs.Common.{ℕ, ◌+◌, ◌*◌, ◌/◌, ◌%◌, ◌^◌, ap, ◌∙◌, arith}
 use Rattle.laws.specs.Laws.Machine.{product-fits}
 use Rattle.wavelet.specs.Laws.Product.{by_halves}
 use Rattle.wavelet.proofs.arith.wrapping_mul_u64.Goals as goal

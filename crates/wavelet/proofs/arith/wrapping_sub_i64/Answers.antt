@@ -1,4 +1,4 @@
-use Rattle.std.proofs.Common.{ℕ, ◌+◌, ◌%◌, ◌^◌, sym, ap, ◌∙◌, arith, to_z-of_z, w64, of_z, rules}
+use Rattle.std.proofs.Common.{ℕ, ◌+◌, ◌%◌, ◌^◌, sym, ap, ◌∙◌, arith, to_z-of_z, w64, of_z}
 use Rattle.laws.specs.Laws.Wrap.{sub-bits}
 use Rattle.wavelet.proofs.arith.wrapping_sub_i64.Goals as goal
 

@@ -1,5 +1,5 @@
 -- `component::analyse_component` meets its contract.
-use Rattle.std.proofs.Common.{◌*◌, ◌/◌, ◌∙◌, rules}
+use Rattle.std.proofs.Common.{◌*◌, ◌/◌, ◌∙◌}
 use Rattle.wavelet.specs.Pad.{padded}
 use Rattle.wavelet.specs.Laws.Walk.{deep_both, deep_across, place_down, quarter_area, half_area, walk_both, walk_across}
 use Rattle.wavelet.specs.Laws.Component.{padded-none}

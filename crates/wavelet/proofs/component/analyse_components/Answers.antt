@@ -1,5 +1,5 @@
 -- `component::analyse_components` meets its contract.
-use Rattle.std.proofs.Common.{◌*◌, rules}
+use Rattle.std.proofs.Common.{◌*◌}
 use Rattle.wavelet.specs.Laws.Component.{three_are}
 use Rattle.wavelet.proofs.component.analyse_components.Goals as goal
 

@@ -1,5 +1,5 @@
 -- `component::h_component` meets its contract.
-use Rattle.std.proofs.Common.{ℕ, ◌*◌, ◌≤◌, arith, rules}
+use Rattle.std.proofs.Common.{ℕ, ◌*◌, ◌≤◌, arith}
 use Rattle.wavelet.specs.Pad.{padded}
 use Rattle.wavelet.specs.Laws.Level.{h_level}
 use Rattle.wavelet.specs.Laws.Walk.{deep_across, place_down}

@@ -1,6 +1,6 @@
 use Rattle.std.proofs.Common.{◌≡◌, ℕ, ◌+◌, ◌-◌, ◌*◌, ◌≤◌, min, List, ◌++◌, length, take, drop, ℤ, ap, ◌∙◌, ap₂, arith}
 use Rattle.laws.specs.Rows.{row}
-use Rattle.laws.specs.Laws.Window.{length-lent, put-lent, Parts, parts_first}
+use Rattle.laws.specs.Laws.Window.{length-lent, put-lent, parts_first}
 use Rattle.laws.specs.Wrap.{wrap}
 use Rattle.wavelet.specs.Filters.{filter_of}
 use Rattle.wavelet.specs.Planes.{raise}
@@ -8,7 +8,7 @@ use Rattle.wavelet.specs.Laws.Plane.{bits-le}
 use Rattle.wavelet.specs.Pad.{padded}
 use Rattle.wavelet.specs.Code.Pad.{padded_row}
 use Rattle.wavelet.specs.Laws.Pad.{row_from}
-use Rattle.wavelet.specs.Laws.Level.{row_of, rows_room, rows_next, rows_all}
+use Rattle.wavelet.specs.Laws.Level.{rows_room, rows_next, rows_all}
 use Rattle.wavelet.specs.Laws.Component.{lent-long}
 use Rattle.wavelet.proofs.component.pad_rows.Goals as goal
 use Rattle.wavelet.proofs.component.pad_rows.Goals.{After-pad_row, In-loop-n}

@@ -1,16 +1,8 @@
 -- `component::pad_rows` meets its contract. The loop's invariant: the first n rows of the scratch are there.
-use Rattle.std.proofs.Common.{◌≡◌, ℕ, ◌+◌, ◌-◌, ◌*◌, ◌≤◌, min, List, ◌++◌, length, take, drop, ℤ, ap, ◌∙◌, ap₂, arith}
-use Rattle.laws.specs.Rows.{row}
-use Rattle.laws.specs.Laws.Window.{length-lent, put-lent, Parts, parts_first}
-use Rattle.laws.specs.Wrap.{wrap}
-use Rattle.wavelet.specs.Filters.{filter_of}
-use Rattle.wavelet.specs.Planes.{raise}
-use Rattle.wavelet.specs.Laws.Plane.{bits-le}
-use Rattle.wavelet.specs.Pad.{padded}
+use Rattle.std.proofs.Common.{◌-◌, ◌*◌, min}
+use Rattle.laws.specs.Laws.Window.{Parts}
 use Rattle.wavelet.specs.Code.Pad.{padded_row}
-use Rattle.wavelet.specs.Laws.Pad.{row_from}
-use Rattle.wavelet.specs.Laws.Level.{row_of, rows_room, rows_next, rows_all}
-use Rattle.wavelet.specs.Laws.Component.{lent-long}
+use Rattle.wavelet.specs.Laws.Level.{row_of}
 use Rattle.wavelet.proofs.component.pad_rows.Given as goal
 
 abbrev pub invariant-loop-n : goal.invariant-loop-n

@@ -1,5 +1,5 @@
 -- `component::vh_component` meets its contract.
-use Rattle.std.proofs.Common.{ℕ, ◌*◌, ◌≤◌, arith, rules}
+use Rattle.std.proofs.Common.{ℕ, ◌*◌, ◌≤◌, arith}
 use Rattle.wavelet.specs.Pad.{padded}
 use Rattle.wavelet.specs.Laws.Level.{vh_level}
 use Rattle.wavelet.specs.Laws.Walk.{deep_both, place_down}

@@ -1,8 +1,7 @@
 -- `depth::depth_limit` meets its contract.
-use Rattle.std.proofs.Common.{sym, ap, ◌∙◌, rules}
+use Rattle.std.proofs.Common.{sym, ap, ◌∙◌}
 use Rattle.wavelet.specs.Depth.{limit_by}
 use Rattle.wavelet.specs.Laws.Depth.{limit_is}
-use Rattle.wavelet.proofs.depth.deep_filter.Reads as deep-filter-reads
 use Rattle.wavelet.proofs.depth.depth_limit.Goals as goal
 
 pub returns-then-deep_filter : goal.returns-then-deep_filter

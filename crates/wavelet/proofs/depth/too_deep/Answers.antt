@@ -1,6 +1,5 @@
 -- `depth::too_deep` meets its contract.
-use Rattle.std.proofs.Common.{ℕ, ◌+◌, ltb, ap, rules}
-use Rattle.wavelet.proofs.depth.depth_limit.Reads as depth-limit-reads
+use Rattle.std.proofs.Common.{ℕ, ◌+◌, ltb, ap}
 use Rattle.wavelet.proofs.depth.too_deep.Goals as goal
 
 pub returns : goal.returns

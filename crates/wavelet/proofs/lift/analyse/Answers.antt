@@ -1,11 +1,10 @@
-use Rattle.std.proofs.Common.{◌≡◌, ℕ, ◌+◌, ◌*◌, ◌≤◌, List, length, drop, ℤ, sym, refl, ap, ◌∙◌, arith}
+use Rattle.std.proofs.Common.{◌≡◌, ℕ, drop, sym, refl, ap, ◌∙◌, arith}
 use Rattle.laws.specs.Wrap.{wrap}
 use Rattle.wavelet.specs.Lifting.{analysis}
 use Rattle.wavelet.specs.Laws.Lifting.{analysis-none}
 use Rattle.wavelet.specs.Filters.{filter_of}
 use Rattle.wavelet.specs.Laws.Table.{in_table}
 use Rattle.wavelet.specs.Laws.Run.{analysis-turn}
-use Rattle.wavelet.proofs.lift.analyse.Invariants.{I}
 use Rattle.wavelet.proofs.lift.analyse.Goals as goal
 
 pub stage_count-k-requires : goal.stage_count-k-requires

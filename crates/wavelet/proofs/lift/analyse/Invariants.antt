@@ -1,11 +1,8 @@
 -- `lift::analyse` meets its contract. The loop's invariant: all stages from k on are undone.
-use Rattle.std.proofs.Common.{◌≡◌, ℕ, ◌+◌, ◌*◌, ◌≤◌, List, length, drop, ℤ, sym, refl, ap, ◌∙◌, arith}
+use Rattle.std.proofs.Common.{◌≡◌, ℕ, ◌+◌, ◌*◌, ◌≤◌, List, length, drop, ℤ}
 use Rattle.laws.specs.Wrap.{wrap}
 use Rattle.wavelet.specs.Lifting.{analysis}
-use Rattle.wavelet.specs.Laws.Lifting.{analysis-none}
 use Rattle.wavelet.specs.Filters.{filter_of}
-use Rattle.wavelet.specs.Laws.Table.{in_table}
-use Rattle.wavelet.specs.Laws.Run.{analysis-turn}
 use Rattle.wavelet.proofs.lift.analyse.Given as goal
 
 pub record I (xs : List ℤ) (i : ℕ) (ys : List ℤ) (k : ℕ) : Type 0 where

@@ -1,5 +1,5 @@
 -- `lift::change` meets its contract.
-use Rattle.std.proofs.Common.{◌∙◌, to_z-of_z, rules}
+use Rattle.std.proofs.Common.{◌∙◌, to_z-of_z}
 use borrow.Author.Rules.{sfits_of}
 use mir.Syntax.{w64}
 use Rattle.wavelet.proofs.lift.change.Goals as goal

@@ -1,5 +1,5 @@
 -- `lift::four_taps` meets its contract.
-use Rattle.std.proofs.Common.{◌≡◌, ◌+◌, ap, ◌∙◌, arith, to_z-of_z, rules}
+use Rattle.std.proofs.Common.{◌≡◌, ◌+◌, ap, ◌∙◌, arith, to_z-of_z}
 use borrow.Author.Rules.{sfits_of}
 use Rattle.wavelet.specs.Code.Run.{taps_to}
 use mir.Syntax.{w64}

@@ -1,10 +1,9 @@
-use Rattle.std.proofs.Common.{◌≡◌, ℕ, ◌-◌, ◌/◌, ◌≤◌, Bool, List, length, ℤ, refl, ap, ◌∙◌, arith}
+use Rattle.std.proofs.Common.{◌≡◌, ℕ, ◌/◌, length, refl, ap, ◌∙◌, arith}
 use Rattle.laws.specs.Wrap.{wrap}
-use Rattle.wavelet.specs.Lifting.{Stage, lifted}
+use Rattle.wavelet.specs.Lifting.{lifted}
 use Rattle.wavelet.specs.Laws.Lifting.{lifted-zero}
 use Rattle.wavelet.specs.Code.Table.{stage_of}
 use Rattle.wavelet.specs.Laws.Run.{row-runs, ran-lifted}
-use Rattle.wavelet.proofs.lift.lift.Invariants.{I}
 use Rattle.wavelet.proofs.lift.lift.Goals as goal
 
 pub loop-n-init : goal.loop-n-init

@@ -1,10 +1,8 @@
 -- `lift::lift` meets its contract. The loop's invariant: the row is what the first n updates leave.
-use Rattle.std.proofs.Common.{◌≡◌, ℕ, ◌-◌, ◌/◌, ◌≤◌, Bool, List, length, ℤ, refl, ap, ◌∙◌, arith}
+use Rattle.std.proofs.Common.{◌≡◌, ℕ, ◌-◌, ◌/◌, ◌≤◌, Bool, List, length, ℤ}
 use Rattle.laws.specs.Wrap.{wrap}
 use Rattle.wavelet.specs.Lifting.{Stage, lifted}
-use Rattle.wavelet.specs.Laws.Lifting.{lifted-zero}
 use Rattle.wavelet.specs.Code.Table.{stage_of}
-use Rattle.wavelet.specs.Laws.Run.{row-runs, ran-lifted}
 use Rattle.wavelet.proofs.lift.lift.Given as goal
 
 pub record I (a₀ : List ℤ) (st : Stage) (plus : Bool) (a : List ℤ) (n : ℕ) : Type 0 where

@@ -1,5 +1,5 @@
 -- `lift::one_tap` meets its contract.
-use Rattle.std.proofs.Common.{◌+◌, ◌<◌, length, get_or, ℤ, ◌+ℤ◌, ◌∙◌, ap₂, arith, to_z-of_z, w64, SFits, rules}
+use Rattle.std.proofs.Common.{◌+◌, ◌<◌, length, get_or, ℤ, ◌+ℤ◌, ◌∙◌, ap₂, arith, to_z-of_z, w64, SFits}
 use borrow.Author.Rules.{sfits_of}
 use Rattle.laws.specs.Wrap.{wrap}
 use Rattle.laws.specs.Rows.{at}

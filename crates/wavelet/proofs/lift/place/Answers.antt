@@ -1,5 +1,5 @@
 -- `lift::place` meets its contract.
-use Rattle.std.proofs.Common.{◌≡◌, ◌∙◌, rules}
+use Rattle.std.proofs.Common.{◌≡◌, ◌∙◌}
 use Rattle.wavelet.specs.Lifting.{place}
 use Rattle.wavelet.specs.Laws.Lifting.{place_law}
 use Rattle.wavelet.specs.Code.Table.{stage_of}

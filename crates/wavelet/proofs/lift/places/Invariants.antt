@@ -1,7 +1,5 @@
 -- `lift::places` meets its contract. The loop's invariant: the first k places are there.
-use Rattle.wavelet.specs.RowCall.{row_limit}
-use Rattle.std.proofs.Common.{◌≡◌, ℕ, ◌+◌, ◌-◌, ◌*◌, ◌<◌, ◌≤◌, List, length, get_or, set, refl, ap, ◌∙◌, mul-le-mul, arith, length-set, get_or-set_other, get_or-set_same}
-use native.Mathlib.Decide.{ℕ_discrete}
+use Rattle.std.proofs.Common.{◌≡◌, ℕ, ◌-◌, ◌*◌, ◌<◌, ◌≤◌, List, length, get_or}
 use Rattle.wavelet.specs.Lifting.{Stage, place}
 use Rattle.wavelet.specs.Code.Table.{stage_of}
 use Rattle.wavelet.proofs.lift.places.Given as goal

@@ -1,5 +1,5 @@
 -- `lift::rounding` meets its contract.
-use Rattle.std.proofs.Common.{◌≡◌, ℕ, ◌*◌, ◌%◌, ◌^◌, ◌≤◌, arith, w64, rules}
+use Rattle.std.proofs.Common.{◌≡◌, ℕ, ◌*◌, ◌%◌, ◌^◌, ◌≤◌, arith, w64}
 use native.Mathlib.Nat.{pow-le-pow_right}
 use mir.Facts.{to_z_pos}
 use Rattle.wavelet.proofs.lift.rounding.Goals as goal

@@ -1,5 +1,5 @@
 -- `lift::run` meets its contract.
-use Rattle.std.proofs.Common.{◌≡◌, ℕ, ℤ, pos, sym, refl, ap, ◌∙◌, to_z-of_z, w64, SFits, to_z, of_z, rules, eqb-true}
+use Rattle.std.proofs.Common.{◌≡◌, ℕ, ℤ, pos, sym, refl, ap, ◌∙◌, to_z-of_z, w64, SFits, to_z, of_z}
 use borrow.Author.Rules.{sfits_of}
 use Rattle.laws.specs.Rows.{at}
 use Rattle.wavelet.specs.Laws.Run.{two_runs, two-ran}

@@ -1,5 +1,5 @@
 -- `lift::run_length` meets its contract.
-use Rattle.std.proofs.Common.{◌∙◌, arith, rules}
+use Rattle.std.proofs.Common.{◌∙◌, arith}
 use Rattle.wavelet.specs.Laws.Run.{moves_one, moves_more}
 use Rattle.wavelet.proofs.lift.run_length.Goals as goal
 

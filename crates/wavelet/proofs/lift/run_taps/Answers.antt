@@ -1,13 +1,12 @@
-use Rattle.std.proofs.Common.{◌≡◌, ℕ, ◌+◌, ◌-◌, ◌*◌, ◌<◌, ◌≤◌, Bool, List, length, get_or, set, ℤ, refl, ap, ◌∙◌, arith, length-set, to_z-of_z, w64, SFits, to_z, of_z}
+use Rattle.std.proofs.Common.{◌≡◌, ℕ, ◌+◌, ◌*◌, ◌<◌, length, get_or, set, refl, ap, ◌∙◌, arith, length-set, to_z-of_z, w64, SFits, to_z, of_z}
 use borrow.Author.Rules.{sfits_of}
 use Rattle.laws.specs.Wrap.{wrap}
 use Rattle.laws.specs.Rows.{at}
-use Rattle.wavelet.specs.Lifting.{Stage, scaled, change}
+use Rattle.wavelet.specs.Lifting.{scaled, change}
 use Rattle.wavelet.specs.Laws.Lifting.{dot-take}
 use Rattle.wavelet.specs.Code.Table.{stage_of}
 use Rattle.wavelet.specs.Code.Run.{taps_to, value_of, ran}
 use Rattle.wavelet.specs.Laws.Run.{ran-none, ran-turn}
-use Rattle.wavelet.proofs.lift.run_taps.Invariants.{I}
 use Rattle.wavelet.proofs.lift.run_taps.Goals as goal
 use Rattle.wavelet.proofs.lift.run_taps.Goals.{In-loop-i}
 

@@ -1,13 +1,8 @@
 -- `lift::run_taps` meets its contract. The loop's invariant: the list is what the first i updates leave.
-use Rattle.std.proofs.Common.{◌≡◌, ℕ, ◌+◌, ◌-◌, ◌*◌, ◌<◌, ◌≤◌, Bool, List, length, get_or, set, ℤ, refl, ap, ◌∙◌, arith, length-set, to_z-of_z, w64, SFits, to_z, of_z}
-use borrow.Author.Rules.{sfits_of}
-use Rattle.laws.specs.Wrap.{wrap}
-use Rattle.laws.specs.Rows.{at}
-use Rattle.wavelet.specs.Lifting.{Stage, scaled, change}
-use Rattle.wavelet.specs.Laws.Lifting.{dot-take}
+use Rattle.std.proofs.Common.{◌≡◌, ℕ, ◌-◌, ◌≤◌, Bool, List, length, ℤ}
+use Rattle.wavelet.specs.Lifting.{Stage}
 use Rattle.wavelet.specs.Code.Table.{stage_of}
-use Rattle.wavelet.specs.Code.Run.{taps_to, value_of, ran}
-use Rattle.wavelet.specs.Laws.Run.{ran-none, ran-turn}
+use Rattle.wavelet.specs.Code.Run.{ran}
 use Rattle.wavelet.proofs.lift.run_taps.Given as goal
 
 pub record I (a₀ : List ℤ) (st : Stage) (plus : Bool) (o : List ℕ) (p count step : ℕ) (a : List ℤ) (i : ℕ) : Type 0 where

@@ -1,12 +1,11 @@
-use Rattle.std.proofs.Common.{◌≡◌, ℕ, ◌+◌, ◌-◌, ◌*◌, ◌<◌, ◌≤◌, Bool, List, length, set, ℤ, ◌*ℤ◌, sym, refl, ap, ◌∙◌, arith, length-set, to_z-of_z, w64, SFits, to_z, of_z}
+use Rattle.std.proofs.Common.{◌≡◌, ℕ, ◌+◌, ◌*◌, ◌<◌, length, set, ℤ, ◌*ℤ◌, sym, refl, ap, ◌∙◌, arith, length-set, to_z-of_z, w64, SFits, to_z, of_z}
 use borrow.Author.Rules.{sfits_of}
 use Rattle.laws.specs.Wrap.{wrap}
 use Rattle.laws.specs.Rows.{at}
-use Rattle.wavelet.specs.Lifting.{Stage, scaled, change}
+use Rattle.wavelet.specs.Lifting.{scaled, change}
 use Rattle.wavelet.specs.Code.Table.{stage_of}
 use Rattle.wavelet.specs.Code.Run.{taps_to, value_of, ran, two_taps, two_places}
 use Rattle.wavelet.specs.Laws.Run.{ran-none, ran-turn, two-sum}
-use Rattle.wavelet.proofs.lift.run_two.Invariants.{I}
 use Rattle.wavelet.proofs.lift.run_two.Goals as goal
 use Rattle.wavelet.proofs.lift.run_two.Goals.{In-loop-n, Start}
 

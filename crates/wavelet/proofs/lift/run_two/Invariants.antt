@@ -1,12 +1,8 @@
 -- `lift::run_two` meets its contract. The loop's invariant: the list is what the first n updates leave.
-use Rattle.std.proofs.Common.{◌≡◌, ℕ, ◌+◌, ◌-◌, ◌*◌, ◌<◌, ◌≤◌, Bool, List, length, set, ℤ, ◌*ℤ◌, sym, refl, ap, ◌∙◌, arith, length-set, to_z-of_z, w64, SFits, to_z, of_z}
-use borrow.Author.Rules.{sfits_of}
-use Rattle.laws.specs.Wrap.{wrap}
-use Rattle.laws.specs.Rows.{at}
-use Rattle.wavelet.specs.Lifting.{Stage, scaled, change}
+use Rattle.std.proofs.Common.{◌≡◌, ℕ, ◌-◌, ◌≤◌, Bool, List, length, ℤ}
+use Rattle.wavelet.specs.Lifting.{Stage}
 use Rattle.wavelet.specs.Code.Table.{stage_of}
-use Rattle.wavelet.specs.Code.Run.{taps_to, value_of, ran, two_taps, two_places}
-use Rattle.wavelet.specs.Laws.Run.{ran-none, ran-turn, two-sum}
+use Rattle.wavelet.specs.Code.Run.{ran, two_taps, two_places}
 use Rattle.wavelet.proofs.lift.run_two.Given as goal
 
 pub record I (a₀ : List ℤ) (st : Stage) (plus : Bool) (o : List ℕ) (p count step : ℕ) (a : List ℤ) (n : ℕ) : Type 0 where

@@ -1,5 +1,5 @@
 -- `lift::scaled` meets its contract.
-use Rattle.std.proofs.Common.{◌^◌, to_z-of_z, w64, SFits, rules}
+use Rattle.std.proofs.Common.{◌^◌, to_z-of_z, w64, SFits}
 use lib.Signed.{shr_z, mag_shr}
 use mir.ValLaws.{sfits_le}
 use borrow.Author.Rules.{sfits_of}

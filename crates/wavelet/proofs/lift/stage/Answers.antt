@@ -2,7 +2,6 @@
 use Rattle.wavelet.specs.Code.Table.{stages}
 use Rattle.wavelet.specs.Laws.Table.{staged_at}
 use Rattle.wavelet.specs.Filters.{dd97, legall, dd137, haar0, haar1, fidelity, daub97}
-use Rattle.std.proofs.Common.{rules}
 use Rattle.wavelet.proofs.lift.stage.Goals as goal
 
 pub returns : goal.returns

@@ -1,5 +1,5 @@
 -- `lift::within` meets its contract.
-use Rattle.std.proofs.Common.{◌∙◌, rules}
+use Rattle.std.proofs.Common.{◌∙◌}
 use Rattle.wavelet.specs.Lifting.{within}
 use Rattle.wavelet.proofs.lift.within.Goals as goal
 

@@ -1,6 +1,6 @@
 -- `pad::centred` meets its contract.
 use Rattle.wavelet.specs.Laws.Pad.{centred-fits, centred_is}
-use Rattle.std.proofs.Common.{arith, rules}
+use Rattle.std.proofs.Common.{arith}
 use Rattle.wavelet.proofs.pad.centred.Goals as goal
 
 pub overflow_sub-result : goal.overflow_sub-result

@@ -1,6 +1,6 @@
 use Rattle.std.proofs.Common.{◌≡◌, ℕ, ◌+◌, ◌-◌, ◌*◌, ◌≤◌, min, length, ap, ◌∙◌, ap₂, arith}
 use Rattle.laws.specs.Rows.{row}
-use Rattle.laws.specs.Laws.Window.{length-lent, Parts, parts_first, parts_room, lent-next}
+use Rattle.laws.specs.Laws.Window.{length-lent, parts_first, parts_room, lent-next}
 use Rattle.wavelet.specs.Pad.{padded}
 use Rattle.wavelet.specs.Code.Pad.{padded_row}
 use Rattle.wavelet.specs.Laws.Pad.{row_from, length-padded, padded_all}

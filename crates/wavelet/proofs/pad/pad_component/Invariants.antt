@@ -1,10 +1,8 @@
 -- `pad::pad_component` meets its contract. The loop's invariant: the first n rows are there.
-use Rattle.std.proofs.Common.{◌≡◌, ℕ, ◌+◌, ◌-◌, ◌*◌, ◌≤◌, min, length, ap, ◌∙◌, ap₂, arith}
+use Rattle.std.proofs.Common.{◌-◌}
 use Rattle.laws.specs.Rows.{row}
-use Rattle.laws.specs.Laws.Window.{length-lent, Parts, parts_first, parts_room, lent-next}
+use Rattle.laws.specs.Laws.Window.{Parts}
 use Rattle.wavelet.specs.Pad.{padded}
-use Rattle.wavelet.specs.Code.Pad.{padded_row}
-use Rattle.wavelet.specs.Laws.Pad.{row_from, length-padded, padded_all}
 use Rattle.wavelet.proofs.pad.pad_component.Given as goal
 
 abbrev pub invariant-loop-n : goal.invariant-loop-n

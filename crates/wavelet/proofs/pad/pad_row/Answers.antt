@@ -1,4 +1,4 @@
-use Rattle.std.proofs.Common.{ℕ, ◌-◌, ◌<◌, ◌≤◌, length, refl, ap, ◌∙◌, arith, to_z-of_z}
+use Rattle.std.proofs.Common.{ℕ, ◌<◌, length, refl, ap, ◌∙◌, arith, to_z-of_z}
 use native.Mathlib.Nat.{min-le_left, min-le_right}
 use borrow.Author.Rules.{sfits_of}
 use Rattle.laws.specs.Wrap.{wrap}
@@ -6,7 +6,7 @@ use Rattle.laws.specs.Rows.{row}
 use Rattle.laws.specs.Laws.Chunks.{fill_all}
 use Rattle.wavelet.specs.Planes.{raise}
 use Rattle.wavelet.specs.Code.Pad.{padded_row}
-use Rattle.wavelet.specs.Laws.Pad.{Filled, filled_next, filled_again, past_samples, padded_in_lem, padded-behind}
+use Rattle.wavelet.specs.Laws.Pad.{filled_next, filled_again, past_samples, padded_in_lem, padded-behind}
 use mir.Syntax.{w64}
 use Rattle.wavelet.proofs.pad.pad_row.Goals as goal
 use Rattle.wavelet.proofs.pad.pad_row.Goals.{In-loop-k}

@@ -1,14 +1,6 @@
 -- `pad::pad_row` meets its contract. The invariant of both loops: the first k places are there.
-use Rattle.std.proofs.Common.{ℕ, ◌-◌, ◌<◌, ◌≤◌, length, refl, ap, ◌∙◌, arith, to_z-of_z}
-use native.Mathlib.Nat.{min-le_left, min-le_right}
-use borrow.Author.Rules.{sfits_of}
-use Rattle.laws.specs.Wrap.{wrap}
-use Rattle.laws.specs.Rows.{row}
-use Rattle.laws.specs.Laws.Chunks.{fill_all}
-use Rattle.wavelet.specs.Planes.{raise}
-use Rattle.wavelet.specs.Code.Pad.{padded_row}
-use Rattle.wavelet.specs.Laws.Pad.{Filled, filled_next, filled_again, past_samples, padded_in_lem, padded-behind}
-use mir.Syntax.{w64}
+use Rattle.std.proofs.Common.{◌-◌, ◌≤◌}
+use Rattle.wavelet.specs.Laws.Pad.{Filled}
 use Rattle.wavelet.proofs.pad.pad_row.Given as goal
 
 abbrev pub invariant-loop-k : goal.invariant-loop-k

@@ -1,6 +1,6 @@
 -- `pad::padded_side` meets its contract.
 use Rattle.wavelet.specs.RowCall.{row_limit}
-use Rattle.std.proofs.Common.{◌≡◌, ℕ, ◌+◌, ◌-◌, ◌*◌, ◌%◌, ◌^◌, ◌≤◌, div-mul-le_self, arith, rules}
+use Rattle.std.proofs.Common.{◌≡◌, ℕ, ◌+◌, ◌-◌, ◌*◌, ◌%◌, ◌^◌, ◌≤◌, div-mul-le_self, arith}
 use Rattle.wavelet.specs.Laws.Pad.{scale-le}
 use Rattle.wavelet.proofs.pad.padded_side.Goals as goal
 use Rattle.wavelet.proofs.pad.padded_side.Goals.{Start}

@@ -1,5 +1,5 @@
-use Rattle.std.proofs.Common.{ℕ, ◌+◌, ◌-◌, ◌*◌, ◌≤◌, length, mul-le-mul_left, arith}
-use Rattle.laws.specs.Laws.Window.{Parts, parts_all}
+use Rattle.std.proofs.Common.{ℕ, ◌+◌, ◌*◌, ◌≤◌, length, mul-le-mul_left, arith}
+use Rattle.laws.specs.Laws.Window.{parts_all}
 use Rattle.wavelet.specs.Code.Copy.{band_row}
 use Rattle.wavelet.specs.Laws.Copy.{band-first, band_room, band_copies, band-turn}
 use Rattle.wavelet.proofs.plane.band.Goals as goal

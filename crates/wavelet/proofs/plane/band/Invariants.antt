@@ -1,8 +1,7 @@
 -- `plane::band` meets its contract. The loop's invariant: the first n rows of the band are there.
-use Rattle.std.proofs.Common.{ℕ, ◌+◌, ◌-◌, ◌*◌, ◌≤◌, length, mul-le-mul_left, arith}
-use Rattle.laws.specs.Laws.Window.{Parts, parts_all}
+use Rattle.std.proofs.Common.{◌+◌, ◌-◌}
+use Rattle.laws.specs.Laws.Window.{Parts}
 use Rattle.wavelet.specs.Code.Copy.{band_row}
-use Rattle.wavelet.specs.Laws.Copy.{band-first, band_room, band_copies, band-turn}
 use Rattle.wavelet.proofs.plane.band.Given as goal
 
 abbrev pub invariant-loop-n : goal.invariant-loop-n

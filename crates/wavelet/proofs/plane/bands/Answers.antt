@@ -1,7 +1,7 @@
 use Rattle.wavelet.specs.RowCall.{row_limit}
-use Rattle.std.proofs.Common.{◌+◌, ◌-◌, ◌*◌, ◌/◌, ◌%◌, ◌≤◌, mul-le-mul, arith}
-use Rattle.laws.specs.Laws.Window.{Parts, parts_first}
-use Rattle.wavelet.specs.Code.Copy.{band_of, BandIn}
+use Rattle.std.proofs.Common.{◌+◌, ◌*◌, ◌/◌, ◌%◌, ◌≤◌, mul-le-mul, arith}
+use Rattle.laws.specs.Laws.Window.{parts_first}
+use Rattle.wavelet.specs.Code.Copy.{BandIn}
 use Rattle.wavelet.specs.Laws.Copy.{bands_in, bands-turn, bands_all}
 use Rattle.wavelet.proofs.plane.bands.Goals as goal
 use Rattle.wavelet.proofs.plane.bands.Goals.{In-loop-n}

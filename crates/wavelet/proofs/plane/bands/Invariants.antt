@@ -1,9 +1,7 @@
 -- `plane::bands` meets its contract. The loop's invariant: the first n bands are there.
-use Rattle.wavelet.specs.RowCall.{row_limit}
-use Rattle.std.proofs.Common.{◌+◌, ◌-◌, ◌*◌, ◌/◌, ◌%◌, ◌≤◌, mul-le-mul, arith}
-use Rattle.laws.specs.Laws.Window.{Parts, parts_first}
-use Rattle.wavelet.specs.Code.Copy.{band_of, BandIn}
-use Rattle.wavelet.specs.Laws.Copy.{bands_in, bands-turn, bands_all}
+use Rattle.std.proofs.Common.{◌-◌, ◌*◌, ◌/◌}
+use Rattle.laws.specs.Laws.Window.{Parts}
+use Rattle.wavelet.specs.Code.Copy.{band_of}
 use Rattle.wavelet.proofs.plane.bands.Given as goal
 
 abbrev pub invariant-loop-n : goal.invariant-loop-n

@@ -1,4 +1,4 @@
-use Rattle.std.proofs.Common.{◌≡◌, ℕ, ◌+◌, ◌*◌, ◌≤◌, List, length, drop, ℤ, refl, ap, ◌∙◌, arith}
+use Rattle.std.proofs.Common.{◌≡◌, ℕ, drop, refl, ap, ◌∙◌, arith}
 use Rattle.laws.specs.Wrap.{wrap}
 use Rattle.laws.specs.Plane.{as_plane, as_list}
 use Rattle.wavelet.specs.Lifting.{analysis}
@@ -6,7 +6,6 @@ use Rattle.wavelet.specs.Filters.{filter_of}
 use Rattle.wavelet.specs.Planes.{columns_by}
 use Rattle.wavelet.specs.Laws.Table.{in_table}
 use Rattle.wavelet.specs.Laws.Columns.{columns-first, columns-turn}
-use Rattle.wavelet.proofs.plane.columns.Invariants.{I}
 use Rattle.wavelet.proofs.plane.columns.Goals as goal
 
 pub stage_count-k-requires : goal.stage_count-k-requires

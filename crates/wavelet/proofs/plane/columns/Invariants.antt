@@ -1,12 +1,10 @@
 -- `plane::columns` meets its contract. The loop's invariant: all stages from k on are undone in every column.
-use Rattle.std.proofs.Common.{◌≡◌, ℕ, ◌+◌, ◌*◌, ◌≤◌, List, length, drop, ℤ, refl, ap, ◌∙◌, arith}
+use Rattle.std.proofs.Common.{◌≡◌, ℕ, ◌+◌, ◌*◌, ◌≤◌, List, length, drop, ℤ}
 use Rattle.laws.specs.Wrap.{wrap}
 use Rattle.laws.specs.Plane.{as_plane, as_list}
 use Rattle.wavelet.specs.Lifting.{analysis}
 use Rattle.wavelet.specs.Filters.{filter_of}
 use Rattle.wavelet.specs.Planes.{columns_by}
-use Rattle.wavelet.specs.Laws.Table.{in_table}
-use Rattle.wavelet.specs.Laws.Columns.{columns-first, columns-turn}
 use Rattle.wavelet.proofs.plane.columns.Given as goal
 
 pub record I (xs : List ℤ) (h w i : ℕ) (ys : List ℤ) (k : ℕ) : Type 0 where

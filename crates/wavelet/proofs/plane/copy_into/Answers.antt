@@ -2,13 +2,11 @@ use Rattle.std.proofs.Common.{◌≡◌, ℕ, ◌+◌, ◌-◌, ◌*◌, ◌<◌
 use borrow.Author.Rules.{sfits_of}
 use Rattle.laws.specs.Rows.{at}
 use Rattle.laws.specs.Laws.Rows.{length-span}
-use Rattle.laws.specs.Code.Window.{put}
 use Rattle.laws.specs.Laws.Window.{put-none, length-put, length-piece}
 use Rattle.laws.specs.Wrap.{wrap}
 use Rattle.wavelet.specs.Planes.{raise}
 use Rattle.wavelet.specs.Code.Copy.{copied}
 use Rattle.wavelet.specs.Laws.Copy.{copy_same, copy_turn}
-use Rattle.wavelet.proofs.plane.copy_into.Invariants.{I}
 use Rattle.wavelet.proofs.plane.copy_into.Goals as goal
 use Rattle.wavelet.proofs.plane.copy_into.Goals.{After-raised-y}
 

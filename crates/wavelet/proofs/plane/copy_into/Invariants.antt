@@ -1,14 +1,7 @@
 -- `plane::copy_into` meets its contract. The loop's invariant: the first k numbers are in the part.
-use Rattle.std.proofs.Common.{◌≡◌, ℕ, ◌+◌, ◌-◌, ◌*◌, ◌<◌, ◌≤◌, List, length, take, drop, ℤ, refl, ap, ◌∙◌, arith, to_z-of_z, w64, SFits}
-use borrow.Author.Rules.{sfits_of}
-use Rattle.laws.specs.Rows.{at}
-use Rattle.laws.specs.Laws.Rows.{length-span}
+use Rattle.std.proofs.Common.{◌≡◌, ℕ, ◌+◌, ◌-◌, ◌≤◌, List, length, ℤ}
 use Rattle.laws.specs.Code.Window.{put}
-use Rattle.laws.specs.Laws.Window.{put-none, length-put, length-piece}
-use Rattle.laws.specs.Wrap.{wrap}
-use Rattle.wavelet.specs.Planes.{raise}
 use Rattle.wavelet.specs.Code.Copy.{copied}
-use Rattle.wavelet.specs.Laws.Copy.{copy_same, copy_turn}
 use Rattle.wavelet.proofs.plane.copy_into.Given as goal
 
 pub record I (l₀ : List ℤ) (bits p len from step : ℕ) (l : List ℤ) (k : ℕ) : Type 0 where

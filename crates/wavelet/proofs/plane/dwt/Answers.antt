@@ -1,4 +1,4 @@
-use Rattle.std.proofs.Common.{◌≡◌, ◌+◌, ◌-◌, ◌*◌, ◌≤◌, length, ◌∙◌, arith}
+use Rattle.std.proofs.Common.{◌≡◌, ◌+◌, ◌-◌, ◌*◌, length, ◌∙◌, arith}
 use Rattle.wavelet.specs.Laws.Walk.{coefficients_of, after, deep_both, deep_across, Walks, turn-both, turn-across, walk_flat, walk_start, walk_end}
 use Rattle.wavelet.proofs.plane.dwt.Goals as goal
 use Rattle.wavelet.proofs.plane.dwt.Goals.{After-loop-level}

@@ -1,7 +1,7 @@
 -- `plane::dwt` meets its contract. The invariant of each loop: what the levels left make is what those left at its
 -- start make.
-use Rattle.std.proofs.Common.{◌≡◌, ◌+◌, ◌-◌, ◌*◌, ◌≤◌, length, ◌∙◌, arith}
-use Rattle.wavelet.specs.Laws.Walk.{coefficients_of, after, deep_both, deep_across, Walks, turn-both, turn-across, walk_flat, walk_start, walk_end}
+use Rattle.std.proofs.Common.{◌-◌, ◌*◌, ◌≤◌, length}
+use Rattle.wavelet.specs.Laws.Walk.{coefficients_of, after, Walks}
 use Rattle.wavelet.proofs.plane.dwt.Given as goal
 
 abbrev pub invariant-loop-level : goal.invariant-loop-level

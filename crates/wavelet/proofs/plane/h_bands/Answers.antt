@@ -1,6 +1,5 @@
 -- `plane::h_bands` meets its contract.
 use Rattle.wavelet.specs.Laws.Level.{h_bands}
-use Rattle.std.proofs.Common.{rules}
 use Rattle.wavelet.proofs.plane.h_bands.Goals as goal
 
 pub returns : goal.returns

@@ -1,7 +1,7 @@
 use Rattle.wavelet.specs.RowCall.{row_limit}
-use Rattle.std.proofs.Common.{◌+◌, ◌-◌, ◌*◌, ◌/◌, ◌≤◌, sym, ◌∙◌, mul-le-mul, arith}
+use Rattle.std.proofs.Common.{◌+◌, ◌*◌, ◌≤◌, mul-le-mul, arith}
 use Rattle.wavelet.specs.Code.Table.{stage_of}
-use Rattle.wavelet.specs.Laws.Columns.{ColumnsLifted, stage-none, column-runs, column-turn, stage_all}
+use Rattle.wavelet.specs.Laws.Columns.{stage-none, column-runs, column-turn, stage_all}
 use Rattle.wavelet.proofs.plane.lift_columns.Goals as goal
 
 pub loop-n-init : goal.loop-n-init

@@ -1,8 +1,7 @@
 -- `plane::lift_columns` meets its contract. The loop's invariant: the first n updates of every column are done.
-use Rattle.wavelet.specs.RowCall.{row_limit}
-use Rattle.std.proofs.Common.{◌+◌, ◌-◌, ◌*◌, ◌/◌, ◌≤◌, sym, ◌∙◌, mul-le-mul, arith}
+use Rattle.std.proofs.Common.{◌-◌, ◌/◌}
 use Rattle.wavelet.specs.Code.Table.{stage_of}
-use Rattle.wavelet.specs.Laws.Columns.{ColumnsLifted, stage-none, column-runs, column-turn, stage_all}
+use Rattle.wavelet.specs.Laws.Columns.{ColumnsLifted}
 use Rattle.wavelet.proofs.plane.lift_columns.Given as goal
 
 abbrev pub invariant-loop-n : goal.invariant-loop-n

@@ -1,8 +1,8 @@
-use Rattle.std.proofs.Common.{ℕ, ◌+◌, ◌-◌, ◌*◌, ◌≤◌, length, drop, arith}
+use Rattle.std.proofs.Common.{ℕ, ◌+◌, ◌*◌, ◌≤◌, length, drop, arith}
 use Rattle.laws.specs.Plane.{as_plane}
-use Rattle.laws.specs.Laws.Window.{Parts, parts_first, length-lent}
+use Rattle.laws.specs.Laws.Window.{parts_first, length-lent}
 use Rattle.wavelet.specs.Laws.Plane.{bits-le}
-use Rattle.wavelet.specs.Laws.Level.{row_of, rows_room, rows_copies, rows-turn, rows_all}
+use Rattle.wavelet.specs.Laws.Level.{rows_room, rows_copies, rows-turn, rows_all}
 use Rattle.wavelet.proofs.plane.rows.Goals as goal
 use Rattle.wavelet.proofs.plane.rows.Goals.{In-loop-n}
 

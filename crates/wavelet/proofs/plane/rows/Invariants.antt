@@ -1,9 +1,8 @@
 -- `plane::rows` meets its contract. The loop's invariant: the first n rows of the scratch are there.
-use Rattle.std.proofs.Common.{ℕ, ◌+◌, ◌-◌, ◌*◌, ◌≤◌, length, drop, arith}
+use Rattle.std.proofs.Common.{◌-◌, drop}
 use Rattle.laws.specs.Plane.{as_plane}
-use Rattle.laws.specs.Laws.Window.{Parts, parts_first, length-lent}
-use Rattle.wavelet.specs.Laws.Plane.{bits-le}
-use Rattle.wavelet.specs.Laws.Level.{row_of, rows_room, rows_copies, rows-turn, rows_all}
+use Rattle.laws.specs.Laws.Window.{Parts}
+use Rattle.wavelet.specs.Laws.Level.{row_of}
 use Rattle.wavelet.proofs.plane.rows.Given as goal
 
 abbrev pub invariant-loop-n : goal.invariant-loop-n

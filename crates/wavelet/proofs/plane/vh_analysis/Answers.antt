@@ -1,5 +1,5 @@
 -- `plane::vh_analysis` meets its contract.
-use Rattle.std.proofs.Common.{◌*◌, drop, rules}
+use Rattle.std.proofs.Common.{◌*◌, drop}
 use Rattle.laws.specs.Code.Window.{piece}
 use Rattle.laws.specs.Plane.{as_plane}
 use Rattle.wavelet.specs.Laws.Level.{vh_level, rows_there}

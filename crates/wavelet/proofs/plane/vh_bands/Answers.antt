@@ -1,5 +1,5 @@
 -- `plane::vh_bands` meets its contract.
-use Rattle.std.proofs.Common.{sym, rules}
+use Rattle.std.proofs.Common.{sym}
 use Rattle.wavelet.specs.Laws.Level.{vh_plane, vh_bands, vh_bands_are}
 use Rattle.wavelet.proofs.plane.vh_bands.Goals as goal
 

@@ -7,12 +7,6 @@ use Rattle.unit.specs.Three.{planes}
 use Rattle.picture.specs.Laws.Analysis.{padded_asks, taken_is, Taken, taken_of_lem, front_is, components_in, Sampled, front_room, analysed-of}
 use native.Mathlib.Omega.{arith}
 use borrow.Author.Rules.{rules}
-use Rattle.picture.proofs.coder.analysis.clear.Reads as clear_reads
-use Rattle.picture.proofs.coder.analysis.component_of.Reads as component-of-reads
-use Rattle.picture.proofs.front.sizes.colour_size.Reads as colour-size-reads
-use Rattle.picture.proofs.front.sizes.luma_size.Reads as luma-size-reads
-use Rattle.picture.proofs.front.sizes.padded_size.Reads as padded-size-reads
-use Rattle.wavelet.proofs.component.analyse_components.Reads as analyse-components-reads
 use Rattle.picture.proofs.coder.analysis.analyse.Goals as goal
 use Rattle.picture.proofs.coder.analysis.analyse.Goals.{After-component_of-colour, After-shared_slice_known-3-1}
 

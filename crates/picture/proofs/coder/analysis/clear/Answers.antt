@@ -1,9 +1,6 @@
-use mathlib.Core.Path.{◌≡◌, refl, ◌∙◌}
-use mathlib.Core.List.{◌++◌}
-use Prim.Native.Nat.{◌-◌, ◌≤◌}
+use mathlib.Core.Path.{refl, ◌∙◌}
 use lib.IntN.{pos}
-use lib.ListN.{length, drop, length-set}
-use Rattle.laws.specs.Rows.{row}
+use lib.ListN.{length, length-set}
 use Rattle.laws.specs.Laws.Chunks.{fill-turn, fill_all}
 use Rattle.picture.specs.Laws.Analysis.{zeros-row}
 use native.Mathlib.Omega.{arith}

@@ -1,13 +1,10 @@
 -- `coder::analysis::clear` meets its contract. The invariant: the first i places are zeros.
-use mathlib.Core.Path.{◌≡◌, refl, ◌∙◌}
+use mathlib.Core.Path.{◌≡◌}
 use mathlib.Core.List.{◌++◌}
 use Prim.Native.Nat.{◌-◌, ◌≤◌}
 use lib.IntN.{pos}
-use lib.ListN.{length, drop, length-set}
+use lib.ListN.{length, drop}
 use Rattle.laws.specs.Rows.{row}
-use Rattle.laws.specs.Laws.Chunks.{fill-turn, fill_all}
-use Rattle.picture.specs.Laws.Analysis.{zeros-row}
-use native.Mathlib.Omega.{arith}
 use Rattle.picture.proofs.coder.analysis.clear.Given as goal
 
 abbrev pub invariant-loop-i : goal.invariant-loop-i

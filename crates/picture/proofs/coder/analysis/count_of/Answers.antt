@@ -1,7 +1,6 @@
 -- `coder::analysis::count_of` meets its contract.
 use Rattle.laws.specs.Laws.Machine.{product-fits}
 use native.Mathlib.Omega.{arith}
-use borrow.Author.Rules.{rules}
 use Rattle.picture.proofs.coder.analysis.count_of.Goals as goal
 
 pub overflow_mul-result : goal.overflow_mul-result

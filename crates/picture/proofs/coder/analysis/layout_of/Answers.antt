@@ -1,8 +1,6 @@
 -- `coder::analysis::layout_of` meets its contract.
 use Rattle.picture.specs.Code.Matrix.{lent_in}
 use Rattle.picture.specs.Laws.Analysis.{layout_is}
-use borrow.Author.Rules.{rules}
-use Rattle.picture.proofs.coder.analysis.is_low.Reads as is-low-reads
 use Rattle.picture.proofs.coder.analysis.layout_of.Goals as goal
 
 pub returns : goal.returns

@@ -2,8 +2,6 @@
 use Rattle.unit.specs.Code.Valid.{Between}
 use Rattle.picture.specs.Laws.Analysis.{depth-of, offset-of}
 use native.Mathlib.Omega.{arith}
-use borrow.Author.Rules.{rules}
-use Rattle.picture.proofs.front.sizes.intlog2.Reads as intlog2-reads
 use Rattle.picture.proofs.coder.analysis.offset_of.Goals as goal
 use Rattle.picture.proofs.coder.analysis.offset_of.Goals.{After-intlog2-d}
 

@@ -4,13 +4,6 @@ use Rattle.unit.proofs.Laws.Valid.{levels_few}
 use Rattle.picture.specs.Code.Matrix.{lent_in}
 use Rattle.picture.specs.Laws.Analysis.{padded_asks, Measures, measures_of, picture_is}
 use native.Mathlib.Omega.{arith}
-use borrow.Author.Rules.{rules}
-use Rattle.picture.proofs.coder.analysis.component_at.Reads as component-at-reads
-use Rattle.picture.proofs.coder.analysis.count_of.Reads as count-of-reads
-use Rattle.picture.proofs.coder.analysis.layout_of.Reads as layout-of-reads
-use Rattle.picture.proofs.front.sizes.colour_size.Reads as colour-size-reads
-use Rattle.picture.proofs.front.sizes.luma_size.Reads as luma-size-reads
-use Rattle.picture.proofs.front.sizes.padded_size.Reads as padded-size-reads
 use Rattle.picture.proofs.coder.analysis.picture_of.Goals as goal
 use Rattle.picture.proofs.coder.analysis.picture_of.Goals.{After-count_of-n}
 

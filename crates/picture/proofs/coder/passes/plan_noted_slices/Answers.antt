@@ -1,6 +1,6 @@
-use mathlib.Core.Path.{◌≡◌, refl, sym, ap, ◌∙◌, subst}
+use mathlib.Core.Path.{◌≡◌, refl, sym, ◌∙◌, subst}
 use mathlib.Core.List.{List}
-use Prim.Native.Nat.{ℕ, ◌-◌, ◌^◌, ◌≤◌, ◌<◌}
+use Prim.Native.Nat.{ℕ, ◌^◌, ◌<◌}
 use native.Mathlib.Omega.{arith}
 use lib.IntN.{ℤ}
 use lib.ListN.{length}
@@ -9,9 +9,6 @@ use Rattle.picture.specs.Code.Choice.{plan_in, words_to, PlanIn}
 use Rattle.picture.specs.Code.Passes.{PlansOn, PlansTo}
 use Rattle.picture.specs.Code.Notes.{Notes}
 use Rattle.picture.specs.Laws.HighPlan.{plans_none, plans_more}
-use Rattle.picture.proofs.slices.layout.slice_count.Reads as slice-count-reads
-use Rattle.picture.proofs.coder.slice_coder.SliceCoder.new.Reads as new-reads
-use Rattle.picture.proofs.coder.slice_coder.SliceCoder.plan_noted_slice.Reads as plan-noted-slice-reads
 use Rattle.picture.proofs.coder.passes.plan_noted_slices.Goals as goal
 
 pub slice_count-slices-requires : goal.slice_count-slices-requires

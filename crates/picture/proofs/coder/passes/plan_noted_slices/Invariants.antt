@@ -1,19 +1,9 @@
 -- `coder::passes::plan_noted_slices` meets its contract. The invariant: the slices before the k-th are planned, and the
 -- work slice is as it was.
-use mathlib.Core.Path.{◌≡◌, refl, sym, ap, ◌∙◌, subst}
-use mathlib.Core.List.{List}
-use Prim.Native.Nat.{ℕ, ◌-◌, ◌^◌, ◌≤◌, ◌<◌}
-use native.Mathlib.Omega.{arith}
-use lib.IntN.{ℤ}
-use lib.ListN.{length}
+use mathlib.Core.Path.{◌≡◌}
+use Prim.Native.Nat.{◌-◌, ◌≤◌}
 use Rattle.picture.specs.Code.Picture.{slices_in}
-use Rattle.picture.specs.Code.Choice.{plan_in, words_to, PlanIn}
-use Rattle.picture.specs.Code.Passes.{PlansOn, PlansTo}
-use Rattle.picture.specs.Code.Notes.{Notes}
-use Rattle.picture.specs.Laws.HighPlan.{plans_none, plans_more}
-use Rattle.picture.proofs.slices.layout.slice_count.Reads as slice-count-reads
-use Rattle.picture.proofs.coder.slice_coder.SliceCoder.new.Reads as new-reads
-use Rattle.picture.proofs.coder.slice_coder.SliceCoder.plan_noted_slice.Reads as plan-noted-slice-reads
+use Rattle.picture.specs.Code.Passes.{PlansTo}
 use Rattle.picture.proofs.coder.passes.plan_noted_slices.Given as goal
 
 abbrev pub invariant-loop-k : goal.invariant-loop-k

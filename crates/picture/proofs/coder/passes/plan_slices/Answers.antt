@@ -1,14 +1,11 @@
 use mathlib.Core.Path.{◌≡◌, subst}
-use Prim.Native.Nat.{ℕ, ◌-◌, ◌≤◌, ◌<◌}
+use Prim.Native.Nat.{ℕ, ◌<◌}
 use Rattle.picture.specs.Code.Picture.{slices_in}
 use Rattle.picture.specs.Code.Passes.{PlansTo}
 use Rattle.picture.specs.Code.Notes.{Notes}
 use Rattle.picture.specs.Laws.HighPlan.{plans_none, plans_more}
 use Rattle.picture.specs.Laws.Noted.{words_room, notes_none, notes_plan, notes_more, plans_noted}
 use native.Mathlib.Omega.{arith}
-use Rattle.picture.proofs.slices.layout.slice_count.Reads as slice-count-reads
-use Rattle.picture.proofs.coder.slice_coder.SliceCoder.new.Reads as new-reads
-use Rattle.picture.proofs.coder.slice_coder.SliceCoder.plan_hq_slice.Reads as plan-hq-slice-reads
 use Rattle.picture.proofs.coder.passes.plan_slices.Goals as goal
 
 pub slice_count-slices-requires : goal.slice_count-slices-requires

@@ -1,16 +1,9 @@
 -- `coder::passes::plan_slices` meets its contract. The invariant: the slices before the k-th are planned, their words
 -- packed and their choices noted.
-use mathlib.Core.Path.{◌≡◌, subst}
-use Prim.Native.Nat.{ℕ, ◌-◌, ◌≤◌, ◌<◌}
+use Prim.Native.Nat.{◌-◌, ◌≤◌}
 use Rattle.picture.specs.Code.Picture.{slices_in}
 use Rattle.picture.specs.Code.Passes.{PlansTo}
 use Rattle.picture.specs.Code.Notes.{Notes}
-use Rattle.picture.specs.Laws.HighPlan.{plans_none, plans_more}
-use Rattle.picture.specs.Laws.Noted.{words_room, notes_none, notes_plan, notes_more, plans_noted}
-use native.Mathlib.Omega.{arith}
-use Rattle.picture.proofs.slices.layout.slice_count.Reads as slice-count-reads
-use Rattle.picture.proofs.coder.slice_coder.SliceCoder.new.Reads as new-reads
-use Rattle.picture.proofs.coder.slice_coder.SliceCoder.plan_hq_slice.Reads as plan-hq-slice-reads
 use Rattle.picture.proofs.coder.passes.plan_slices.Given as goal
 
 abbrev pub invariant-loop-k : goal.invariant-loop-k

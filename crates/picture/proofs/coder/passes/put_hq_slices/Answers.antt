@@ -1,6 +1,6 @@
 use mathlib.Core.Path.{◌≡◌, refl, sym, ap, ◌∙◌, subst}
 use mathlib.Core.List.{List}
-use Prim.Native.Nat.{◌+◌, ◌-◌, ◌≤◌, ◌<◌}
+use Prim.Native.Nat.{◌+◌, ◌≤◌, ◌<◌}
 use native.Mathlib.Omega.{arith}
 use lib.IntN.{ℤ}
 use lib.ListN.{length, length-append}
@@ -8,12 +8,9 @@ use Rattle.laws.specs.Laws.Chunks.{chunks-none, chunks-more}
 use Rattle.laws.specs.Code.Laid.{Lays}
 use Rattle.codewords.specs.Bytes.{to_bytes}
 use Rattle.picture.specs.Code.Picture.{slices_in}
-use Rattle.picture.specs.Code.Choice.{plan_in, high_runs, words_in, words_to, PlanIn}
+use Rattle.picture.specs.Code.Choice.{plan_in, words_in, words_to, PlanIn}
 use Rattle.picture.specs.Code.Notes.{Notes}
 use Rattle.picture.specs.Laws.HighSlice.{slices-none, slices_room, slices-next, slices_all}
-use Rattle.picture.proofs.slices.layout.slice_count.Reads as slice-count-reads
-use Rattle.picture.proofs.coder.slice_coder.SliceCoder.code_hq_slice.Reads as code-hq-slice-reads
-use Rattle.picture.proofs.coder.slice_coder.SliceCoder.new.Reads as new-reads
 use Rattle.picture.proofs.coder.passes.put_hq_slices.Goals as goal
 
 pub slice_count-slices-requires : goal.slice_count-slices-requires

@@ -1,8 +1,7 @@
-use mathlib.Core.Path.{◌≡◌, ap, ◌∙◌}
-use Prim.Native.Nat.{◌-◌, ◌<◌}
-use lib.ListN.{length}
+use mathlib.Core.Path.{◌≡◌}
+use Prim.Native.Nat.{◌<◌}
 use Rattle.picture.specs.Code.Picture.{slices_in}
-use Rattle.picture.specs.Laws.LowSlice.{Coded, coded_none, coded_in, coded_room, coded-more, work_size}
+use Rattle.picture.specs.Laws.LowSlice.{Coded, coded_none, coded_in, coded_room, coded-more}
 use native.Mathlib.Omega.{arith}
 use Rattle.picture.proofs.coder.passes.put_ld_slices.Goals as goal
 

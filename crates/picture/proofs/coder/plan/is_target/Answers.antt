@@ -1,6 +1,5 @@
 -- `coder::plan::is_target` meets its contract.
 use Rattle.picture.specs.Laws.HighPlan.{target_lossless, target_fixed, target_bytes}
-use borrow.Author.Rules.{rules}
 use Rattle.picture.proofs.coder.plan.is_target.Goals as goal
 
 pub returns-in-Lossless : goal.returns-in-Lossless

@@ -8,12 +8,6 @@ use Rattle.picture.specs.Code.Picture.{slices_in}
 use Rattle.picture.specs.Code.Choice.{terms_of}
 use Rattle.picture.specs.Code.Notes.{Notes}
 use Rattle.picture.specs.Laws.HighPlan.{plan_in_lem, plans_same, slices_from}
-use borrow.Author.Rules.{rules}
-use Rattle.picture.proofs.front.header.overhead.Reads as overhead-reads
-use Rattle.picture.proofs.coder.plan.is_target.Reads as is-target-reads
-use Rattle.picture.proofs.coder.passes.plan_noted_slices.Reads as plan-noted-slices-reads
-use Rattle.picture.proofs.coder.plan.plan_picture.Reads as plan-picture-reads
-use Rattle.picture.proofs.coder.plan.terms_of.Reads as terms-of-reads
 use Rattle.picture.proofs.coder.plan.plan_again.Goals as goal
 
 pub plan_noted_slices-requires : goal.plan_noted_slices-requires

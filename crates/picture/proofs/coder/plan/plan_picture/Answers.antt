@@ -6,10 +6,6 @@ use Rattle.picture.specs.Code.Picture.{slices_in}
 use Rattle.picture.specs.Code.Choice.{terms_of}
 use Rattle.picture.specs.Code.Notes.{Notes}
 use Rattle.picture.specs.Laws.HighPlan.{plan_in_lem, plans_same, slices_from}
-use borrow.Author.Rules.{rules}
-use Rattle.picture.proofs.front.header.overhead.Reads as overhead-reads
-use Rattle.picture.proofs.coder.passes.plan_slices.Reads as plan-slices-reads
-use Rattle.picture.proofs.coder.plan.terms_of.Reads as terms-of-reads
 use Rattle.picture.proofs.coder.plan.plan_picture.Goals as goal
 
 pub plan_slices-requires : goal.plan_slices-requires

@@ -1,16 +1,11 @@
 -- `coder::plan::settle` meets its contract. The invariant: r is the plan with scaler c, whose choices are noted, and
 -- the turns from c end where those from the first scaler do.
-use mathlib.Core.Path.{refl, ◌∙◌}
 use Prim.Native.Nat.{◌-◌, ◌^◌}
 use Rattle.picture.specs.Code.Matrix.{lent_in}
 use Rattle.picture.specs.Code.Picture.{slices_in}
 use Rattle.picture.specs.Code.Choice.{terms_of}
 use Rattle.picture.specs.Code.Notes.{Notes}
-use Rattle.picture.specs.Laws.HighPlan.{Settling, settling_first, settling_turn, settling_ends}
-use Rattle.picture.specs.Laws.Noted.{high_work, notes_high, notes_own, notes_stand, notes_after, plans_after, plans_before, settles_after}
-use native.Mathlib.Omega.{arith}
-use Rattle.picture.proofs.coder.plan.plan_again.Reads as plan-again-reads
-use Rattle.picture.proofs.coder.plan.plan_picture.Reads as plan-picture-reads
+use Rattle.picture.specs.Laws.HighPlan.{Settling}
 use Rattle.picture.proofs.coder.plan.settle.Given as goal
 
 abbrev pub invariant-loop-c : goal.invariant-loop-c

@@ -1,10 +1,6 @@
 -- `coder::plan::terms_of` meets its contract.
 use Rattle.picture.specs.Code.Matrix.{lent_in}
 use Rattle.picture.specs.Laws.HighPlan.{terms_are}
-use borrow.Author.Rules.{rules}
-use Rattle.picture.proofs.front.header.less.Reads as less-reads
-use Rattle.picture.proofs.front.header.overhead.Reads as overhead-reads
-use Rattle.picture.proofs.front.header.target_of.Reads as target-of-reads
 use Rattle.picture.proofs.coder.plan.terms_of.Goals as goal
 
 pub returns : goal.returns

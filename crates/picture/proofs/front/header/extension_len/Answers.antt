@@ -3,9 +3,6 @@ use native.Mathlib.Omega.{arith}
 use mathlib.Core.Path.{ap}
 use lib.ListN.{length, length-append}
 use Rattle.picture.specs.Laws.Head.{extension_none, extension_some}
-use borrow.Author.Rules.{rules}
-use Rattle.picture.proofs.front.header.flagged_len.Reads as flagged-len-reads
-use Rattle.picture.proofs.front.header.major_version.Reads as major-version-reads
 use Rattle.picture.proofs.front.header.extension_len.Goals as goal
 
 pub returns-then-major_version-lt3 : goal.returns-then-major_version-lt3

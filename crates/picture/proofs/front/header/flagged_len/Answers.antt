@@ -1,7 +1,5 @@
 -- `picture::front::header::flagged_len` meets its contract.
 use native.Mathlib.Omega.{arith}
-use borrow.Author.Rules.{rules}
-use Rattle.picture.proofs.front.header.uint_len.Reads as uint-len-reads
 use Rattle.picture.proofs.front.header.flagged_len.Goals as goal
 
 pub returns-then-flag : goal.returns-then-flag

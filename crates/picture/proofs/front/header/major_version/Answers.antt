@@ -1,6 +1,5 @@
 -- `front::header::major_version` meets its contract.
-use Rattle.std.proofs.Common.{ℕ, ◌≡◌, Bool, true, false, not, eqb, ap, inl, inr}
-use Rattle.std.proofs.Math.Path.{sym}
+use Rattle.std.proofs.Common.{ℕ, ◌≡◌, true, false, not, eqb, ap, inl, inr}
 use Rattle.std.proofs.lemmas.Bool.{ne_eqb}
 use Rattle.std.proofs.lemmas.Bool.{eq-eqb}
 use Rattle.unit.specs.declared.PictureKind.TheVariants.{LowDelay, HighQuality}

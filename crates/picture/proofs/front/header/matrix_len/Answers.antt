@@ -3,8 +3,6 @@ use native.Mathlib.Omega.{arith}
 use mathlib.Core.Path.{ap}
 use lib.ListN.{length}
 use Rattle.picture.specs.Laws.Head.{carried_some, carried_none}
-use borrow.Author.Rules.{rules}
-use Rattle.picture.proofs.front.header.values_len.Reads as values-len-reads
 use Rattle.picture.proofs.front.header.matrix_len.Goals as goal
 
 pub values_len-requires : goal.values_len-requires

@@ -3,9 +3,6 @@ use mathlib.Core.Path.{sym, ap, ◌∙◌}
 use Rattle.picture.specs.Code.Matrix.{lent_in}
 use Rattle.picture.specs.Code.Head.{numerator_after}
 use Rattle.picture.specs.Laws.Head.{numerator_twice}
-use borrow.Author.Rules.{rules}
-use Rattle.picture.proofs.front.header.numerator_after.Reads as numerator-after-reads
-use Rattle.picture.proofs.front.header.target_of.Reads as target-of-reads
 use Rattle.picture.proofs.front.header.numerator.Goals as goal
 
 pub returns : goal.returns

@@ -9,10 +9,6 @@ use Rattle.unit.specs.Parameters.{matrix_bits}
 use Rattle.picture.specs.Code.Matrix.{lent_in}
 use Rattle.picture.specs.Code.Head.{slice_in}
 use Rattle.picture.specs.Laws.Head.{carried_is, carries_places, bytes_of_parts}
-use borrow.Author.Rules.{rules}
-use Rattle.picture.proofs.front.header.shape_len.Reads as shape-len-reads
-use Rattle.picture.proofs.front.header.matrix_len.Reads as matrix-len-reads
-use Rattle.picture.proofs.front.header.slice_parameters_len.Reads as slice-parameters-len-reads
 use Rattle.picture.proofs.front.header.overhead.Goals as goal
 
 pub matrix_len-requires : goal.matrix_len-requires

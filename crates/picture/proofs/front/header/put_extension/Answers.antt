@@ -5,9 +5,6 @@ use mathlib.Core.Bool.{not}
 use lib.Dec.{eqb}
 use Rattle.unit.specs.Parameters.{flagged}
 use Rattle.picture.specs.Laws.Head.{extension_none, extension_some, room_first, room_rest}
-use borrow.Author.Rules.{rules}
-use Rattle.picture.proofs.front.header.major_version.Reads as major-version-reads
-use Rattle.picture.proofs.front.header.put_flagged.Reads as put-flagged-reads
 use Rattle.picture.proofs.front.header.put_extension.Goals as goal
 
 pub returns-then-major_version-lt3 : goal.returns-then-major_version-lt3

@@ -4,9 +4,6 @@ use Rattle.codewords.specs.Laws.Writer.{wrote_then, room_after}
 use Rattle.codewords.specs.CodeWord.{code_u}
 use lib.ListN.{length}
 use Rattle.picture.specs.Laws.Head.{flagged_on, flagged_off, flagged-pos, room_less}
-use borrow.Author.Rules.{rules}
-use Rattle.codewords.proofs.bitio.put_bit.Reads as put-bit-reads
-use Rattle.codewords.proofs.bitio.put_uint.Reads as put-uint-reads
 use Rattle.picture.proofs.front.header.put_flagged.Goals as goal
 
 pub put_bit-a-requires : goal.put_bit-a-requires

@@ -12,11 +12,6 @@ use Rattle.unit.specs.Unit.{major_version, parameters_by}
 use Rattle.picture.specs.Code.Matrix.{lent_in}
 use Rattle.picture.specs.Code.Head.{slice_in, info_of}
 use Rattle.picture.specs.Laws.Head.{info-length, head-length, head_parts, parameters_bytes, start_room, align_room, head_end, head_bytes}
-use borrow.Author.Rules.{rules}
-use Rattle.codewords.proofs.bitio.byte_align.Reads as byte-align-reads
-use Rattle.picture.proofs.front.header.put_u32.Reads as put-u32-reads
-use Rattle.picture.proofs.front.header.write_parse_info.Reads as write-parse-info-reads
-use Rattle.picture.proofs.front.header.write_transform_parameters.Reads as write-transform-parameters-reads
 use Rattle.picture.proofs.front.header.put_header.Goals as goal
 use Rattle.picture.proofs.front.header.put_header.Goals.{Start}
 

@@ -5,9 +5,6 @@ use lib.ListN.{length}
 use Rattle.unit.specs.Parameters.{codes_u}
 use Rattle.picture.specs.Code.Matrix.{lent_in, carried_in}
 use Rattle.picture.specs.Laws.Head.{carried_some, carried_none, matrix-pos, room_less}
-use borrow.Author.Rules.{rules}
-use Rattle.codewords.proofs.bitio.put_bit.Reads as put-bit-reads
-use Rattle.picture.proofs.front.header.put_values.Reads as put-values-reads
 use Rattle.picture.proofs.front.header.put_matrix.Goals as goal
 
 pub put_bit-a-requires : goal.put_bit-a-requires

@@ -2,8 +2,6 @@
 use Rattle.codewords.specs.Laws.Writer.{wrote_then}
 use Rattle.codewords.specs.CodeWord.{code_u}
 use Rattle.picture.specs.Laws.Head.{room_first, room_rest}
-use borrow.Author.Rules.{rules}
-use Rattle.codewords.proofs.bitio.put_uint.Reads as put-uint-reads
 use Rattle.picture.proofs.front.header.put_pair.Goals as goal
 
 pub put_uint-v-requires : goal.put_uint-v-requires

@@ -2,9 +2,6 @@
 use native.Mathlib.Omega.{arith}
 use Rattle.codewords.specs.Laws.Bit.{length-lit}
 use Rattle.unit.specs.Unit.{parse_code}
-use borrow.Author.Rules.{rules}
-use Rattle.codewords.proofs.bitio.put_nbits.Reads as put-nbits-reads
-use Rattle.picture.proofs.front.header.parse_code.Reads as parse-code-reads
 use Rattle.picture.proofs.front.header.put_parse_code.Goals as goal
 
 pub put_nbits-requires : goal.put_nbits-requires

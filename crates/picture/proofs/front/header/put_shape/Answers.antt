@@ -4,9 +4,6 @@ use Rattle.codewords.specs.CodeWord.{code_u}
 use mathlib.Core.List.{◌++◌}
 use Rattle.picture.specs.Code.Head.{extension_of, shape_bits}
 use Rattle.picture.specs.Laws.Head.{room_first, room_rest}
-use borrow.Author.Rules.{rules}
-use Rattle.picture.proofs.front.header.put_extension.Reads as put-extension-reads
-use Rattle.picture.proofs.front.header.put_pair.Reads as put-pair-reads
 use Rattle.picture.proofs.front.header.put_shape.Goals as goal
 
 pub put_pair-a-requires : goal.put_pair-a-requires

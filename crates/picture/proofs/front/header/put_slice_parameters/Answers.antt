@@ -1,6 +1,4 @@
 -- `picture::front::header::put_slice_parameters` meets its contract.
-use borrow.Author.Rules.{rules}
-use Rattle.picture.proofs.front.header.put_pair.Reads as put-pair-reads
 use Rattle.picture.proofs.front.header.put_slice_parameters.Goals as goal
 
 pub put_pair-requires : goal.put_pair-requires

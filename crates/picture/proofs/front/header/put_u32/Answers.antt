@@ -1,8 +1,6 @@
 -- `picture::front::header::put_u32` meets its contract.
 use native.Mathlib.Omega.{arith}
 use Rattle.codewords.specs.Laws.Bit.{length-lit}
-use borrow.Author.Rules.{rules}
-use Rattle.codewords.proofs.bitio.put_nbits.Reads as put-nbits-reads
 use Rattle.picture.proofs.front.header.put_u32.Goals as goal
 
 pub put_nbits-requires : goal.put_nbits-requires

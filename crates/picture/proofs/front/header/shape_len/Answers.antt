@@ -1,9 +1,6 @@
 -- `picture::front::header::shape_len` meets its contract.
 use native.Mathlib.Omega.{arith}
 use Rattle.picture.specs.Laws.Head.{front_length}
-use borrow.Author.Rules.{rules}
-use Rattle.picture.proofs.front.header.extension_len.Reads as extension-len-reads
-use Rattle.picture.proofs.front.header.uint_len.Reads as uint-len-reads
 use Rattle.picture.proofs.front.header.shape_len.Goals as goal
 
 pub returns : goal.returns

@@ -2,8 +2,6 @@
 use native.Mathlib.Omega.{arith}
 use lib.ListN.{length-append}
 use Rattle.codewords.specs.CodeWord.{code_u}
-use borrow.Author.Rules.{rules}
-use Rattle.picture.proofs.front.header.uint_len.Reads as uint-len-reads
 use Rattle.picture.proofs.front.header.slice_parameters_len.Goals as goal
 
 pub returns-in-LowDelay : goal.returns-in-LowDelay

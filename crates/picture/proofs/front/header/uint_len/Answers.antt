@@ -1,8 +1,6 @@
 -- `picture::front::header::uint_len` meets its contract.
 use native.Mathlib.Omega.{arith}
 use Rattle.picture.specs.Laws.Head.{code_u_short}
-use borrow.Author.Rules.{rules}
-use Rattle.codewords.proofs.uint_code_len.Reads as uint-code-len-reads
 use Rattle.picture.proofs.front.header.uint_len.Goals as goal
 
 pub returns : goal.returns

@@ -1,12 +1,10 @@
 use mathlib.Core.Path.{◌≡◌, sym, ap, ◌∙◌}
-use Prim.Native.Nat.{ℕ, ◌*◌, ◌-◌, ◌≤◌}
-use borrow.Author.Rules.{rules}
+use Prim.Native.Nat.{ℕ}
 use lib.ListN.{length, take, get_or, length-append}
 use Rattle.codewords.specs.CodeWord.{code_u}
 use Rattle.unit.specs.Parameters.{codes_u}
 use Rattle.picture.specs.Laws.Head.{codes_u-none, codes_u-take}
 use native.Mathlib.Omega.{arith}
-use Rattle.picture.proofs.front.header.uint_len.Reads as uint-len-reads
 use Rattle.picture.proofs.front.header.values_len.Goals as goal
 
 pub loop-i-init : goal.loop-i-init

@@ -7,9 +7,6 @@ use Rattle.codewords.specs.Code.Writer.{Room}
 use Rattle.unit.specs.Unit.{parse_code}
 use Rattle.picture.specs.Code.Head.{info_of}
 use Rattle.picture.specs.Laws.Head.{room_first, room_rest}
-use borrow.Author.Rules.{rules}
-use Rattle.picture.proofs.front.header.put_parse_code.Reads as put-parse-code-reads
-use Rattle.picture.proofs.front.header.put_u32.Reads as put-u32-reads
 use Rattle.picture.proofs.front.header.write_parse_info.Goals as goal
 use Rattle.picture.proofs.front.header.write_parse_info.Goals.{Start}
 

@@ -12,10 +12,6 @@ use Rattle.unit.specs.Unit.{major_version, parameters_by}
 use Rattle.picture.specs.Code.Matrix.{lent_in, carried_in}
 use Rattle.picture.specs.Code.Head.{slice_in, shape_bits}
 use Rattle.picture.specs.Laws.Head.{carried_is, carries_places, parameters_parts, room_first, room_rest}
-use borrow.Author.Rules.{rules}
-use Rattle.picture.proofs.front.header.put_shape.Reads as put-shape-reads
-use Rattle.picture.proofs.front.header.put_matrix.Reads as put-matrix-reads
-use Rattle.picture.proofs.front.header.put_slice_parameters.Reads as put-slice-parameters-reads
 use Rattle.picture.proofs.front.header.write_transform_parameters.Goals as goal
 use Rattle.picture.proofs.front.header.write_transform_parameters.Goals.{Start}
 

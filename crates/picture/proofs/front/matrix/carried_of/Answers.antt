@@ -2,9 +2,6 @@
 use mathlib.Core.Path.{ap, ◌∙◌}
 use Rattle.quantiser.specs.declared.annex_d.DefaultMatrix.{DefaultMatrix}
 use Rattle.picture.specs.Laws.Sides.{custom_few, custom_carried, default_carried, default_values}
-use borrow.Author.Rules.{rules}
-use Rattle.picture.proofs.front.matrix.in_places.Reads as in-places-reads
-use Rattle.quantiser.proofs.annex_d.default_quant_matrix.Reads as default-quant-matrix-reads
 use Rattle.picture.proofs.front.matrix.carried_of.Goals as goal
 
 pub in_places-values-requires : goal.in_places-values-requires

@@ -1,7 +1,5 @@
-use mathlib.Core.Path.{◌≡◌, refl}
-use Prim.Native.Nat.{◌-◌, ◌≤◌}
-use lib.ListN.{length}
-use Rattle.picture.specs.Laws.Sides.{filled_to, filled_next, filled-places}
+use mathlib.Core.Path.{refl}
+use Rattle.picture.specs.Laws.Sides.{filled_next, filled-places}
 use native.Mathlib.Omega.{arith}
 use Rattle.picture.proofs.front.matrix.in_places.Goals as goal
 

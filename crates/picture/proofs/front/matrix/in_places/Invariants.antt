@@ -1,9 +1,8 @@
 -- `front::matrix::in_places` meets its contract. The invariant: the first i values stand in their places.
-use mathlib.Core.Path.{◌≡◌, refl}
+use mathlib.Core.Path.{◌≡◌}
 use Prim.Native.Nat.{◌-◌, ◌≤◌}
 use lib.ListN.{length}
-use Rattle.picture.specs.Laws.Sides.{filled_to, filled_next, filled-places}
-use native.Mathlib.Omega.{arith}
+use Rattle.picture.specs.Laws.Sides.{filled_to}
 use Rattle.picture.proofs.front.matrix.in_places.Given as goal
 
 abbrev pub invariant-loop-i : goal.invariant-loop-i

@@ -1,7 +1,4 @@
-use mathlib.Core.Path.{◌≡◌, refl, ◌∙◌}
-use Prim.Native.Nat.{◌-◌, ◌≤◌}
-use lib.ListN.{length, drop}
-use Rattle.unit.specs.Refusal.{any_above}
+use mathlib.Core.Path.{refl, ◌∙◌}
 use Rattle.picture.specs.Laws.Refusal.{above_here, above_next, above_none}
 use native.Mathlib.Omega.{arith}
 use Rattle.picture.proofs.front.refusal.any_above.Goals as goal

@@ -1,11 +1,9 @@
 -- `front::refusal::any_above` meets its contract. The invariant: what is asked of all values is asked of those from
 -- place i on.
-use mathlib.Core.Path.{◌≡◌, refl, ◌∙◌}
+use mathlib.Core.Path.{◌≡◌}
 use Prim.Native.Nat.{◌-◌, ◌≤◌}
 use lib.ListN.{length, drop}
 use Rattle.unit.specs.Refusal.{any_above}
-use Rattle.picture.specs.Laws.Refusal.{above_here, above_next, above_none}
-use native.Mathlib.Omega.{arith}
 use Rattle.picture.proofs.front.refusal.any_above.Given as goal
 
 abbrev pub invariant-loop-i : goal.invariant-loop-i

@@ -7,9 +7,6 @@ use Rattle.unit.specs.Sizes.{Size}
 use Rattle.unit.specs.Subbands.{padded_area}
 use Rattle.picture.specs.Code.Sides.{size_in}
 use Rattle.picture.specs.Laws.Sides.{luma-within}
-use borrow.Author.Rules.{rules}
-use Rattle.picture.proofs.front.refusal.padded_area.Reads as padded-area-reads
-use Rattle.picture.proofs.front.sizes.luma_size.Reads as luma-size-reads
 use Rattle.picture.proofs.front.refusal.bad_area.Goals as goal
 
 pub padded_area-requires : goal.padded_area-requires

@@ -1,5 +1,4 @@
 -- `front::refusal::bad_index` meets its contract.
-use borrow.Author.Rules.{rules}
 use Rattle.picture.proofs.front.refusal.bad_index.Goals as goal
 
 pub returns-in-FixedQuantIndex : goal.returns-in-FixedQuantIndex

@@ -5,9 +5,6 @@ use lib.Dec.{eqb}
 use lib.ListN.{length}
 use borrow.Author.Tests.{not-true, not-false, eq-eqb, ne_eqb}
 use Rattle.unit.specs.Subbands.{subband_count}
-use borrow.Author.Rules.{rules}
-use Rattle.picture.proofs.front.refusal.any_above.Reads as any-above-reads
-use Rattle.picture.proofs.front.refusal.subband_count.Reads as subband-count-reads
 use Rattle.picture.proofs.front.refusal.bad_matrix.Goals as goal
 
 pub returns-then-not-s : goal.returns-then-not-s

@@ -2,10 +2,6 @@
 use mathlib.Core.Path.{◌≡◌, ap, ◌∙◌}
 use mathlib.Core.Bool.{or_assoc}
 use Rattle.unit.specs.Sizes.{Size, area, luma_size, colour_size}
-use borrow.Author.Rules.{rules}
-use Rattle.picture.proofs.front.refusal.area.Reads as area-reads
-use Rattle.picture.proofs.front.sizes.colour_size.Reads as colour-size-reads
-use Rattle.picture.proofs.front.sizes.luma_size.Reads as luma-size-reads
 use Rattle.picture.proofs.front.refusal.bad_planes.Goals as goal
 
 pub returns : goal.returns

@@ -1,6 +1,4 @@
 -- `front::refusal::bad_sizes` meets its contract.
-use borrow.Author.Rules.{rules}
-use Rattle.picture.proofs.front.refusal.outside.Reads as outside-reads
 use Rattle.picture.proofs.front.refusal.bad_sizes.Goals as goal
 
 pub returns : goal.returns

@@ -2,10 +2,7 @@
 use mathlib.Core.Path.{◌∙◌}
 use mathlib.Core.Bool.{or_assoc}
 use lib.Dec.{ltb}
-use borrow.Author.Rules.{rules}
 use Rattle.unit.specs.Limits.{slice_limit}
-use Rattle.picture.proofs.front.refusal.outside.Reads as outside-reads
-use Rattle.picture.proofs.front.refusal.product.Reads as product-reads
 use Rattle.picture.proofs.front.refusal.bad_slices.Goals as goal
 
 pub returns : goal.returns

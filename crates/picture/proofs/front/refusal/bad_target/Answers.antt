@@ -1,5 +1,4 @@
 -- `front::refusal::bad_target` meets its contract.
-use borrow.Author.Rules.{rules}
 use Rattle.picture.proofs.front.refusal.bad_target.Goals as goal
 
 pub returns-in-PictureBytes : goal.returns-in-PictureBytes

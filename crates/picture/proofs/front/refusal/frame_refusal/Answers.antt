@@ -1,8 +1,6 @@
 -- `front::refusal::frame_refusal` meets its contract.
 use mathlib.Core.List.{[]}
 use Rattle.unit.proofs.Laws.Rules.{stops, goes_on}
-use borrow.Author.Rules.{rules}
-use Rattle.picture.proofs.front.refusal.bad_frame.Reads as bad-frame-reads
 use Rattle.picture.proofs.front.refusal.frame_refusal.Goals as goal
 
 pub returns-then-bad_frame : goal.returns-then-bad_frame

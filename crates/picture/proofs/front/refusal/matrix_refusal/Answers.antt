@@ -1,12 +1,10 @@
 -- `front::refusal::matrix_refusal` meets its contract: each answer comes after the rules before it.
-use mathlib.Core.Path.{◌≡◌, sym, ◌∙◌}
+use mathlib.Core.Path.{◌≡◌, ◌∙◌}
 use mathlib.Core.List.{List}
 use lib.ListN.{drop}
 use Rattle.unit.specs.Rules.{Rule, first}
 use Rattle.unit.specs.Refusal.{matrix_rules}
 use Rattle.unit.proofs.Laws.Rules.{stops, goes_on}
-use Rattle.picture.proofs.front.refusal.bad_matrix.Reads as bad-matrix-reads
-use Rattle.picture.proofs.front.refusal.no_matrix.Reads as no-matrix-reads
 use Rattle.picture.proofs.front.refusal.matrix_refusal.Lts as lts
 use Rattle.picture.proofs.front.refusal.matrix_refusal.Tie as tie
 use Rattle.picture.proofs.front.refusal.matrix_refusal.Reads as reads

@@ -1,14 +1,11 @@
 -- `front::refusal::memory_refusal` meets its contract: each answer comes after the rules before it.
-use mathlib.Core.Path.{◌≡◌, sym, ◌∙◌}
+use mathlib.Core.Path.{◌≡◌, ◌∙◌}
 use mathlib.Core.List.{List}
 use lib.ListN.{drop}
 use Rattle.unit.specs.Rules.{Rule, first}
 use Rattle.unit.specs.Refusal.{memory_rules}
 use Rattle.unit.specs.Three.{planes}
 use Rattle.unit.proofs.Laws.Rules.{stops, goes_on}
-use Rattle.picture.proofs.front.refusal.bad_area.Reads as bad-area-reads
-use Rattle.picture.proofs.front.refusal.bad_planes.Reads as bad-planes-reads
-use Rattle.picture.proofs.front.refusal.short_work.Reads as short-work-reads
 use Rattle.picture.proofs.front.refusal.memory_refusal.Lts as lts
 use Rattle.picture.proofs.front.refusal.memory_refusal.Tie as tie
 use Rattle.picture.proofs.front.refusal.memory_refusal.Reads as reads

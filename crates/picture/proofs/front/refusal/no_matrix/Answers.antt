@@ -1,7 +1,5 @@
 -- `front::refusal::no_matrix` meets its contract.
 use Rattle.picture.specs.Laws.Sides.{default_missing}
-use borrow.Author.Rules.{rules}
-use Rattle.quantiser.proofs.annex_d.default_quant_matrix.Reads as default-quant-matrix-reads
 use Rattle.picture.proofs.front.refusal.no_matrix.Goals as goal
 
 pub returns-then-s : goal.returns-then-s

@@ -6,9 +6,6 @@ use Rattle.unit.specs.Subbands.{padded_area}
 use Rattle.unit.proofs.Laws.Valid.{levels_few}
 use Rattle.picture.specs.Code.Sides.{size_in}
 use Rattle.picture.specs.Laws.Sides.{padded-area_few}
-use borrow.Author.Rules.{rules}
-use Rattle.picture.proofs.front.refusal.area.Reads as area-reads
-use Rattle.picture.proofs.front.sizes.padded_size.Reads as padded-size-reads
 use Rattle.picture.proofs.front.refusal.padded_area.Goals as goal
 
 pub padded_size-requires : goal.padded_size-requires

@@ -1,7 +1,6 @@
 -- `front::refusal::product` meets its contract.
 use Rattle.laws.specs.Laws.Machine.{product-fits}
 use native.Mathlib.Omega.{arith}
-use borrow.Author.Rules.{rules}
 use Rattle.picture.proofs.front.refusal.product.Goals as goal
 
 pub overflow_mul-result : goal.overflow_mul-result

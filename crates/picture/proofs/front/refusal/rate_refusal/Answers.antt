@@ -1,13 +1,10 @@
 -- `front::refusal::rate_refusal` meets its contract: each answer comes after the rules before it.
-use mathlib.Core.Path.{◌≡◌, sym, ◌∙◌}
+use mathlib.Core.Path.{◌≡◌, ◌∙◌}
 use mathlib.Core.List.{List}
 use lib.ListN.{drop}
 use Rattle.unit.specs.Rules.{Rule, first}
 use Rattle.unit.specs.Refusal.{rate_rules}
 use Rattle.unit.proofs.Laws.Rules.{stops, goes_on}
-use Rattle.picture.proofs.front.refusal.bad_index.Reads as bad-index-reads
-use Rattle.picture.proofs.front.refusal.bad_target.Reads as bad-target-reads
-use Rattle.picture.proofs.front.refusal.no_target.Reads as no-target-reads
 use Rattle.picture.proofs.front.refusal.rate_refusal.Lts as lts
 use Rattle.picture.proofs.front.refusal.rate_refusal.Tie as tie
 use Rattle.picture.proofs.front.refusal.rate_refusal.Reads as reads

@@ -1,5 +1,5 @@
 -- `front::refusal::refusal` meets its contract: each group comes after those before it.
-use mathlib.Core.Path.{◌≡◌, sym, ◌∙◌}
+use mathlib.Core.Path.{◌≡◌, ◌∙◌}
 use Prim.Native.Nat.{ℕ}
 use native.Mathlib.Omega.{arith}
 use Rattle.unit.specs.Three.{planes}
@@ -8,12 +8,6 @@ use Rattle.unit.specs.Rules.{first, or_else}
 use Rattle.unit.proofs.Laws.Rules.{or_stops, or_goes_on}
 use Rattle.picture.specs.Code.Sides.{Measured}
 use Rattle.picture.specs.Laws.Refusal.{measured, from_matrix, from_frame, from_rate, by_groups}
-use borrow.Author.Rules.{rules}
-use Rattle.picture.proofs.front.refusal.frame_refusal.Reads as frame-refusal-reads
-use Rattle.picture.proofs.front.refusal.matrix_refusal.Reads as matrix-refusal-reads
-use Rattle.picture.proofs.front.refusal.memory_refusal.Reads as memory-refusal-reads
-use Rattle.picture.proofs.front.refusal.rate_refusal.Reads as rate-refusal-reads
-use Rattle.picture.proofs.front.refusal.shape_refusal.Reads as shape-refusal-reads
 use Rattle.picture.proofs.front.refusal.refusal.Lts as lts
 use Rattle.picture.proofs.front.refusal.refusal.Tie as tie
 use Rattle.picture.proofs.front.refusal.refusal.Reads as reads

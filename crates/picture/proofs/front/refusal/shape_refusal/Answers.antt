@@ -1,14 +1,10 @@
 -- `front::refusal::shape_refusal` meets its contract: each answer comes after the rules before it.
-use mathlib.Core.Path.{◌≡◌, sym, ◌∙◌}
+use mathlib.Core.Path.{◌≡◌, ◌∙◌}
 use mathlib.Core.List.{List}
 use lib.ListN.{drop}
 use Rattle.unit.specs.Rules.{Rule, first}
 use Rattle.unit.specs.Refusal.{shape_rules}
 use Rattle.unit.proofs.Laws.Rules.{stops, goes_on}
-use Rattle.picture.proofs.front.refusal.bad_depths.Reads as bad-depths-reads
-use Rattle.picture.proofs.front.refusal.bad_sizes.Reads as bad-sizes-reads
-use Rattle.picture.proofs.front.refusal.bad_slices.Reads as bad-slices-reads
-use Rattle.picture.proofs.front.refusal.bad_wavelets.Reads as bad-wavelets-reads
 use Rattle.picture.proofs.front.refusal.shape_refusal.Lts as lts
 use Rattle.picture.proofs.front.refusal.shape_refusal.Tie as tie
 use Rattle.picture.proofs.front.refusal.shape_refusal.Reads as reads

@@ -4,10 +4,6 @@ use Rattle.unit.specs.Sizes.{Size, luma_size, colour_size}
 use Rattle.unit.specs.Subbands.{padded_area, work_needed}
 use Rattle.picture.specs.Code.Sides.{size_in}
 use Rattle.picture.specs.Laws.Sides.{luma-within, colour-within}
-use borrow.Author.Rules.{rules}
-use Rattle.picture.proofs.front.refusal.padded_area.Reads as padded-area-reads
-use Rattle.picture.proofs.front.sizes.colour_size.Reads as colour-size-reads
-use Rattle.picture.proofs.front.sizes.luma_size.Reads as luma-size-reads
 use Rattle.picture.proofs.front.refusal.short_work.Goals as goal
 
 pub padded_area-luma-requires : goal.padded_area-luma-requires

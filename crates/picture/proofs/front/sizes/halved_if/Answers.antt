@@ -1,5 +1,4 @@
 -- `front::sizes::halved_if` meets its contract.
-use borrow.Author.Rules.{rules}
 use Rattle.picture.proofs.front.sizes.halved_if.Goals as goal
 
 pub returns-then-halve : goal.returns-then-halve

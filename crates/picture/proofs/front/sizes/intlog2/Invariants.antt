@@ -1,11 +1,7 @@
 -- `front::sizes::intlog2` meets its contract. The invariant: the power is 2^m, and m is not above the answer.
-use mathlib.Core.Path.{◌≡◌, refl}
-use Prim.Native.Nat.{◌-◌, ◌^◌, ◌≤◌, ◌<◌}
-use native.Mathlib.Nat.{pow-suc}
-use native.Mathlib.Numerals.{add-one}
+use mathlib.Core.Path.{◌≡◌}
+use Prim.Native.Nat.{◌-◌, ◌^◌, ◌≤◌}
 use Rattle.unit.specs.Sizes.{intlog2}
-use Rattle.picture.specs.Laws.Sides.{log_more, log_few, log_is}
-use native.Mathlib.Omega.{arith}
 use Rattle.picture.proofs.front.sizes.intlog2.Given as goal
 
 abbrev pub invariant-loop-power : goal.invariant-loop-power

@@ -1,8 +1,6 @@
 -- `front::sizes::luma_size` meets its contract.
 use mathlib.Core.Path.{refl}
 use Rattle.unit.specs.Sizes.{luma_size}
-use borrow.Author.Rules.{rules}
-use Rattle.picture.proofs.front.sizes.halved_if.Reads as halved-if-reads
 use Rattle.picture.proofs.front.sizes.luma_size.Goals as goal
 
 pub returns : goal.returns

@@ -4,8 +4,6 @@ use Prim.Native.Nat.{◌+◌}
 use mathlib.Core.Path.{refl}
 use Rattle.unit.specs.Subbands.{padded_size}
 use Rattle.unit.proofs.Laws.Padded.{rounded_few}
-use borrow.Author.Rules.{rules}
-use Rattle.wavelet.proofs.pad.padded_side.Reads as padded-side-reads
 use Rattle.picture.proofs.front.sizes.padded_size.Goals as goal
 
 pub overflow_cast-result : goal.overflow_cast-result

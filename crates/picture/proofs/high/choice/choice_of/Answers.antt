@@ -5,9 +5,6 @@ use Rattle.laws.specs.Code.Laid.{laid}
 use Rattle.picture.specs.Code.Picture.{numbers_in}
 use Rattle.picture.specs.Code.Choice.{choice_by, slice_words}
 use Rattle.picture.specs.Laws.HighIndex.{plan_slice}
-use borrow.Author.Rules.{rules}
-use Rattle.picture.proofs.high.election.index_of.Reads as index-of-reads
-use Rattle.picture.proofs.high.choice.pack_slice.Reads as pack-slice-reads
 use Rattle.picture.proofs.high.choice.choice_of.Goals as goal
 
 pub pack_slice-requires : goal.pack_slice-requires

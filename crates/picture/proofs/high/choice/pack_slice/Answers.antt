@@ -1,8 +1,6 @@
 -- `high::choice::pack_slice` meets its contract.
 use native.Mathlib.Omega.{arith}
 use Rattle.picture.specs.Laws.PackSlice.{run-after, y_ready, c1_ready, c2_ready, slice_chosen, slice_packed, slice_kept}
-use borrow.Author.Rules.{rules}
-use Rattle.picture.proofs.high.packed.pack_run.Reads as pack-run-reads
 use Rattle.picture.proofs.high.choice.pack_slice.Goals as goal
 
 pub pack_run-y-requires : goal.pack_run-y-requires

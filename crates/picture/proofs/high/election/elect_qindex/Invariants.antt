@@ -1,17 +1,10 @@
 -- `high::election::elect_qindex` meets its contract. The invariant: the least index that fits lies in the range.
 use Prim.Native.Nat.{◌-◌, ◌≤◌}
-use native.Mathlib.Omega.{arith}
 use Rattle.unit.specs.declared.PictureKind.TheVariants.{HighQuality}
 use Rattle.unit.specs.Limits.{last_index}
 use Rattle.unit.specs.HighQuality.{fits_by}
 use Rattle.picture.specs.Code.Picture.{numbers_in}
-use Rattle.picture.specs.Laws.HighIndex.{plan_slice}
-use Rattle.picture.specs.Laws.Rises.{fits_rises}
-use Rattle.picture.specs.Laws.Search.{Searches, search_start, search_turn, search_less, search_end}
-use Rattle.picture.proofs.high.election.fits.Reads as fits-reads
-use Rattle.picture.proofs.slices.search.narrowed.Reads as narrowed-reads
-use Rattle.picture.proofs.high.election.next_index.Reads as next-index-reads
-use Rattle.picture.proofs.slices.search.wider.Reads as wider-reads
+use Rattle.picture.specs.Laws.Search.{Searches}
 use Rattle.picture.proofs.high.election.elect_qindex.Given as goal
 
 abbrev pub invariant-loop-r : goal.invariant-loop-r

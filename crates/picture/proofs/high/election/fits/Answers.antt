@@ -3,11 +3,6 @@ use native.Mathlib.Omega.{arith}
 use Rattle.picture.specs.Laws.Layout.{run_lies}
 use Rattle.picture.specs.Laws.Picture.{run_y}
 use Rattle.picture.specs.Laws.HighIndex.{run-bits, alone_not}
-use borrow.Author.Rules.{rules}
-use Rattle.picture.proofs.high.election.fits_with.Reads as fits-with-reads
-use Rattle.picture.proofs.high.size.needs_of.Reads as needs-of-reads
-use Rattle.picture.proofs.high.size.slice_size.Reads as slice-size-reads
-use Rattle.picture.proofs.high.election.trimmed_run.Reads as trimmed-run-reads
 use Rattle.picture.proofs.high.election.fits.Goals as goal
 
 pub trimmed_run-y-requires : goal.trimmed_run-y-requires

@@ -2,10 +2,6 @@
 use Rattle.picture.specs.Laws.Layout.{run_lies}
 use Rattle.picture.specs.Laws.Picture.{run_c1, run_c2}
 use Rattle.picture.specs.Laws.HighIndex.{bits_few, fits_by_lem}
-use borrow.Author.Rules.{rules}
-use Rattle.picture.proofs.high.size.needs_of.Reads as needs-of-reads
-use Rattle.picture.proofs.high.size.slice_size.Reads as slice-size-reads
-use Rattle.picture.proofs.high.election.trimmed_run.Reads as trimmed-run-reads
 use Rattle.picture.proofs.high.election.fits_with.Goals as goal
 
 pub trimmed_run-c1-requires : goal.trimmed_run-c1-requires

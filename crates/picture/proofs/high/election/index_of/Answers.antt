@@ -1,10 +1,6 @@
 -- `high::election::index_of` meets its contract.
 use native.Mathlib.Omega.{arith}
 use Rattle.picture.specs.Laws.HighIndex.{index_lossless, index_fixed, index_elected, index-most}
-use borrow.Author.Rules.{rules}
-use Rattle.picture.proofs.high.election.elect_qindex.Reads as elect-qindex-reads
-use Rattle.picture.proofs.high.size.share_of.Reads as share-of-reads
-use Rattle.picture.proofs.slices.layout.slice_count.Reads as slice-count-reads
 use Rattle.picture.proofs.high.election.index_of.Goals as goal
 
 pub returns-in-Lossless : goal.returns-in-Lossless

@@ -5,7 +5,6 @@ use lib.Seq.{set_out}
 use mir.Syntax.{w64}
 use mir.Facts.{to_z_pos}
 use native.Mathlib.Omega.{arith}
-use borrow.Author.Rules.{rules}
 use Rattle.picture.proofs.high.notes.note.Goals as goal
 
 pub returns-then-i-work : goal.returns-then-i-work

@@ -4,9 +4,6 @@ use mathlib.Core.List.{List}
 use Prim.Native.Nat.{◌+◌}
 use lib.IntN.{ℤ}
 use Rattle.picture.specs.Code.Notes.{note_run}
-use borrow.Author.Rules.{rules}
-use Rattle.picture.proofs.high.notes.note.Reads as note-reads
-use Rattle.picture.proofs.high.notes.note_run.Reads as note-run-reads
 use Rattle.picture.proofs.high.notes.note_choice.Goals as goal
 
 pub returns : goal.returns

@@ -4,8 +4,6 @@ use mathlib.Core.List.{List}
 use Prim.Native.Nat.{◌+◌}
 use lib.IntN.{ℤ, pos}
 use lib.ListN.{set}
-use borrow.Author.Rules.{rules}
-use Rattle.picture.proofs.high.notes.note.Reads as note-reads
 use Rattle.picture.proofs.high.notes.note_run.Goals as goal
 
 pub returns : goal.returns

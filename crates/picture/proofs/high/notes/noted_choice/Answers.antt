@@ -15,9 +15,6 @@ use Rattle.picture.specs.Code.Choice.{index_in, choice_in, words_in, FewBits}
 use Rattle.picture.specs.Code.Notes.{ChoiceAt}
 use Rattle.picture.specs.Laws.HighIndex.{index-most, own_few}
 use Rattle.picture.specs.Laws.Noted.{words_room, words_end, laid_again, words_stand, noted_y, noted_c1, noted_c2, noted_is}
-use borrow.Author.Rules.{rules}
-use Rattle.picture.proofs.high.choice.choice_of.Reads as choice-of-reads
-use Rattle.picture.proofs.high.notes.noted_run.Reads as noted-run-reads
 use Rattle.picture.proofs.high.notes.noted_choice.Goals as goal
 use Rattle.picture.proofs.high.notes.noted_choice.Goals.{Start}
 

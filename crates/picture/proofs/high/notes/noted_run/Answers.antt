@@ -2,7 +2,6 @@
 use Prim.Native.Nat.{◌+◌}
 use native.Mathlib.Omega.{arith}
 use Rattle.picture.specs.Laws.Noted.{read_plain}
-use borrow.Author.Rules.{rules}
 use Rattle.picture.proofs.high.notes.noted_run.Goals as goal
 
 pub overflow_cast-result : goal.overflow_cast-result

@@ -5,7 +5,7 @@ use native.Mathlib.Omega.{arith}
 use lib.IntN.{ℤ}
 use mir.Syntax.{w64}
 use mir.Facts.{to_z-of_z}
-use borrow.Author.Rules.{rules, sfits_of}
+use borrow.Author.Rules.{sfits_of}
 use Rattle.quantiser.specs.Quant.{forward_by}
 use Rattle.picture.specs.Code.Strip.{plane_from}
 use Rattle.picture.specs.Laws.Strip.{numbered}

@@ -1,11 +1,10 @@
 use mathlib.Core.Path.{◌≡◌, sym, ap, ◌∙◌}
-use Prim.Native.Nat.{◌-◌, ◌≤◌}
+use Prim.Native.Nat.{◌-◌}
 use native.Mathlib.Omega.{arith}
 use Rattle.laws.specs.Code.Chunks.{chunks}
 use Rattle.picture.specs.Code.Strip.{Inside}
 use Rattle.picture.specs.Laws.Strip.{places, row-chunks}
-use Rattle.picture.specs.Code.Packed.{Packs}
-use Rattle.picture.specs.Laws.Packed.{packs_same, packs_start, packs_length, row_ready, row-turn}
+use Rattle.picture.specs.Laws.Packed.{packs_same, packs_start, row_ready, row-turn}
 use Rattle.picture.proofs.high.packed.pack_row.Goals as goal
 use Rattle.picture.proofs.high.packed.pack_row.Goals.{In-loop-x}
 

@@ -1,12 +1,8 @@
 -- `picture::high::packed::pack_row` meets its contract. The loop's invariant: the places left of x are packed.
-use mathlib.Core.Path.{◌≡◌, sym, ap, ◌∙◌}
 use Prim.Native.Nat.{◌-◌, ◌≤◌}
-use native.Mathlib.Omega.{arith}
 use Rattle.laws.specs.Code.Chunks.{chunks}
-use Rattle.picture.specs.Code.Strip.{Inside}
-use Rattle.picture.specs.Laws.Strip.{places, row-chunks}
+use Rattle.picture.specs.Laws.Strip.{places}
 use Rattle.picture.specs.Code.Packed.{Packs}
-use Rattle.picture.specs.Laws.Packed.{packs_same, packs_start, packs_length, row_ready, row-turn}
 use Rattle.picture.proofs.high.packed.pack_row.Given as goal
 
 abbrev pub invariant-loop-x : goal.invariant-loop-x

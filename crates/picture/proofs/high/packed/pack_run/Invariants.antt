@@ -1,13 +1,10 @@
 -- `picture::high::packed::pack_run` meets its contract. The invariant: the bands before the n-th are packed, start is
 -- their area, and v is the window of the band before.
-use mathlib.Core.Path.{◌≡◌, sym, ap}
+use mathlib.Core.Path.{◌≡◌}
 use mathlib.Core.Bool.{false}
 use Prim.Native.Nat.{◌-◌, ◌≤◌}
-use native.Mathlib.Omega.{arith}
 use Rattle.picture.specs.Code.Layout.{band_count, start_of, window_of, run_numbers}
-use Rattle.picture.specs.Laws.Layout.{start_first, strip_in, strip_from, start-turn, start_small, run-window, window-first, window-turn}
 use Rattle.picture.specs.Code.Packed.{Packs}
-use Rattle.picture.specs.Laws.Packed.{packs_same, packs_length, packs_run-none, run_packable, band_ready, band-turn}
 use Rattle.picture.proofs.high.packed.pack_run.Given as goal
 
 abbrev pub invariant-loop-n : goal.invariant-loop-n

@@ -1,10 +1,9 @@
 use mathlib.Core.Path.{◌≡◌, sym, ap, ◌∙◌}
-use Prim.Native.Nat.{◌-◌, ◌≤◌}
+use Prim.Native.Nat.{◌-◌}
 use native.Mathlib.Omega.{arith}
 use Rattle.laws.specs.Code.Chunks.{chunks}
 use Rattle.picture.specs.Laws.Strip.{rows, rows-chunks}
-use Rattle.picture.specs.Code.Packed.{Packs}
-use Rattle.picture.specs.Laws.Packed.{packs_same, packs_start, packs_length, strip_ready, strip_turn}
+use Rattle.picture.specs.Laws.Packed.{packs_same, packs_start, strip_ready, strip_turn}
 use Rattle.picture.proofs.high.packed.pack_strip.Goals as goal
 
 pub loop-y-init : goal.loop-y-init

@@ -1,11 +1,8 @@
 -- `picture::high::packed::pack_strip` meets its contract. The loop's invariant: the rows above y are packed.
-use mathlib.Core.Path.{◌≡◌, sym, ap, ◌∙◌}
 use Prim.Native.Nat.{◌-◌, ◌≤◌}
-use native.Mathlib.Omega.{arith}
 use Rattle.laws.specs.Code.Chunks.{chunks}
-use Rattle.picture.specs.Laws.Strip.{rows, rows-chunks}
+use Rattle.picture.specs.Laws.Strip.{rows}
 use Rattle.picture.specs.Code.Packed.{Packs}
-use Rattle.picture.specs.Laws.Packed.{packs_same, packs_start, packs_length, strip_ready, strip_turn}
 use Rattle.picture.proofs.high.packed.pack_strip.Given as goal
 
 abbrev pub invariant-loop-y : goal.invariant-loop-y

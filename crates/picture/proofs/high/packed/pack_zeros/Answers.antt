@@ -7,7 +7,6 @@ use lib.ListN.{set}
 use mir.Syntax.{w64}
 use mir.Val.{to_z, of_z}
 use mir.Facts.{to_z-of_z}
-use borrow.Author.Rules.{rules}
 use Rattle.laws.specs.Laws.Machine.{fit}
 use Rattle.picture.specs.Code.Packed.{mark}
 use Rattle.picture.specs.Laws.Packed.{zeros-none, zeros-some, some-due, word_is}

@@ -9,9 +9,6 @@ use mir.Facts.{to_z-of_z, to_z_pos}
 use Rattle.laws.specs.Laws.Integer.{up, parts}
 use Rattle.picture.specs.Code.Packed.{mark}
 use Rattle.picture.specs.Laws.PutWords.{over_mark, under_mark, less-mark, zeros_word_lem, number_word, zeros_room}
-use borrow.Author.Rules.{rules}
-use Rattle.codewords.proofs.bitio.put_ones.Reads as put-ones-reads
-use Rattle.codewords.proofs.bitio.put_sint.Reads as put-sint-reads
 use Rattle.picture.proofs.high.packed.put_word.Goals as goal
 use Rattle.picture.proofs.high.packed.put_word.Goals.{Else-z-ge4503599627370496, Then-z-ge4503599627370496}
 

@@ -1,16 +1,12 @@
 use mathlib.Core.Path.{◌≡◌}
-use Prim.Native.Nat.{◌+◌, ◌-◌, ◌≤◌}
+use Prim.Native.Nat.{◌+◌}
 use native.Mathlib.Omega.{arith}
 use mir.Syntax.{w64}
 use mir.Val.{to_z, of_z}
 use mir.Facts.{to_z-of_z}
-use borrow.Author.Rules.{rules, sfits_of}
+use borrow.Author.Rules.{sfits_of}
 use Rattle.laws.specs.Rows.{at}
-use Rattle.codewords.specs.CodeWord.{codes}
-use Rattle.codewords.specs.Code.Writer.{Wrote}
-use Rattle.picture.specs.Code.Packed.{unpacked, words_at}
 use Rattle.picture.specs.Laws.PutWords.{words_none, word_room, word_turn, words_all}
-use Rattle.picture.proofs.high.packed.put_word.Reads as put-word-reads
 use Rattle.picture.proofs.high.packed.put_words.Goals as goal
 use Rattle.picture.proofs.high.packed.put_words.Goals.{After-z-1}
 

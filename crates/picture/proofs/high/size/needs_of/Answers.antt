@@ -1,7 +1,5 @@
 -- `high::size::needs_of` meets its contract.
 use Rattle.picture.specs.Laws.HighIndex.{needs_by_lem}
-use borrow.Author.Rules.{rules}
-use Rattle.picture.proofs.high.size.need.Reads as need-reads
 use Rattle.picture.proofs.high.size.needs_of.Goals as goal
 
 pub returns : goal.returns

@@ -1,7 +1,6 @@
 -- `high::size::scalers` meets its contract.
 use mathlib.Core.Path.{refl}
 use Rattle.picture.specs.Laws.HighIndex.{ceiling_near}
-use borrow.Author.Rules.{rules}
 use Rattle.picture.proofs.high.size.scalers.Goals as goal
 
 pub returns : goal.returns

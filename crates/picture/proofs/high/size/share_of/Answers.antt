@@ -2,7 +2,6 @@
 use native.Mathlib.Nat.{div-le_self}
 use Rattle.picture.specs.Laws.HighIndex.{share_more, share_plain}
 use native.Mathlib.Omega.{arith}
-use borrow.Author.Rules.{rules}
 use Rattle.picture.proofs.high.size.share_of.Goals as goal
 
 pub overflow_add-result : goal.overflow_add-result

@@ -1,6 +1,5 @@
 -- `high::size::slice_size` meets its contract.
 use Rattle.picture.specs.Laws.HighIndex.{size_is}
-use borrow.Author.Rules.{rules}
 use Rattle.picture.proofs.high.size.slice_size.Goals as goal
 
 pub returns : goal.returns

@@ -2,7 +2,6 @@
 use mathlib.Core.Path.{ap, ◌∙◌}
 use Prim.Native.Nat.{ℕ}
 use native.Mathlib.Omega.{arith}
-use borrow.Author.Rules.{rules}
 use Rattle.laws.specs.Ceiling.{ceiling}
 use Rattle.picture.specs.Code.Notes.{run_at}
 use Rattle.picture.specs.Laws.HighSlice.{Counted, kept_held, byte_room, kept_room, ones_room, component_wrote}

@@ -1,5 +1,4 @@
 -- `high::slice::put_components` meets its contract.
-use borrow.Author.Rules.{rules}
 use Rattle.picture.specs.Code.Notes.{numbers_at}
 use Rattle.picture.specs.Laws.HighSlice.{y_room, c1_room, c2_room, three_wrote}
 use Rattle.picture.proofs.high.slice.put_components.Goals as goal

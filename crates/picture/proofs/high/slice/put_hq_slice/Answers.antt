@@ -1,7 +1,6 @@
 -- `high::slice::put_hq_slice` meets its contract.
 use mathlib.Core.Path.{refl}
 use native.Mathlib.Omega.{arith}
-use borrow.Author.Rules.{rules}
 use Rattle.picture.specs.Code.Notes.{numbers_at}
 use Rattle.picture.specs.Laws.HighSlice.{prefix_room, index_room, components_room, flush_room, slice_laid}
 use Rattle.picture.proofs.high.slice.put_hq_slice.Goals as goal

@@ -1,10 +1,7 @@
 -- `high::slice::put_prefix` meets its contract. The loop's invariant: i bytes are written.
 use Prim.Native.Nat.{◌*◌, ◌-◌, ◌≤◌}
-use native.Mathlib.Omega.{arith}
 use Rattle.codewords.specs.Bit.{zero_bits}
 use Rattle.codewords.specs.Code.Writer.{Wrote}
-use Rattle.codewords.specs.Laws.Writer.{wrote_none}
-use Rattle.picture.specs.Laws.HighSlice.{prefix_next, prefix_turn, prefix_all}
 use Rattle.picture.proofs.high.slice.put_prefix.Given as goal
 
 abbrev pub invariant-loop-i : goal.invariant-loop-i

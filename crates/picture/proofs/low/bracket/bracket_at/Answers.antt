@@ -1,7 +1,3 @@
-use mathlib.Core.Logic.{⊎_elim}
-use Prim.Native.Nat.{◌≤◌}
-use Rattle.picture.specs.Code.Low.{Tried}
-use Rattle.picture.specs.Code.LowRest.{Known}
 use Rattle.picture.specs.Laws.Again.{tried_none, tried_more, tried_then}
 use Rattle.picture.specs.Laws.LowRest.{slice_at, known_is, known-rebuilt}
 use native.Mathlib.Omega.{arith}

@@ -1,12 +1,8 @@
 -- `low::bracket::bracket_at` meets its contract. The invariant: the runs at hand are known, and what the candidates
 -- left in the work slice is rebuilt as if none had been tried.
-use mathlib.Core.Logic.{⊎_elim}
 use Prim.Native.Nat.{◌≤◌}
 use Rattle.picture.specs.Code.Low.{Tried}
 use Rattle.picture.specs.Code.LowRest.{Known}
-use Rattle.picture.specs.Laws.Again.{tried_none, tried_more, tried_then}
-use Rattle.picture.specs.Laws.LowRest.{slice_at, known_is, known-rebuilt}
-use native.Mathlib.Omega.{arith}
 use Rattle.picture.proofs.low.bracket.bracket_at.Given as goal
 
 abbrev pub invariant-loop-left : goal.invariant-loop-left

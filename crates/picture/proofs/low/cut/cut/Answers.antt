@@ -1,9 +1,6 @@
 -- `low::cut::cut` meets its contract.
 use Rattle.picture.specs.Code.Low.{luma_in, colour_in}
 use Rattle.picture.specs.Laws.LowSlice.{cut_fits, kept-cut}
-use borrow.Author.Rules.{rules}
-use Rattle.picture.proofs.low.cut.colour_cost.Reads as colour-cost-reads
-use Rattle.picture.proofs.low.cut.shorter.Reads as shorter-reads
 use Rattle.picture.proofs.low.cut.cut.Goals as goal
 
 pub overflow_sub-left : goal.overflow_sub-left

@@ -4,11 +4,6 @@ use Rattle.picture.specs.Code.Low.{luma_in, colour_in}
 use Rattle.picture.specs.Laws.LowRest.{joins_both, joined_few, luma-whole, colour-whole}
 use Rattle.picture.specs.Laws.LowSlice.{kept_whole, not-whole}
 use native.Mathlib.Omega.{arith}
-use borrow.Author.Rules.{rules}
-use Rattle.picture.proofs.low.trial.first_tallies.Reads as first-tallies-reads
-use Rattle.picture.proofs.low.trial.joined.Reads as joined-reads
-use Rattle.picture.proofs.low.cut.luma_cost.Reads as luma-cost-reads
-use Rattle.picture.proofs.low.cut.cut.Reads as cut-reads
 use Rattle.picture.proofs.low.cut.kept_runs.Goals as goal
 
 pub joined-y-requires : goal.joined-y-requires

@@ -4,7 +4,6 @@ use Rattle.picture.specs.declared.slices.cost.Cost.{Cost}
 use Rattle.picture.specs.Code.Cost.{add_all}
 use Rattle.picture.specs.Code.Low.{luma_in}
 use Rattle.picture.specs.Laws.LowIndex.{luma_ready}
-use borrow.Author.Rules.{rules}
 use Rattle.picture.proofs.low.cut.luma_cost.Goals as goal
 
 pub cost_run-requires : goal.cost_run-requires

@@ -1,12 +1,11 @@
 use mathlib.Core.Path.{ap, ◌∙◌}
 use mathlib.Core.Bool.{Bool}
-use Prim.Native.Nat.{ℕ, ◌-◌}
+use Prim.Native.Nat.{ℕ}
 use Rattle.unit.specs.declared.PictureKind.TheVariants.{LowDelay}
 use Rattle.unit.specs.Limits.{last_index}
 use Rattle.unit.specs.Elect.{elect}
-use Rattle.picture.specs.Code.Low.{low_fits_in, Tried}
-use Rattle.picture.specs.Code.LowRest.{Known}
-use Rattle.picture.specs.Laws.ElectLoop.{Halving, halving_start, halving_middle, halving_less, halving_turn, halving_end, halving_low}
+use Rattle.picture.specs.Code.Low.{low_fits_in}
+use Rattle.picture.specs.Laws.ElectLoop.{halving_start, halving_middle, halving_less, halving_turn, halving_end, halving_low}
 use Rattle.picture.specs.Laws.Again.{tried_none, tried_more, tried_then, tried_fits}
 use Rattle.picture.specs.Laws.LowRest.{slice_at}
 use native.Mathlib.Omega.{arith}

@@ -1,18 +1,12 @@
 -- `low::election::elect_qindex` meets its contract. The invariant: the search in the range ends where the whole one
 -- does, what the candidates left in the work slice is rebuilt as if none had been tried, and the runs at hand are
 -- known.
-use mathlib.Core.Path.{ap, ◌∙◌}
-use mathlib.Core.Bool.{Bool}
-use Prim.Native.Nat.{ℕ, ◌-◌}
+use Prim.Native.Nat.{◌-◌}
 use Rattle.unit.specs.declared.PictureKind.TheVariants.{LowDelay}
 use Rattle.unit.specs.Limits.{last_index}
-use Rattle.unit.specs.Elect.{elect}
 use Rattle.picture.specs.Code.Low.{low_fits_in, Tried}
 use Rattle.picture.specs.Code.LowRest.{Known}
-use Rattle.picture.specs.Laws.ElectLoop.{Halving, halving_start, halving_middle, halving_less, halving_turn, halving_end, halving_low}
-use Rattle.picture.specs.Laws.Again.{tried_none, tried_more, tried_then, tried_fits}
-use Rattle.picture.specs.Laws.LowRest.{slice_at}
-use native.Mathlib.Omega.{arith}
+use Rattle.picture.specs.Laws.ElectLoop.{Halving}
 use Rattle.picture.proofs.low.election.elect_qindex.Given as goal
 
 abbrev pub invariant-loop-r : goal.invariant-loop-r

@@ -7,15 +7,11 @@ use lib.Signed.{lt_z}
 use mir.Syntax.{w64}
 use mir.Val.{to_z, of_z}
 use mir.Facts.{to_z-of_z}
-use borrow.Author.Rules.{rules, sfits_of}
+use borrow.Author.Rules.{sfits_of}
 use Rattle.codewords.specs.CodeWord.{code_s, code_m}
 use Rattle.quantiser.specs.Quant.{forward_by}
 use Rattle.picture.specs.Code.Strip.{plane_from}
 use Rattle.picture.specs.Laws.Put.{forward_word, puts_past, puts_one, room_one}
-use borrow.Author.Rules.{rules}
-use Rattle.codewords.proofs.bitio.put_signed.Reads as put-signed-reads
-use Rattle.picture.proofs.slices.strip.coefficient.Reads as coefficient-reads
-use Rattle.quantiser.proofs.forward_size.Reads as forward-size-reads
 use Rattle.picture.proofs.low.put.put_coefficient.Goals as goal
 use Rattle.picture.proofs.low.put.put_coefficient.Goals.{After-forward_size-m}
 

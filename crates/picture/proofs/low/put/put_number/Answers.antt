@@ -4,7 +4,6 @@ use mir.Syntax.{w64}
 use mir.Facts.{to_z-of_z}
 use mathlib.Core.List.{[], ◌∷◌}
 use Rattle.picture.specs.Laws.Put.{puts_past, puts_one, room_one}
-use borrow.Author.Rules.{rules}
 use Rattle.picture.proofs.low.put.put_number.Goals as goal
 
 pub returns-then-p-eq0 : goal.returns-then-p-eq0

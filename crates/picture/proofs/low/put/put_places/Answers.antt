@@ -1,10 +1,9 @@
 use mathlib.Core.Path.{◌≡◌, sym, ap, ◌∙◌}
-use Prim.Native.Nat.{◌+◌, ◌-◌, ◌≤◌}
+use Prim.Native.Nat.{◌+◌, ◌-◌}
 use Rattle.laws.specs.Code.Chunks.{chunks}
 use Rattle.picture.specs.Code.Strip.{place_numbers, row_numbers, Inside}
 use Rattle.picture.specs.Laws.Strip.{places, row-chunks}
 use Rattle.picture.specs.Laws.Put.{puts_same, room_same, part_room, part-turn, parts_none}
-use Rattle.picture.specs.Code.Put.{Puts}
 use native.Mathlib.Omega.{arith}
 use Rattle.picture.proofs.low.put.put_places.Goals as goal
 

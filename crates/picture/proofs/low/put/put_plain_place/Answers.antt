@@ -7,9 +7,6 @@ use Rattle.picture.specs.Laws.Strip.{numbered}
 use Rattle.picture.specs.Laws.Tally.{place_plain}
 use Rattle.picture.specs.Code.Put.{RoomFor}
 use Rattle.picture.specs.Laws.Put.{puts_then, puts_same, room_same, room_first, room_next}
-use borrow.Author.Rules.{rules}
-use Rattle.picture.proofs.low.put.put_coefficient.Reads as put-coefficient-reads
-use Rattle.picture.proofs.low.put.put_plain_second.Reads as put-plain-second-reads
 use Rattle.picture.proofs.low.put.put_plain_place.Goals as goal
 use Rattle.picture.proofs.low.put.put_plain_place.Goals.{Start}
 

@@ -4,8 +4,6 @@ use Rattle.picture.specs.Code.Strip.{second_number}
 use Rattle.picture.specs.Laws.Strip.{numbered_second, second_none}
 use Rattle.picture.specs.Laws.Tally.{second_plain}
 use Rattle.picture.specs.Laws.Put.{puts_none, puts_same, room_same}
-use borrow.Author.Rules.{rules}
-use Rattle.picture.proofs.low.put.put_coefficient.Reads as put-coefficient-reads
 use Rattle.picture.proofs.low.put.put_plain_second.Goals as goal
 
 pub put_coefficient-requires : goal.put_coefficient-requires

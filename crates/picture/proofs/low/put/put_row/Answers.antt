@@ -1,5 +1,4 @@
 -- `picture::low::put::put_row` meets its contract.
-use borrow.Author.Rules.{rules}
 use Prim.Native.Nat.{◌-◌}
 use Rattle.picture.specs.Code.Strip.{row_numbers}
 use Rattle.picture.specs.Laws.Put.{puts_past}

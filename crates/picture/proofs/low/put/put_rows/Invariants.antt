@@ -1,12 +1,8 @@
 -- `picture::low::put::put_rows` meets its contract. The loop's invariant: the rows above y are written.
-use mathlib.Core.Path.{◌≡◌, sym, ap, ◌∙◌}
-use Prim.Native.Nat.{◌+◌, ◌-◌, ◌≤◌}
+use Prim.Native.Nat.{◌-◌, ◌≤◌}
 use Rattle.laws.specs.Code.Chunks.{chunks}
-use Rattle.picture.specs.Code.Strip.{strip_numbers}
-use Rattle.picture.specs.Laws.Strip.{row_at, rows, rows-chunks}
-use Rattle.picture.specs.Laws.Put.{puts_same, room_same, part_room, part-turn, parts_none}
+use Rattle.picture.specs.Laws.Strip.{rows}
 use Rattle.picture.specs.Code.Put.{Puts}
-use native.Mathlib.Omega.{arith}
 use Rattle.picture.proofs.low.put.put_rows.Given as goal
 
 abbrev pub invariant-loop-y : goal.invariant-loop-y

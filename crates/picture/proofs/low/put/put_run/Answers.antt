@@ -1,8 +1,6 @@
 use mathlib.Core.Path.{◌≡◌, sym, ap}
-use Prim.Native.Nat.{◌-◌, ◌≤◌}
-use Rattle.picture.specs.Code.Put.{Puts}
 use Rattle.picture.specs.Laws.Put.{puts_same}
-use Rattle.picture.specs.Code.Layout.{band_count, start_of, window_of, run_numbers}
+use Rattle.picture.specs.Code.Layout.{band_count, run_numbers}
 use Rattle.picture.specs.Laws.Layout.{start_first, strip_in, strip_from, start-turn, start_small, run-window, window-first, window-turn, put-none, put-turn, put_ready}
 use native.Mathlib.Omega.{arith}
 use Rattle.picture.proofs.low.put.put_run.Goals as goal

@@ -1,12 +1,9 @@
 -- `low::put::put_run` meets its contract. The invariant: the bands before the n-th are written, start is their area,
 -- and v is the window of the band before.
-use mathlib.Core.Path.{◌≡◌, sym, ap}
+use mathlib.Core.Path.{◌≡◌}
 use Prim.Native.Nat.{◌-◌, ◌≤◌}
 use Rattle.picture.specs.Code.Put.{Puts}
-use Rattle.picture.specs.Laws.Put.{puts_same}
 use Rattle.picture.specs.Code.Layout.{band_count, start_of, window_of, run_numbers}
-use Rattle.picture.specs.Laws.Layout.{start_first, strip_in, strip_from, start-turn, start_small, run-window, window-first, window-turn, put-none, put-turn, put_ready}
-use native.Mathlib.Omega.{arith}
 use Rattle.picture.proofs.low.put.put_run.Given as goal
 
 abbrev pub invariant-loop-n : goal.invariant-loop-n

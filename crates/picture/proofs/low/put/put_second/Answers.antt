@@ -3,7 +3,7 @@ use mathlib.Core.Path.{sym, ◌∙◌}
 use mir.Syntax.{w64}
 use mir.Val.{to_z, of_z}
 use mir.Facts.{to_z-of_z}
-use borrow.Author.Rules.{sfits_of, rules}
+use borrow.Author.Rules.{sfits_of}
 use mathlib.Core.List.{[], ◌∷◌}
 use Rattle.picture.specs.Code.Strip.{second_number}
 use Rattle.picture.specs.Laws.Strip.{numbered_second, second_one, second_none}

@@ -1,5 +1,4 @@
 -- `picture::low::put::put_strip` meets its contract.
-use borrow.Author.Rules.{rules}
 use Rattle.picture.specs.Code.Strip.{strip_numbers}
 use Rattle.picture.specs.Laws.Put.{puts_past}
 use Rattle.picture.proofs.low.put.put_strip.Goals as goal

@@ -1,7 +1,6 @@
 -- `low::size::length_bits` meets its contract.
 use native.Mathlib.Omega.{arith}
 use Rattle.picture.specs.Laws.LowIndex.{length_few}
-use borrow.Author.Rules.{rules}
 use Rattle.picture.proofs.low.size.length_bits.Goals as goal
 
 pub returns : goal.returns

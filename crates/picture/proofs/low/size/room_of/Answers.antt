@@ -1,7 +1,6 @@
 -- `low::size::room_of` meets its contract.
 use native.Mathlib.Omega.{arith}
 use Rattle.picture.specs.Laws.LowIndex.{length_most}
-use borrow.Author.Rules.{rules}
 use Rattle.picture.proofs.low.size.room_of.Goals as goal
 
 pub overflow_sub-result-2 : goal.overflow_sub-result-2

@@ -3,7 +3,6 @@ use Prim.Native.Nat.{◌+◌}
 use native.Mathlib.Omega.{arith}
 use Rattle.laws.specs.Laws.Machine.{product-fits}
 use Rattle.picture.specs.Laws.LowIndex.{bytes_rise, bytes_are}
-use borrow.Author.Rules.{rules}
 use Rattle.picture.proofs.low.size.slice_bytes.Goals as goal
 
 pub overflow_mul-result : goal.overflow_mul-result

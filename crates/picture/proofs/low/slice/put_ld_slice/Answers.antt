@@ -1,15 +1,6 @@
 -- `low::slice::put_ld_slice` meets its contract.
 use native.Mathlib.Omega.{arith}
 use Rattle.picture.specs.Laws.LowSlice.{length_room, runs_room, ones_room, flush_room, slice_laid}
-use borrow.Author.Rules.{rules}
-use Rattle.codewords.proofs.bitio.flush.Reads as flush-reads
-use Rattle.codewords.proofs.bitio.put_nbits.Reads as put-nbits-reads
-use Rattle.codewords.proofs.bitio.put_ones.Reads as put-ones-reads
-use Rattle.picture.proofs.low.size.length_bits.Reads as length-bits-reads
-use Rattle.picture.proofs.low.size.room_of.Reads as room-of-reads
-use Rattle.picture.proofs.low.trial.rest_at.Reads as rest-at-reads
-use Rattle.picture.proofs.low.cut.kept_runs.Reads as kept-runs-reads
-use Rattle.picture.proofs.low.slice.put_runs.Reads as put-runs-reads
 use Rattle.picture.proofs.low.slice.put_ld_slice.Goals as goal
 
 pub put_nbits-b-requires : goal.put_nbits-b-requires

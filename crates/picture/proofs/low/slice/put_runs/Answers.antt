@@ -7,8 +7,6 @@ use Rattle.picture.specs.Laws.Head.{room_first, room_rest}
 use Rattle.picture.specs.Code.Low.{luma_in, colour_in}
 use Rattle.picture.specs.Laws.Layout.{run_lies}
 use Rattle.picture.specs.Laws.Picture.{run_y, run_pair}
-use borrow.Author.Rules.{rules}
-use Rattle.picture.proofs.low.put.put_run.Reads as put-run-reads
 use Rattle.picture.proofs.low.slice.put_runs.Goals as goal
 use Rattle.picture.proofs.low.slice.put_runs.Goals.{Start}
 

@@ -4,8 +4,6 @@ use Prim.Native.Nat.{◌+◌}
 use Rattle.picture.specs.declared.slices.tally.Trimmed.{Trimmed}
 use Rattle.picture.specs.Laws.LowRest.{joined_few}
 use native.Mathlib.Omega.{arith}
-use borrow.Author.Rules.{rules}
-use Rattle.picture.proofs.low.trial.joined.Reads as joined-reads
 use Rattle.picture.proofs.low.trial.bits_with.Goals as goal
 
 pub overflow_add-result : goal.overflow_add-result

@@ -3,7 +3,6 @@ use mathlib.Core.Path.{ap}
 use Rattle.picture.specs.declared.low.trial.Windows.{Windows}
 use Rattle.picture.specs.Laws.Layout.{run_lies}
 use Rattle.picture.specs.Laws.Picture.{run_y, run_pair}
-use borrow.Author.Rules.{rules}
 use Rattle.picture.proofs.low.trial.first_tallies.Goals as goal
 
 pub first_tally-requires : goal.first_tally-requires

@@ -3,13 +3,6 @@ use Rattle.picture.specs.Code.Picture.{Arranged}
 use Rattle.picture.specs.Code.LowRest.{Known}
 use Rattle.picture.specs.Laws.LowRest.{known-rebuilt, joins_both, surely_either, never_either, fits_low, fits-high}
 use native.Mathlib.Omega.{arith}
-use borrow.Author.Rules.{rules}
-use Rattle.picture.proofs.low.trial.bits_with.Reads as bits-with-reads
-use Rattle.picture.proofs.low.trial.first_tallies.Reads as first-tallies-reads
-use Rattle.picture.proofs.low.trial.never_fits.Reads as never-fits-reads
-use Rattle.picture.proofs.low.trial.rebuild_planes.Reads as rebuild-planes-reads
-use Rattle.picture.proofs.low.trial.rest_of.Reads as rest-of-reads
-use Rattle.picture.proofs.low.trial.surely_fits.Reads as surely-fits-reads
 use Rattle.picture.proofs.low.trial.fits.Goals as goal
 use Rattle.picture.proofs.low.trial.fits.Goals.{After-first_tallies-f}
 

@@ -1,8 +1,6 @@
 -- `low::trial::joined` meets its contract.
 use mathlib.Core.Path.{◌∙◌}
 use Rattle.picture.specs.Laws.LowRest.{joined-none, joined-some}
-use borrow.Author.Rules.{rules}
-use Rattle.picture.proofs.slices.tally.trimmed_of.Reads as trimmed-of-reads
 use Rattle.picture.proofs.low.trial.joined.Goals as goal
 
 pub returns-then-r-eq0 : goal.returns-then-r-eq0

@@ -4,8 +4,6 @@ use Prim.Native.Nat.{ℕ}
 use lib.Dec.{ltb}
 use Rattle.picture.specs.Code.LowRest.{bits_with}
 use Rattle.picture.specs.Laws.LowRest.{over_no, within_is}
-use borrow.Author.Rules.{rules}
-use Rattle.picture.proofs.low.trial.bits_with.Reads as bits-with-reads
 use Rattle.picture.proofs.low.trial.never_fits.Goals as goal
 
 pub returns-then-q-r : goal.returns-then-q-r

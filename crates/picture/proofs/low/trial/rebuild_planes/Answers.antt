@@ -6,7 +6,6 @@ use Rattle.picture.specs.Laws.Layout.{run_lies}
 use Rattle.picture.specs.Laws.Picture.{run_y, run_c1, run_c2}
 use Rattle.picture.specs.Laws.LowIndex.{planes-rebuilt, slice_rebuilt}
 use Rattle.picture.specs.Laws.LowRest.{window_c2}
-use borrow.Author.Rules.{rules}
 use Rattle.picture.proofs.low.trial.rebuild_planes.Lts as lts
 use Rattle.picture.proofs.low.trial.rebuild_planes.Tie as tie
 use Rattle.picture.proofs.low.trial.rebuild_planes.Reads as reads

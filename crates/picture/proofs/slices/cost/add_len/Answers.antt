@@ -1,7 +1,6 @@
 -- `picture::slices::cost::add_len` meets its contract.
 use mathlib.Core.Path.{ap, ◌∙◌}
 use Rattle.picture.specs.Code.Cost.{fitted}
-use borrow.Author.Rules.{rules}
 use Rattle.picture.proofs.slices.cost.add_len.Goals as goal
 
 pub returns : goal.returns

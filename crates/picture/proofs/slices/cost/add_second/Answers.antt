@@ -1,6 +1,5 @@
 -- `picture::slices::cost::add_second` meets its contract.
 use mathlib.Core.Path.{refl}
-use borrow.Author.Rules.{rules}
 use Rattle.picture.specs.Code.Strip.{number_in}
 use Rattle.picture.specs.Laws.Strip.{numbered_second}
 use Rattle.picture.specs.Laws.Added.{second_yes, second_no}

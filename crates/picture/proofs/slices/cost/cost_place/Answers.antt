@@ -1,7 +1,6 @@
 -- `picture::slices::cost::cost_place` meets its contract.
 use mathlib.Core.Path.{◌≡◌, refl}
 use lib.IntN.{ℤ}
-use borrow.Author.Rules.{rules}
 use Rattle.picture.specs.Code.Strip.{number_in}
 use Rattle.picture.specs.Laws.Strip.{numbered, number_size}
 use Rattle.picture.specs.Code.Cost.{add1}

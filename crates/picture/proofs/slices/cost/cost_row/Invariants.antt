@@ -1,13 +1,9 @@
 -- `picture::slices::cost::cost_row` meets its contract. The loop's invariant: the places left of x are added.
 use mathlib.Core.Path.{◌≡◌}
-use Prim.Native.Nat.{ℕ, ◌+◌, ◌-◌, ◌≤◌}
+use Prim.Native.Nat.{◌-◌, ◌≤◌}
 use Rattle.laws.specs.Code.Chunks.{chunks}
-use Rattle.picture.specs.Code.Strip.{Inside}
-use Rattle.picture.specs.Code.Cost.{add1, add_all}
-use Rattle.picture.specs.Laws.Strip.{places, place_small, place-length, row-chunks, chunks_small, chunks-length}
-use Rattle.picture.specs.Laws.Added.{added-chunks-none, added-turn, added_all}
-use Rattle.picture.specs.Laws.Cost.{countable_after}
-use native.Mathlib.Omega.{arith}
+use Rattle.picture.specs.Code.Cost.{add_all}
+use Rattle.picture.specs.Laws.Strip.{places}
 use Rattle.picture.proofs.slices.cost.cost_row.Given as goal
 
 abbrev pub invariant-loop-x : goal.invariant-loop-x

@@ -1,7 +1,7 @@
 use mathlib.Core.Path.{◌≡◌}
-use Prim.Native.Nat.{ℕ, ◌+◌, ◌*◌, ◌-◌, ◌≤◌}
+use Prim.Native.Nat.{ℕ, ◌+◌, ◌*◌, ◌-◌}
 use Rattle.laws.specs.Code.Chunks.{chunks}
-use Rattle.picture.specs.Code.Cost.{add1, add_all}
+use Rattle.picture.specs.Code.Cost.{add1}
 use Rattle.picture.specs.Laws.Strip.{rows, row_small, row-length, rows-chunks, chunks_small, chunks-length}
 use Rattle.picture.specs.Laws.Added.{added-chunks-none, added-turn, added_all}
 use Rattle.picture.specs.Laws.Cost.{countable_after, strip_room}

@@ -1,12 +1,9 @@
 -- `picture::slices::cost::cost_strip` meets its contract. The loop's invariant: the rows above y are added.
 use mathlib.Core.Path.{◌≡◌}
-use Prim.Native.Nat.{ℕ, ◌+◌, ◌*◌, ◌-◌, ◌≤◌}
+use Prim.Native.Nat.{◌-◌, ◌≤◌}
 use Rattle.laws.specs.Code.Chunks.{chunks}
-use Rattle.picture.specs.Code.Cost.{add1, add_all}
-use Rattle.picture.specs.Laws.Strip.{rows, row_small, row-length, rows-chunks, chunks_small, chunks-length}
-use Rattle.picture.specs.Laws.Added.{added-chunks-none, added-turn, added_all}
-use Rattle.picture.specs.Laws.Cost.{countable_after, strip_room}
-use native.Mathlib.Omega.{arith}
+use Rattle.picture.specs.Code.Cost.{add_all}
+use Rattle.picture.specs.Laws.Strip.{rows}
 use Rattle.picture.proofs.slices.cost.cost_strip.Given as goal
 
 abbrev pub invariant-loop-y : goal.invariant-loop-y

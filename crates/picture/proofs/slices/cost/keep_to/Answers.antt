@@ -1,6 +1,5 @@
 -- `picture::slices::cost::keep_to` meets its contract.
 use Rattle.picture.specs.Laws.Cost.{kept_yes, kept_no}
-use borrow.Author.Rules.{rules}
 use Rattle.picture.proofs.slices.cost.keep_to.Goals as goal
 
 pub returns-then-none : goal.returns-then-none

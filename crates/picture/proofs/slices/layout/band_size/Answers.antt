@@ -3,7 +3,6 @@ use native.Mathlib.Omega.{arith}
 use mathlib.Core.Path.{refl}
 use Rattle.picture.specs.Laws.Layout.{level_most_lem}
 use Rattle.picture.specs.Code.Layout.{band_size}
-use borrow.Author.Rules.{rules}
 use Rattle.picture.proofs.slices.layout.band_size.Goals as goal
 
 pub subband_width-requires : goal.subband_width-requires

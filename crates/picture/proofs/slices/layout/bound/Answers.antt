@@ -1,7 +1,6 @@
 -- `slices::layout::bound` meets its contract.
 use native.Mathlib.Nat.{mul-le-mul}
 use native.Mathlib.Omega.{arith}
-use borrow.Author.Rules.{rules}
 use Rattle.picture.proofs.slices.layout.bound.Goals as goal
 
 pub overflow_mul-result : goal.overflow_mul-result

@@ -1,6 +1,5 @@
 -- `slices::layout::first_of` meets its contract.
 use mathlib.Core.Path.{refl}
-use borrow.Author.Rules.{rules}
 use Rattle.picture.proofs.slices.layout.first_of.Goals as goal
 
 pub returns-then-asked : goal.returns-then-asked

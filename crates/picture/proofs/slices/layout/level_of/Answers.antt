@@ -1,7 +1,6 @@
 -- `slices::layout::level_of` meets its contract.
 use mathlib.Core.Path.{sym}
 use Rattle.picture.specs.Laws.Layout.{level_low, level_high}
-use borrow.Author.Rules.{rules}
 use Rattle.picture.proofs.slices.layout.level_of.Goals as goal
 
 pub returns-then-n-depth_ho : goal.returns-then-n-depth_ho

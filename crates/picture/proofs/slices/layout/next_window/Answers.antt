@@ -1,8 +1,6 @@
 -- `slices::layout::next_window` meets its contract.
 use mathlib.Core.Path.{◌∙◌}
 use Rattle.picture.specs.Laws.Layout.{window_same}
-use borrow.Author.Rules.{rules}
-use Rattle.picture.proofs.slices.layout.window_at.Reads as window-at-reads
 use Rattle.picture.proofs.slices.layout.next_window.Goals as goal
 
 pub returns-then-n-first-ne1 : goal.returns-then-n-first-ne1

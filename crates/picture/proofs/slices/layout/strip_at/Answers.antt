@@ -4,13 +4,6 @@ use native.Mathlib.Omega.{arith}
 use Rattle.unit.specs.Sizes.{Size}
 use Rattle.picture.specs.Code.Sides.{size_in}
 use Rattle.picture.specs.Laws.Layout.{band_narrow, band-low, row_of, column-of, window_is, strip_by}
-use borrow.Author.Rules.{rules}
-use Rattle.picture.proofs.slices.layout.band_index.Reads as band-index-reads
-use Rattle.picture.proofs.slices.layout.band_size.Reads as band-size-reads
-use Rattle.picture.proofs.slices.layout.bound.Reads as bound-reads
-use Rattle.picture.proofs.slices.layout.first_of.Reads as first-of-reads
-use Rattle.quantiser.proofs.factors.factor_at.Reads as factor-at-reads
-use Rattle.quantiser.proofs.factors.offset_by.Reads as offset-by-reads
 use Rattle.picture.proofs.slices.layout.strip_at.Goals as goal
 
 pub bound-requires : goal.bound-requires

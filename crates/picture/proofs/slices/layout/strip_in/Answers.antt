@@ -1,10 +1,5 @@
 -- `slices::layout::strip_in` meets its contract.
 use Rattle.picture.specs.Laws.Layout.{strip_by}
-use borrow.Author.Rules.{rules}
-use Rattle.picture.proofs.slices.layout.band_index.Reads as band-index-reads
-use Rattle.picture.proofs.slices.layout.first_of.Reads as first-of-reads
-use Rattle.quantiser.proofs.factors.factor_at.Reads as factor-at-reads
-use Rattle.quantiser.proofs.factors.offset_by.Reads as offset-by-reads
 use Rattle.picture.proofs.slices.layout.strip_in.Goals as goal
 
 pub returns : goal.returns

@@ -1,7 +1,6 @@
 -- `slices::layout::subband_height` meets its contract.
 use mathlib.Core.Path.{refl}
 use borrow.Author.Tests.{le-leb, lt-leb}
-use borrow.Author.Rules.{rules}
 use Rattle.picture.proofs.slices.layout.subband_height.Goals as goal
 
 pub returns-then-level-depth_ho : goal.returns-then-level-depth_ho

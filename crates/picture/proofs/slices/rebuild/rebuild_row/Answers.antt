@@ -1,8 +1,7 @@
 use mathlib.Core.Path.{◌≡◌, ap, ◌∙◌}
-use Prim.Native.Nat.{◌-◌, ◌≤◌}
-use lib.ListN.{length}
+use Prim.Native.Nat.{◌-◌}
 use Rattle.picture.specs.Code.Strip.{rebuilt_row, Inside}
-use Rattle.picture.specs.Laws.Strip.{rebuilt-none, rebuilt-length, rebuilt-turn, row_keeps}
+use Rattle.picture.specs.Laws.Strip.{rebuilt-none, rebuilt-turn, row_keeps}
 use native.Mathlib.Omega.{arith}
 use Rattle.picture.proofs.slices.rebuild.rebuild_row.Goals as goal
 use Rattle.picture.proofs.slices.rebuild.rebuild_row.Goals.{In-loop-x}

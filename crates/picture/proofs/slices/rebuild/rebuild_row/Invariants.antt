@@ -1,10 +1,7 @@
 -- `picture::slices::rebuild::rebuild_row` meets its contract. The loop's invariant: the places left of x are rebuilt.
-use mathlib.Core.Path.{◌≡◌, ap, ◌∙◌}
+use mathlib.Core.Path.{◌≡◌}
 use Prim.Native.Nat.{◌-◌, ◌≤◌}
-use lib.ListN.{length}
-use Rattle.picture.specs.Code.Strip.{rebuilt_row, Inside}
-use Rattle.picture.specs.Laws.Strip.{rebuilt-none, rebuilt-length, rebuilt-turn, row_keeps}
-use native.Mathlib.Omega.{arith}
+use Rattle.picture.specs.Code.Strip.{rebuilt_row}
 use Rattle.picture.proofs.slices.rebuild.rebuild_row.Given as goal
 
 abbrev pub invariant-loop-x : goal.invariant-loop-x

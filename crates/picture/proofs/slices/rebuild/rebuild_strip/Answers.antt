@@ -1,8 +1,7 @@
 use mathlib.Core.Path.{◌≡◌, ap, ◌∙◌}
-use Prim.Native.Nat.{◌-◌, ◌≤◌}
-use lib.ListN.{length}
+use Prim.Native.Nat.{◌-◌}
 use Rattle.picture.specs.Code.Strip.{rebuilt_rows}
-use Rattle.picture.specs.Laws.Strip.{rebuilt-rows-none, rebuilt-rows-turn, rebuilt-rows-length, rows_keep}
+use Rattle.picture.specs.Laws.Strip.{rebuilt-rows-none, rebuilt-rows-turn, rows_keep}
 use native.Mathlib.Omega.{arith}
 use Rattle.picture.proofs.slices.rebuild.rebuild_strip.Goals as goal
 

@@ -1,10 +1,7 @@
 -- `picture::slices::rebuild::rebuild_strip` meets its contract. The loop's invariant: the rows above y are rebuilt.
-use mathlib.Core.Path.{◌≡◌, ap, ◌∙◌}
+use mathlib.Core.Path.{◌≡◌}
 use Prim.Native.Nat.{◌-◌, ◌≤◌}
-use lib.ListN.{length}
 use Rattle.picture.specs.Code.Strip.{rebuilt_rows}
-use Rattle.picture.specs.Laws.Strip.{rebuilt-rows-none, rebuilt-rows-turn, rebuilt-rows-length, rows_keep}
-use native.Mathlib.Omega.{arith}
 use Rattle.picture.proofs.slices.rebuild.rebuild_strip.Given as goal
 
 abbrev pub invariant-loop-y : goal.invariant-loop-y

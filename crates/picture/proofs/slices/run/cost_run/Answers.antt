@@ -1,7 +1,6 @@
 use mathlib.Core.Path.{◌≡◌, sym, ap, ◌∙◌}
-use Prim.Native.Nat.{◌-◌, ◌≤◌}
 use Rattle.picture.specs.Code.Cost.{add_all}
-use Rattle.picture.specs.Code.Layout.{band_count, start_of, run_numbers}
+use Rattle.picture.specs.Code.Layout.{band_count, run_numbers}
 use Rattle.picture.specs.Laws.Layout.{start_first, strip_in, strip_from, start-turn, start_small, cost-none, cost-turn, cost_ready}
 use native.Mathlib.Omega.{arith}
 use Rattle.picture.proofs.slices.run.cost_run.Goals as goal

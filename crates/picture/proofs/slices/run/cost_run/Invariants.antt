@@ -1,11 +1,9 @@
 -- `slices::run::cost_run` meets its contract. The invariant: the bands before the n-th are added, and start is their
 -- area.
-use mathlib.Core.Path.{◌≡◌, sym, ap, ◌∙◌}
+use mathlib.Core.Path.{◌≡◌}
 use Prim.Native.Nat.{◌-◌, ◌≤◌}
 use Rattle.picture.specs.Code.Cost.{add_all}
 use Rattle.picture.specs.Code.Layout.{band_count, start_of, run_numbers}
-use Rattle.picture.specs.Laws.Layout.{start_first, strip_in, strip_from, start-turn, start_small, cost-none, cost-turn, cost_ready}
-use native.Mathlib.Omega.{arith}
 use Rattle.picture.proofs.slices.run.cost_run.Given as goal
 
 abbrev pub invariant-loop-n : goal.invariant-loop-n

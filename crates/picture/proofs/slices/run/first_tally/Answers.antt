@@ -7,10 +7,6 @@ use Rattle.picture.specs.Code.Cost.{add_all, no_cost}
 use Rattle.picture.specs.Code.Tally.{tally_of, tally_all, no_tally}
 use Rattle.picture.specs.Laws.Tally.{tally_cost}
 use Rattle.picture.specs.Laws.Layout.{first_ready}
-use borrow.Author.Rules.{rules}
-use Rattle.picture.proofs.slices.cost.cost_strip.Reads as cost-strip-reads
-use Rattle.picture.proofs.slices.layout.strip_in.Reads as strip-in-reads
-use Rattle.picture.proofs.slices.tally.tally_of.Reads as tally-of-reads
 use Rattle.picture.proofs.slices.run.first_tally.Goals as goal
 
 pub cost_strip-requires : goal.cost_strip-requires

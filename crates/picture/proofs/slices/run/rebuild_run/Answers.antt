@@ -3,7 +3,6 @@ use Rattle.picture.specs.Laws.Layout.{first_lies}
 use mathlib.Core.Bool.{false}
 use mathlib.Core.Path.{◌∙◌, ap}
 use Rattle.picture.specs.Code.Strip.{rebuilt_strip}
-use borrow.Author.Rules.{rules}
 use Rattle.picture.proofs.slices.run.rebuild_run.Goals as goal
 
 pub rebuild_strip-requires : goal.rebuild_strip-requires

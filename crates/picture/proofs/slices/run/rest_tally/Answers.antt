@@ -1,7 +1,7 @@
 use mathlib.Core.Path.{◌≡◌, ap, ◌∙◌}
-use Prim.Native.Nat.{◌-◌, ◌≤◌}
+use Prim.Native.Nat.{◌-◌}
 use Rattle.picture.specs.Code.Tally.{tally_all}
-use Rattle.picture.specs.Code.Layout.{band_count, start_of, window_of, rest_numbers}
+use Rattle.picture.specs.Code.Layout.{band_count, rest_numbers}
 use Rattle.picture.specs.Laws.Layout.{strip_in, strip_from, start-turn, start_small, run-window, window-turn, window-area, window_few, tally_none, tally_turn, tally_ready}
 use native.Mathlib.Omega.{arith}
 use Rattle.picture.proofs.slices.run.rest_tally.Goals as goal

@@ -1,11 +1,9 @@
 -- `slices::run::rest_tally` meets its contract. The invariant: the bands before the n-th but the first are added, start
 -- is the area of all before it, and v is the window of the band before.
-use mathlib.Core.Path.{◌≡◌, ap, ◌∙◌}
+use mathlib.Core.Path.{◌≡◌}
 use Prim.Native.Nat.{◌-◌, ◌≤◌}
 use Rattle.picture.specs.Code.Tally.{tally_all}
 use Rattle.picture.specs.Code.Layout.{band_count, start_of, window_of, rest_numbers}
-use Rattle.picture.specs.Laws.Layout.{strip_in, strip_from, start-turn, start_small, run-window, window-turn, window-area, window_few, tally_none, tally_turn, tally_ready}
-use native.Mathlib.Omega.{arith}
 use Rattle.picture.proofs.slices.run.rest_tally.Given as goal
 
 abbrev pub invariant-loop-n : goal.invariant-loop-n

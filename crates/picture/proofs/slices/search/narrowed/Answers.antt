@@ -1,7 +1,6 @@
 -- `slices::search::narrowed` meets its contract.
 use mathlib.Core.Path.{sym, ap}
 use Rattle.picture.specs.Code.Search.{half_of}
-use borrow.Author.Rules.{rules}
 use Rattle.picture.proofs.slices.search.narrowed.Goals as goal
 
 pub returns-then-fits : goal.returns-then-fits

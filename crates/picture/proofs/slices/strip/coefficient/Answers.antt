@@ -2,7 +2,6 @@
 use Prim.Native.Nat.{ℕ, ◌+◌, ◌*◌}
 use native.Mathlib.Omega.{arith}
 use Rattle.picture.specs.Laws.Strip.{read}
-use borrow.Author.Rules.{rules}
 use Rattle.picture.proofs.slices.strip.coefficient.Goals as goal
 
 pub returns : goal.returns

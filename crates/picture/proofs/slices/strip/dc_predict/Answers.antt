@@ -6,7 +6,7 @@ use lib.IntN.{ℤ, pos}
 use mir.Syntax.{w64}
 use mir.Val.{to_z, of_z}
 use mir.Facts.{to_z-of_z}
-use borrow.Author.Rules.{rules, sfits_of}
+use borrow.Author.Rules.{sfits_of}
 use lib.ListN.{length}
 use Rattle.laws.specs.Rows.{at}
 use Rattle.picture.specs.Laws.Strip.{row_up, read, predict_corner, predict-top, predict_side, predict-mean, is_predict}

@@ -4,7 +4,7 @@ use lib.IntN.{ℤ}
 use lib.ListN.{length}
 use mir.Syntax.{w64}
 use mir.Facts.{to_z-of_z}
-use borrow.Author.Rules.{rules, sfits_of}
+use borrow.Author.Rules.{sfits_of}
 use Rattle.codewords.specs.CodeWord.{code_s}
 use Rattle.quantiser.specs.Quant.{forward_by}
 use Rattle.picture.proofs.slices.strip.number_len.Goals as goal

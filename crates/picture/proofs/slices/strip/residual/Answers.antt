@@ -5,7 +5,7 @@ use lib.IntN.{ℤ, ◌-ℤ◌}
 use mir.Syntax.{w64}
 use mir.Val.{SFits, to_z, of_z}
 use mir.Facts.{to_z-of_z}
-use borrow.Author.Rules.{rules, sfits_of}
+use borrow.Author.Rules.{sfits_of}
 use Rattle.laws.specs.Rows.{at}
 use Rattle.laws.specs.Laws.Integer.{abs_sub}
 use Rattle.laws.specs.Laws.Machine.{fit}

@@ -5,15 +5,11 @@ use lib.IntN.{ℤ}
 use lib.ListN.{length}
 use mir.Syntax.{w64}
 use mir.Facts.{to_z-of_z}
-use borrow.Author.Rules.{rules, sfits_of}
+use borrow.Author.Rules.{sfits_of}
 use Rattle.codewords.specs.CodeWord.{code_s}
 use Rattle.quantiser.specs.Quant.{forward_by}
 use Rattle.picture.specs.Code.Strip.{plane_from}
 use Rattle.picture.specs.Laws.Tally.{tallied_len}
-use borrow.Author.Rules.{rules}
-use Rattle.picture.proofs.slices.strip.coefficient.Reads as coefficient-reads
-use Rattle.picture.proofs.slices.tally.add_len.Reads as add-len-reads
-use Rattle.quantiser.proofs.forward_len_by.Reads as forward-len-by-reads
 use Rattle.picture.proofs.slices.tally.add_coefficient.Goals as goal
 
 pub forward_len_by-requires : goal.forward_len_by-requires

@@ -1,7 +1,6 @@
 -- `slices::tally::add_len` meets its contract.
 use borrow.Author.Tests.{ne_eqb}
 use Rattle.picture.specs.Laws.Tally.{tallied_yes, tallied_no}
-use borrow.Author.Rules.{rules}
 use Rattle.picture.proofs.slices.tally.add_len.Goals as goal
 
 pub returns-then-n-eq1 : goal.returns-then-n-eq1

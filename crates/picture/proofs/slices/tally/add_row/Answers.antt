@@ -1,8 +1,8 @@
 use mathlib.Core.Path.{◌≡◌}
-use Prim.Native.Nat.{ℕ, ◌+◌, ◌-◌, ◌≤◌}
+use Prim.Native.Nat.{ℕ, ◌+◌, ◌-◌}
 use Rattle.laws.specs.Code.Chunks.{chunks}
 use Rattle.picture.specs.Code.Strip.{Inside}
-use Rattle.picture.specs.Code.Tally.{tally1, tally_all}
+use Rattle.picture.specs.Code.Tally.{tally1}
 use Rattle.picture.specs.Laws.Strip.{places, place_small, place-length, row-chunks, chunks_small, chunks-length}
 use Rattle.picture.specs.Laws.Added.{added-chunks-none, added-turn, added_all}
 use Rattle.picture.specs.Laws.Tally.{addable_after}

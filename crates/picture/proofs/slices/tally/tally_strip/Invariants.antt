@@ -1,13 +1,9 @@
 -- `slices::tally::tally_strip` meets its contract. The loop's invariant: the rows above y are added.
 use mathlib.Core.Path.{◌≡◌}
-use Prim.Native.Nat.{ℕ, ◌+◌, ◌*◌, ◌-◌, ◌≤◌}
+use Prim.Native.Nat.{◌-◌, ◌≤◌}
 use Rattle.laws.specs.Code.Chunks.{chunks}
-use Rattle.picture.specs.Code.Tally.{tally1, tally_all}
-use Rattle.picture.specs.Laws.Strip.{rows, row_small, row-length, rows-chunks, chunks_small, chunks-length}
-use Rattle.picture.specs.Laws.Added.{added-chunks-none, added-turn, added_all}
-use Rattle.picture.specs.Laws.Cost.{strip_room}
-use Rattle.picture.specs.Laws.Tally.{addable_after}
-use native.Mathlib.Omega.{arith}
+use Rattle.picture.specs.Code.Tally.{tally_all}
+use Rattle.picture.specs.Laws.Strip.{rows}
 use Rattle.picture.proofs.slices.tally.tally_strip.Given as goal
 
 abbrev pub invariant-loop-y : goal.invariant-loop-y

@@ -13,10 +13,6 @@ use Rattle.picture.specs.Code.Choice.{FewBits, TermsIn}
 use Rattle.picture.specs.Laws.HighIndex.{index-most, own_few}
 use Rattle.picture.specs.Laws.HighSlice.{choice_held, plan_room, plan-laid, plan_words}
 use Rattle.picture.specs.Laws.Noted.{words_room}
-use borrow.Author.Rules.{rules}
-use Rattle.picture.proofs.high.notes.noted_choice.Reads as noted-choice-reads
-use Rattle.picture.proofs.high.choice.words_of.Reads as words-of-reads
-use Rattle.picture.proofs.high.slice.put_hq_slice.Reads as put-hq-slice-reads
 use Rattle.picture.proofs.coder.slice_coder.SliceCoder.code_hq_slice.Goals as goal
 use Rattle.picture.proofs.coder.slice_coder.SliceCoder.code_hq_slice.Goals.{After-noted_choice-c}
 

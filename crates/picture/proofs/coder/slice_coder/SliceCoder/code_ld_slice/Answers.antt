@@ -6,15 +6,6 @@ use Rattle.picture.specs.Code.Picture.{SliceIn}
 use Rattle.picture.specs.Laws.LowRest.{slice_at, known-rebuilt}
 use Rattle.picture.specs.Laws.LowSlice.{slice_fits, elects}
 use native.Mathlib.Omega.{arith}
-use borrow.Author.Rules.{rules}
-use Rattle.picture.proofs.low.election.elect_qindex.Reads as elect-qindex-reads
-use Rattle.picture.proofs.low.bracket.guess.Reads as guess-reads
-use Rattle.picture.proofs.low.trial.rebuild_planes.Reads as rebuild-planes-reads
-use Rattle.picture.proofs.low.size.room_of.Reads as room-of-reads
-use Rattle.picture.proofs.low.size.slice_bytes.Reads as slice-bytes-reads
-use Rattle.picture.proofs.slices.layout.slice_count.Reads as slice-count-reads
-use Rattle.picture.proofs.low.trial.windows_of.Reads as windows-of-reads
-use Rattle.picture.proofs.low.slice.put_ld_slice.Reads as put-ld-slice-reads
 use Rattle.picture.proofs.coder.slice_coder.SliceCoder.code_ld_slice.Goals as goal
 
 pub rebuild_planes-requires : goal.rebuild_planes-requires

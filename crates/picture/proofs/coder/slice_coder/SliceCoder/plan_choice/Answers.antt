@@ -1,10 +1,5 @@
 -- `SliceCoder::plan_choice` meets its contract.
 use Rattle.picture.specs.Laws.HighPlan.{planned_is}
-use borrow.Author.Rules.{rules}
-use Rattle.picture.proofs.high.size.largest.Reads as largest-reads
-use Rattle.picture.proofs.high.size.needs_of.Reads as needs-of-reads
-use Rattle.picture.proofs.high.size.slice_size.Reads as slice-size-reads
-use Rattle.picture.proofs.high.choice.words_of.Reads as words-of-reads
 use Rattle.picture.proofs.coder.slice_coder.SliceCoder.plan_choice.Goals as goal
 
 pub returns : goal.returns

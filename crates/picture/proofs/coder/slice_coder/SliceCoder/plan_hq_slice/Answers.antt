@@ -11,10 +11,6 @@ use Rattle.picture.specs.Code.Choice.{FewBits}
 use Rattle.picture.specs.Laws.HighIndex.{index-most, own_few}
 use Rattle.picture.specs.Laws.HighPlan.{slice_planned}
 use Rattle.picture.specs.Laws.Noted.{note_small}
-use borrow.Author.Rules.{rules}
-use Rattle.picture.proofs.high.choice.choice_of.Reads as choice-of-reads
-use Rattle.picture.proofs.high.notes.note_choice.Reads as note-choice-reads
-use Rattle.picture.proofs.coder.slice_coder.SliceCoder.plan_choice.Reads as plan-choice-reads
 use Rattle.picture.proofs.coder.slice_coder.SliceCoder.plan_hq_slice.Goals as goal
 use Rattle.picture.proofs.coder.slice_coder.SliceCoder.plan_hq_slice.Goals.{After-choice_of-c}
 

@@ -4,9 +4,6 @@ use Rattle.picture.specs.Code.Choice.{FewBits}
 use Rattle.picture.specs.Laws.HighIndex.{index-most, own_few}
 use Rattle.picture.specs.Laws.HighPlan.{slice_planned}
 use Rattle.picture.specs.Laws.Noted.{words_room}
-use borrow.Author.Rules.{rules}
-use Rattle.picture.proofs.high.notes.noted_choice.Reads as noted-choice-reads
-use Rattle.picture.proofs.coder.slice_coder.SliceCoder.plan_choice.Reads as plan-choice-reads
 use Rattle.picture.proofs.coder.slice_coder.SliceCoder.plan_noted_slice.Goals as goal
 use Rattle.picture.proofs.coder.slice_coder.SliceCoder.plan_noted_slice.Goals.{After-noted_choice-c}
 
