@@ -40,8 +40,8 @@ def is_shared(path):
 
 def snake(word):
     """camelCase in snake case: lowDelay, numbersHQ, atLD0."""
-    if not re.match(r"[a-zà-ÿ]", word):
-        return word
+    if not re.match(r"[a-zà-ÿ]", word) or word == "getD":
+        return "get_or" if word == "getD" else word
     word = re.sub(r"([A-Z]+)([A-Z][a-z])", r"\1_\2", word)
     return re.sub(r"(?<=[a-z0-9])([A-Z]+)", r"_\1", word).lower()
 

@@ -33,10 +33,10 @@ module _ {A : Type 0} where
     length-chunks zero = sym (zero-mul w)
     length-chunks (suc n) = length-append (chunks F n) (F n) ∙ rw (length-chunks n, long n) (sym (suc-mul n w))
 
-    pub get_d_chunks : (d : A) (n y x : ℕ) → y < n → x < w → slice_index_or (chunks F n) (y * w + x) d ≡ slice_index_or (F y) x d
+    pub get_or-chunks : (d : A) (n y x : ℕ) → y < n → x < w → slice_index_or (chunks F n) (y * w + x) d ≡ slice_index_or (F y) x d
     unfolding chunks
-    get_d_chunks d zero y x hy hx = absurd (omega arith)
-    get_d_chunks d (suc n) y x hy hx = by (ℕ_discrete y n) (λ l. get_d_chunks d n y x l hx)
+    get_or-chunks d zero y x hy hx = absurd (omega arith)
+    get_or-chunks d (suc n) y x hy hx = by (ℕ_discrete y n) (λ l. get_or-chunks d n y x l hx)
       where
         by : Dec (y ≡ n) → (y < n → slice_index_or (chunks F n) (y * w + x) d ≡ slice_index_or (F y) x d) → slice_index_or (chunks F n ++ F n) (y * w + x) d ≡ slice_index_or (F y) x d
         by (yes e) ih = rw (e, ← length-chunks n) (get_or-append-add (chunks F n) (F n) x d)
@@ -47,7 +47,7 @@ module _ {A : Type 0} where
             get_or-append (chunks F n) (F n) d (y * w + x) b ∙ ih l
 
 pub at-chunks : (F : ℕ → List ℤ) (w : ℕ) → ((k : ℕ) → length (F k) ≡ w) → (n y x : ℕ) → y < n → x < w → at (chunks F n) (y * w + x) ≡ at (F y) x
-at-chunks F w long n y x hy hx = get_d_chunks F w long (pos 0) n y x hy hx
+at-chunks F w long n y x hy hx = get_or-chunks F w long (pos 0) n y x hy hx
 
 pub chunk_room : (n count w len : ℕ) → n < count → count * w ≤ len → n * w + w ≤ len
 chunk_room n count w len h room = le_trans (rw (← suc-mul) (mul-le-mul_right w h)) room

@@ -3,7 +3,7 @@ use Rattle.std.specs.Prelude.{◌≡◌, ℕ, zero, suc, ◌+◌, ◌*◌, ◌/�
 use Rattle.std.proofs.Common.{sym, ap, ap₂, ◌∙◌, zero-add, div-add-mod', div-lt_iff_lt-mul, mod-lt, mul_comm, arith, ext_get_or}
 use Rattle.std.proofs.Math.Arith.{digits_div, digits_mod, digits_lt}
 use Rattle.laws.specs.Rows.{at}
-use Rattle.laws.specs.Laws.Rows.{length-span, get_d_span, span_ext}
+use Rattle.laws.specs.Laws.Rows.{length-span, get_or-span, span_ext}
 use Rattle.laws.specs.Plane.{Plane, as_plane, as_list}
 
 pub length-as_list : (h w : ℕ) (f : Plane) → length (as_list h w f) ≡ h * w
@@ -11,7 +11,7 @@ length-as_list h w f = length-span (λ k. f (k / w) (k % w)) 0 (h * w)
 
 pub at-as_list : (h w : ℕ) (f : Plane) (y x : ℕ) → y < h → x < w → at (as_list h w f) (y * w + x) ≡ f y x
 at-as_list h w f y x hy hx =
-    get_d_span (λ k. f (k / w) (k % w)) 0 (h * w) (y * w + x) (pos 0) (digits_lt hy hx)
+    get_or-span (λ k. f (k / w) (k % w)) 0 (h * w) (y * w + x) (pos 0) (digits_lt hy hx)
     ∙ rw (zero-add (y * w + x)) (ap₂ f (digits_div y hx) (digits_mod y hx))
 
 wide : (h w k : ℕ) → k < h * w → 0 < w
@@ -40,5 +40,5 @@ pub as_list_back : (h w : ℕ) (l : List ℤ) → length l ≡ h * w → as_list
 as_list_back h w l e =
     ext_get_or (pos 0) (as_list h w (as_plane w l)) l (length-as_list h w (as_plane w l) ∙ sym e)
     (λ k b.
-    get_d_span (λ k. as_plane w l (k / w) (k % w)) 0 (h * w) k (pos 0) (rw (length-as_list h w (as_plane w l)) at b)
+    get_or-span (λ k. as_plane w l (k / w) (k % w)) 0 (h * w) k (pos 0) (rw (length-as_list h w (as_plane w l)) at b)
     ∙ rw (zero-add k) (ap (at l) (div-add-mod' k w)))

@@ -9,14 +9,14 @@ module _ {A : Type 0} where
   length-span f i zero = refl
   length-span f i (suc n) = ap suc (length-span f (suc i) n)
 
-  pub get_d_span : (f : ℕ → A) (i n k : ℕ) (d : A) → k < n → slice_index_or (span f i n) k d ≡ f (i + k)
-  get_d_span f i zero k d h = absurd (not-suc-le-zero h)
-  get_d_span f i (suc n) zero d h = ap f (omega arith)
-  get_d_span f i (suc n) (suc k) d h = get_d_span f (suc i) n k d (le_of_suc-le-suc h) ∙ ap f (omega arith)
+  pub get_or-span : (f : ℕ → A) (i n k : ℕ) (d : A) → k < n → slice_index_or (span f i n) k d ≡ f (i + k)
+  get_or-span f i zero k d h = absurd (not-suc-le-zero h)
+  get_or-span f i (suc n) zero d h = ap f (omega arith)
+  get_or-span f i (suc n) (suc k) d h = get_or-span f (suc i) n k d (le_of_suc-le-suc h) ∙ ap f (omega arith)
 
   -- a table's rule: a list that the checker computes to a function's first values has its value at each place
   pub table : (f : ℕ → A) (n i : ℕ) (d : A) → i < n → slice_index_or (span f 0 n) i d ≡ f i
-  table f n i d h = get_d_span f 0 n i d h ∙ ap f (zero-add i)
+  table f n i d h = get_or-span f 0 n i d h ∙ ap f (zero-add i)
 
   pub span_ext : (f g : ℕ → A) (i n : ℕ) → ((k : ℕ) → i ≤ k → k < i + n → f k ≡ g k) → span f i n ≡ span g i n
   span_ext f g i zero e = refl
@@ -59,7 +59,7 @@ total-more f i zero = let e : i + 0 ≡ i = omega arith in rw e (omega arith)
 total-more f i (suc n) = let e : i + suc n ≡ suc i + n = omega arith in rw e (omega (arith, total-more f (suc i) n))
 
 pub at_row : (n : ℕ) (f : ℕ → ℤ) (k : ℕ) → k < n → at (row n f) k ≡ f k
-at_row n f k h = get_d_span f 0 n k (pos 0) h ∙ ap f (zero-add k)
+at_row n f k h = get_or-span f 0 n k (pos 0) h ∙ ap f (zero-add k)
 
 pub row_at : (n : ℕ) (xs : List ℤ) → length xs ≡ n → row n (at xs) ≡ xs
 row_at n xs e =

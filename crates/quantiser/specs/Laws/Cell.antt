@@ -59,15 +59,15 @@ module _ {A : Type 0} where
   block_out (b ∷ t) (suc k) d h = block_out t k d (omega arith)
 
 -- ---- zeros behind a list leave its values as they are
-get_d_zeros : (n i : ℕ) → get_or {A = ℕ} (replicate n 0) i 0 ≡ 0
-get_d_zeros zero i = refl
-get_d_zeros (suc n) zero = refl
-get_d_zeros (suc n) (suc i) = get_d_zeros n i
+get_or-zeros : (n i : ℕ) → get_or {A = ℕ} (replicate n 0) i 0 ≡ 0
+get_or-zeros zero i = refl
+get_or-zeros (suc n) zero = refl
+get_or-zeros (suc n) (suc i) = get_or-zeros n i
 
-get_d_behind : (vs : List ℕ) (n i : ℕ) → get_or (vs ++ replicate n 0) i 0 ≡ get_or vs i 0
-get_d_behind [] n i = get_d_zeros n i
-get_d_behind (v ∷ vs) n zero = refl
-get_d_behind (v ∷ vs) n (suc i) = get_d_behind vs n i
+get_or-behind : (vs : List ℕ) (n i : ℕ) → get_or (vs ++ replicate n 0) i 0 ≡ get_or vs i 0
+get_or-behind [] n i = get_or-zeros n i
+get_or-behind (v ∷ vs) n zero = refl
+get_or-behind (v ∷ vs) n (suc i) = get_or-behind vs n i
 
 -- ---- the number of a table
 pub same_table : (w h : ℕ) → w ≡ h → w < 7 → get_elem? all_tables w ≡ table_of w h
@@ -197,7 +197,7 @@ module _ (t c : ℕ) (ht : t < 8) (hc : c < 19) where
       let vs = matrix_at t c in
       let l : i < length (places vs) = omega (arith, length-drop 14 (places vs), ap length (tail_at t ht c hc)) in
       let m : 0 + i < matrix_places = omega arith in
-      rw (p, q, ← get_d_behind vs (matrix_places - length vs) i, add-one, ← paste-suc (replicate matrix_places 0) 0 (places vs) i 0 m l, zero-add i)
+      rw (p, q, ← get_or-behind vs (matrix_places - length vs) i, add-one, ← paste-suc (replicate matrix_places 0) 0 (places vs) i 0 m l, zero-add i)
 
   pub filled_all : (xs : List ℕ) (i : ℕ) → i ≡ 14 → xs ≡ filled (matrix_at t c) i → xs ≡ places (matrix_at t c)
   filled_all xs i e p =

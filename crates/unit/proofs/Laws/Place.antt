@@ -10,7 +10,7 @@ use Rattle.std.proofs.Math.Decide.{ℕ_discrete}
 use Rattle.std.proofs.Math.ListN.{get_or, get_or-append}
 use Rattle.std.proofs.Math.Arith.{digits_div, digits_mod, digits_lt}
 use Rattle.std.proofs.Math.Dec.{eqb_refl}
-use Rattle.laws.specs.Laws.Rows.{get_d_span}
+use Rattle.laws.specs.Laws.Rows.{get_or-span}
 use Rattle.laws.specs.Plane.{Plane}
 use Rattle.laws.specs.Laws.Plane.{row_lt, column-lt}
 use Rattle.unit.specs.Sizes.{Size}
@@ -147,14 +147,14 @@ module _ (t b l r y x : ℕ) (ht : t ≤ y) (hb : y < b) (hl : l ≤ x) (hr : x 
   pub place-lt : place t l r y x < (b - t) * (r - l)
   place-lt = digits_lt (omega arith) (omega arith)
 
-  pub get_d_region : (f : Plane) → get_or (region f t b l r) (place t l r y x) (pos 0) ≡ f y x
+  pub get_or-region : (f : Plane) → get_or (region f t b l r) (place t l r y x) (pos 0) ≡ f y x
   unfolding region
-  get_d_region f =
+  get_or-region f =
       let c : ℕ = r - l in
       let small : x - l < c = omega arith in
       let e : t + (y - t) ≡ y = omega arith in
       let d : l + (x - l) ≡ x = omega arith in
-      get_d_span (λ k. f (t + k / c) (l + k % c)) 0 ((b - t) * c) (place t l r y x) (pos 0) place-lt
+      get_or-span (λ k. f (t + k / c) (l + k % c)) 0 ((b - t) * c) (place t l r y x) (pos 0) place-lt
       ∙ rw (zero-add (place t l r y x), digits_div (y - t) small, digits_mod (y - t) small, e, d)
 
 -- what is behind a slice's part
@@ -173,7 +173,7 @@ module _ (g : Grid) (z : Size) (hm : 0 < g.down) (hn : 0 < g.across) (y x : ℕ)
   part_at f =
       let i = own g z hm hn y x hy hx in
       let k : ℕ = slice_of g z y x in
-      get_d_region (top g z k) (bottom g z k) (left g z k) (right g z k) y x i.below_top i.above_bottom i.right_of i.left-of f
+      get_or-region (top g z k) (bottom g z k) (left g z k) (right g z k) y x i.below_top i.above_bottom i.right_of i.left-of f
 
   -- the number read at a place is its own slice's
   pub number_back : (s : ℕ → List ℤ) (f : Plane) (rest : List ℤ) → s (slice_of g z y x) ≡ part g z (slice_of g z y x) f ++ rest → number_plane g z s y x ≡ f y x

@@ -7,7 +7,7 @@ use mathlib.Core.List.{List, [], ◌∷◌, map}
 use Prim.Native.Nat.{ℕ, zero, suc, ◌^◌, ◌<◌}
 use Rattle.laws.specs.Plane.{Plane}
 use Rattle.laws.specs.Rows.{span}
-use Rattle.laws.specs.Laws.Rows.{length-span, get_d_span, map-span}
+use Rattle.laws.specs.Laws.Rows.{length-span, get_or-span, map-span}
 use Rattle.wavelet.specs.Planes.{Band}
 use Rattle.unit.specs.declared.PictureKind.{PictureKind}
 use Rattle.unit.specs.declared.PictureKind.TheVariants.{LowDelay, HighQuality}
@@ -55,12 +55,12 @@ pub record Planned (kind : PictureKind) (g : Grid) (m : List ℕ) (b : Three (Li
 
 module _ (f : ℕ → SlicePlan) (n : ℕ) where
   pub plan-span : (k : ℕ) → k < n → plan_at (span f 0 n) k ≡ f k
-  plan-span k h = get_d_span f 0 n k empty_plan h ∙ ap f (zero-add k)
+  plan-span k h = get_or-span f 0 n k empty_plan h ∙ ap f (zero-add k)
 
   pub index-span : (k : ℕ) → k < n → index_in (span f 0 n) k ≡ (f k).index
   index-span k h =
       ap (λ (l : List ℕ). get_or l k 0) (map-span (λ (s : SlicePlan). s.index) f 0 n)
-      ∙ get_d_span (λ k. (f k).index) 0 n k 0 h ∙ ap (λ (j : ℕ). (f j).index) (zero-add k)
+      ∙ get_or-span (λ k. (f k).index) 0 n k 0 h ∙ ap (λ (j : ℕ). (f j).index) (zero-add k)
 
 -- slices that are given one by one
 pub planned_span : (kind : PictureKind) (g : Grid) (m : List ℕ) (b : Three (List Band)) (f : ℕ → SlicePlan)

@@ -7,7 +7,7 @@ use Rattle.std.proofs.Math.Decide.{ℕ_discrete}
 use Rattle.std.proofs.Math.ListN.{get_or-append}
 use Rattle.laws.specs.Laws.Integer.{ext, floor_law, var, times, ◌⊞◌, parts}
 use Rattle.laws.specs.Rows.{at, row}
-use Rattle.laws.specs.Laws.Rows.{at_row, row_at, row_ext, get_d_span, span_ext, length-span}
+use Rattle.laws.specs.Laws.Rows.{at_row, row_at, row_ext, get_or-span, span_ext, length-span}
 use Rattle.laws.specs.Plane.{Plane, turned, as_list}
 use Rattle.laws.specs.Laws.Plane.{Agree, length-as_list, as_list_cong}
 use Rattle.wavelet.specs.Lifting.{exact}
@@ -30,7 +30,7 @@ columns_cong A h w f g e = ap turned (rows_cong A w h (turned f) (turned g) (agr
 
 pub rows_at : (A : List ℤ → List ℤ) (h w : ℕ) (f : Plane) (y x : ℕ) → y < h → rows_by A h w f y x ≡ at (A (row w (f y))) x
 unfolding rows_by
-rows_at A h w f y x l = ap (λ (r : List ℤ). at r x) (get_d_span (λ y. A (row w (f y))) 0 h y [] l ∙ ap (λ (k : ℕ). A (row w (f k))) (zero-add y))
+rows_at A h w f y x l = ap (λ (r : List ℤ). at r x) (get_or-span (λ y. A (row w (f y))) 0 h y [] l ∙ ap (λ (k : ℕ). A (row w (f k))) (zero-add y))
 
 -- one pass after another is their composite
 pub rows_again : (A B : List ℤ → List ℤ) (h w : ℕ) (f : Plane) → ((xs : List ℤ) → length (A xs) ≡ length xs)
