@@ -1,6 +1,6 @@
 /*
- * Rumqeshi for C and C++: the entry points of the crate exports. `rt staticlib exports` writes
- * target/staticlib/libexports.a (x86-64 Linux); link it beside your program.
+ * Rumqeshi for C and C++: the entry points of the crate exports. `rt lib` in crates/exports writes
+ * crates/exports/out/libexports.a (Linux, x86-64-v2); link it beside your program.
  *
  * A slice is two arguments, a pointer to its first element and the count of its elements. The
  * caller owes what no function can test:
