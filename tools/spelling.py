@@ -1,6 +1,6 @@
 #!/usr/bin/env python3
-"""Brings the repository's own definitions and lemmas to today's spelling, after port.py: words in snake case, facts and
-types in camel case, a dash between two names and an underscore before a plain word.
+"""Brings the repository's own definitions and lemmas to today's spelling, after the kit's port.py: words in snake case,
+facts and types in camel case, a dash between two names and an underscore before a plain word.
 
 usage: python3 tools/spelling.py [FOLDER]    rewrites crates/*/specs, crates/*/proofs and the clauses of crates/*/src below
                                              FOLDER, the current folder if none is given; prints each name that it left
@@ -13,7 +13,7 @@ import re
 import sys
 
 # a name of antt, as a token
-TOKEN = r"[^\s(){}\[\].,;«»:\"]+"
+TOKEN = r"[^\s(){}\[\].,;«»:`\"]+"
 # words of the library that a name may be joined to by a dash
 WORDS = set("""length append cons nil take drop map fold reverse set get get_or index mul add sub div mod pow zero suc one two
 three eq ne lt le min max not and or if none some true false pos neg sum replicate concat flatten cond row at if land lor

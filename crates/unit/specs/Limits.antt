@@ -1,5 +1,5 @@
 -- The limits of a call: document 01, "Answers that turn a call away"; document 02, (iii). That of the two depths, by
--- the wavelets, is `depthLimit`, and that of wavelet indices `lastWavelet`.
+-- the wavelets, is `depth_limit`, and that of wavelet indices `last_wavelet`.
 use Rattle.std.specs.Prelude.{ℕ}
 use Rattle.unit.specs.declared.PictureKind.{PictureKind}
 use Rattle.unit.specs.declared.PictureKind.TheVariants.{LowDelay, HighQuality}

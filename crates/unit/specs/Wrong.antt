@@ -1,5 +1,5 @@
 -- Wrong encoders, each shut out by what one small call comes to. The picture call's answer, output and work slice equal
--- what `outcomeOf` gives (Encoded), and those of the row call what `answer_of` and `analysisBy` give
+-- what `outcome_of` gives (Encoded), and those of the row call what `answer_of` and `analysis_by` give
 -- (wavelet/RowCall), so an encoder that leaves anything else at one of these calls breaks that contract. At each call
 -- stands what the definition gives (`right`), and that it is not what wrong encoders left there (`apart`): each
 -- was built without proof from edited code, and run at that call.
