@@ -1,5 +1,5 @@
 -- What is asked of slices beside demand 3: the shares of a high-quality target; a low-delay slice of one byte, which
--- holds no number; and the standard's loop of stores, row by row, which Laws.Place' put-plane is about: its putAll goes
+-- holds no number; and the standard's loop of stores, row by row, which Laws.Place' put_plane is about: its put_all goes
 -- over the slices, its put over the numbers of a slice's window, as two loops over rows and columns do.
 use Rattle.std.specs.Prelude.{◌≡◌, Bool, true, false, leb, ℤ, pos, length, get_or}
 use Rattle.std.proofs.Math.Path.{refl, ap, ap₂, subst, subst₂}

@@ -216,7 +216,7 @@ plain s h =
     by false HighQuality g = refl
 
 -- ---- what follows for a valid call
--- depths of samples, from which offset-range gives the offsets
+-- depths of samples, from which offset_range gives the offsets
 pub record DepthsFit (d : Three ℕ) : Type 0 where
   pub y : Between 16 d.y
   pub c1 : Between 16 d.c1
