@@ -1,8 +1,6 @@
 // Code words: their lengths, and the writer of bits. The port of bitio.rs.
 #![tactic(auto)]
 
-pub mod bitio;
-mod lent;
 pub mod writer;
 
 ghost use Rattle.std.specs.Prelude.{◌≡◌, ◌≤◌, ◌^◌, length, nat_abs};
@@ -12,24 +10,24 @@ ghost use Rattle.codewords.specs.CodeWord.{code_u, code_s};
 pub fn unsigned_abs(v: i64) -> u64
     ensures { (result ≡ nat_abs v) × (result ≤ 2 ^ 63) }
 {
-    if v < 0 { (!v) as u64 + 1 } else { v as u64 }
+    v.unsigned_abs()
 }
 
 // How many bits the unsigned code word of v has.
 pub fn uint_code_len(v: u32) -> u32
     ensures { result ≡ length (code_u v) }
 {
-    let w = v as u64 + 1;
-    2 * (63 - u64::leading_zeros(w)) + 1
+    2 * (63 - (v as u64 + 1).leading_zeros()) + 1
 }
 
 // How many bits the signed code word of v has.
 pub fn sint_code_len(v: i64) -> u32
     ensures { result ≡ length (code_s v) }
 {
-    let m = unsigned_abs(v);
+    let m = v.unsigned_abs();
     if m == 0 {
-        return 1;
+        1
+    } else {
+        2 * (63 - (m + 1).leading_zeros()) + 2
     }
-    2 * (63 - u64::leading_zeros(m + 1)) + 2
 }

@@ -1,5 +1,5 @@
-// The writer of bits into a lent slice of bytes, high bits first. Its puts are for `lent`; the layers above go through
-// `bitio`, and there must be room for what they put.
+// The writer of bits into a lent slice of bytes, high bits first. There must be room for what is put. Its methods have
+// the writer lent by reference, and stand above private functions that take it by value and return the next one.
 ghost use Rattle.std.specs.Prelude.{◌≡◌, ◌+◌, ◌-◌, ◌*◌, ◌≤◌, ◌<◌, ◌^◌, true, [], ◌∷◌, ◌++◌, length};
 ghost use Rattle.laws.specs.Code.Laid.{laid};
 ghost use Rattle.codewords.specs.Bit.{lit, one_bits};
@@ -16,6 +16,103 @@ pub struct BitWriter {
     pub pending_bits: u32,
 }
 
+impl BitWriter {
+    // Nothing is pending, and bits go to place at on.
+    pub fn new(at: usize) -> BitWriter
+        ensures { (result.at ≡ at) × ((result.pending ≡ 0) × (result.pending_bits ≡ 0)) }
+    {
+        BitWriter {
+            at,
+            pending: 0,
+            pending_bits: 0,
+        }
+    }
+
+    // Puts one bit.
+    pub fn put_bit(&mut self, out: &mut [u8], bit: bool)
+        requires { Room out.old self.old 1 }
+        ensures { Wrote out.old self.old (bit ∷ []) out.new self.new }
+    {
+        *self = put_short(out, *self, bit as u64, 1);
+    }
+
+    // Puts the n low bits of v.
+    pub fn put_nbits(&mut self, out: &mut [u8], v: u64, n: u32)
+        requires { Room out.old self.old n × (n ≤ 64) }
+        ensures { Wrote out.old self.old (lit n v) out.new self.new }
+    {
+        if n <= 32 {
+            *self = put_short(out, *self, v, n);
+        } else {
+            *self = put_short(out, *self, v >> 32, n - 32);
+            *self = put_short(out, *self, v, 32);
+        }
+    }
+
+    // Puts the unsigned code word of v.
+    pub fn put_uint(&mut self, out: &mut [u8], v: u32)
+        requires { Room out.old self.old (length (code_u v)) }
+        ensures { Wrote out.old self.old (code_u v) out.new self.new }
+    {
+        *self = put_code(out, *self, v as u64 + 1);
+    }
+
+    // Puts the signed code word of v.
+    pub fn put_sint(&mut self, out: &mut [u8], v: i64)
+        requires { Room out.old self.old (length (code_s v)) }
+        ensures { Wrote out.old self.old (code_s v) out.new self.new }
+    {
+        self.put_signed(out, v.unsigned_abs(), v < 0);
+    }
+
+    // Puts the signed code word of the magnitude m, below 0 where minus is set.
+    pub fn put_signed(&mut self, out: &mut [u8], m: u64, minus: bool)
+        requires { Room out.old self.old (length (code_m m minus)) × (m ≤ 2 ^ 63) }
+        ensures { Wrote out.old self.old (code_m m minus) out.new self.new }
+    {
+        if m < 511 {
+            let c = word_of(m, minus);
+            *self = put_short(out, *self, c.bits, c.len);
+        } else {
+            *self = put_code(out, *self, m + 1);
+            self.put_bit(out, minus);
+        }
+    }
+
+    // Lays the whole bytes of the bits pending over the output.
+    pub fn flush(&mut self, out: &mut [u8])
+        requires { Room out.old self.old 0 }
+        ensures { Flushes out.old self.old out.new self.new }
+    {
+        while 8 <= self.pending_bits {
+            self.pending_bits -= 8;
+            out[self.at] = ((self.pending >> self.pending_bits) % 256) as u8;
+            self.at += 1;
+        }
+        self.pending %= 1 << self.pending_bits;
+    }
+
+    // Puts zeros up to the end of the byte; no bit is pending then.
+    pub fn byte_align(&mut self, out: &mut [u8])
+        requires { Room out.old self.old (padding self.old.pending_bits) }
+        ensures { Aligns out.old self.old out.new self.new }
+    {
+        *self = put_short(out, *self, 0, (8 - self.pending_bits % 8) % 8);
+        self.flush(out);
+    }
+
+    // Puts n ones.
+    pub fn put_ones(&mut self, out: &mut [u8], n: u64)
+        requires { Room out.old self.old n }
+        ensures { Wrote out.old self.old (one_bits n) out.new self.new }
+    {
+        for _ in 0..n / 32 {
+            *self = put_short(out, *self, 0xFFFF_FFFF, 32);
+        }
+        *self = put_short(out, *self, 0xFFFF_FFFF, (n % 32) as u32);
+    }
+}
+
 // A code word as the low bits of a number, and how many bits it has.
 #[derive(Clone, Copy)]
 struct Word {
@@ -23,15 +120,12 @@ struct Word {
     len: u32,
 }
 
-// Writes the 32 low bits of x as four bytes, from place at on.
-fn put_four(out: &mut [u8], at: usize, x: u64)
+// Writes x as four bytes, from place at on.
+fn put_four(out: &mut [u8], at: usize, x: u32)
     requires { at + 4 ≤ length out.old }
     ensures { out.new ≡ laid out.old at (to_bytes (lit 32 x)) }
 {
-    out[at] = ((x >> 24) % 256) as u8;
-    out[at + 1] = ((x >> 16) % 256) as u8;
-    out[at + 2] = ((x >> 8) % 256) as u8;
-    out[at + 3] = (x % 256) as u8;
+    out[at..at + 4].copy_from_slice(&x.to_be_bytes());
 }
 
 // Puts the n low bits of v, at most 32. Whole bytes go to the output by fours.
@@ -42,61 +136,20 @@ fn put_short(out: &mut [u8], w: BitWriter, v: u64, n: u32) -> BitWriter
     let size: u64 = 1 << n;
     let x = w.pending * size + v % size;
     let k = w.pending_bits + n;
-    let at = w.at;
     if k < 32 {
-        return BitWriter {
-            at,
+        BitWriter {
             pending: x,
             pending_bits: k,
-        };
-    }
-    let j = k - 32;
-    put_four(out, at, x >> j);
-    let rest: u64 = 1 << j;
-    BitWriter {
-        at: at + 4,
-        pending: x % rest,
-        pending_bits: j,
-    }
-}
-
-// Puts one bit.
-pub(crate) fn put_bit(out: &mut [u8], w: BitWriter, bit: bool) -> BitWriter
-    requires { Room out.old w 1 }
-    ensures { Wrote out.old w (bit ∷ []) out.new result }
-{
-    put_short(out, w, bit as u64, 1)
-}
-
-// Puts the n low bits of v.
-pub(crate) fn put_nbits(out: &mut [u8], w: BitWriter, v: u64, n: u32) -> BitWriter
-    requires { Room out.old w n × (n ≤ 64) }
-    ensures { Wrote out.old w (lit n v) out.new result }
-{
-    if n <= 32 {
-        return put_short(out, w, v, n);
-    }
-    let s = put_short(out, w, v >> 32, n - 32);
-    put_short(out, s, v, 32)
-}
-
-// Lays the whole bytes of the bits pending over the output.
-pub(crate) fn flush(out: &mut [u8], w: BitWriter) -> BitWriter
-    requires { Room out.old w 0 }
-    ensures { Flushes out.old w out.new result }
-{
-    let mut at = w.at;
-    let mut k = w.pending_bits;
-    while 8 <= k {
-        k -= 8;
-        out[at] = ((w.pending >> k) % 256) as u8;
-        at += 1;
-    }
-    let rest: u64 = 1 << k;
-    BitWriter {
-        at,
-        pending: w.pending % rest,
-        pending_bits: k,
+            ..w
+        }
+    } else {
+        let j = k - 32;
+        put_four(out, w.at, (x >> j) as u32);
+        BitWriter {
+            at: w.at + 4,
+            pending: x % (1 << j),
+            pending_bits: j,
+        }
     }
 }
 
@@ -129,15 +182,7 @@ fn put_code(out: &mut [u8], w: BitWriter, x: u64) -> BitWriter
     requires { Room out.old w (length (code_u (x - 1))) × (0 < x) }
     ensures { Wrote out.old w (code_u (x - 1)) out.new result }
 {
-    put_interleaved(out, w, x, 63 - u64::leading_zeros(x))
-}
-
-// Puts the unsigned code word of v.
-pub(crate) fn put_uint(out: &mut [u8], w: BitWriter, v: u32) -> BitWriter
-    requires { Room out.old w (length (code_u v)) }
-    ensures { Wrote out.old w (code_u v) out.new result }
-{
-    put_code(out, w, v as u64 + 1)
+    put_interleaved(out, w, x, x.ilog2())
 }
 
 // The signed code word of a small magnitude m, below 0 where minus is set.
@@ -145,7 +190,7 @@ fn word_of(m: u64, minus: bool) -> Word
     requires { m < 511 }
     ensures { (lit result.len result.bits ≡ code_m m minus) × (result.len ≤ 18) }
 {
-    let n = 63 - u64::leading_zeros(m + 1);
+    let n = (m + 1).ilog2();
     let word = 2 * spread(m + 1) + 1;
     if m == 0 {
         Word { bits: 1, len: 1 }
@@ -155,48 +200,4 @@ fn word_of(m: u64, minus: bool) -> Word
             len: 2 * n + 2,
         }
     }
-}
-
-// Puts the signed code word of the magnitude m, below 0 where minus is set.
-pub(crate) fn put_signed(out: &mut [u8], w: BitWriter, m: u64, minus: bool) -> BitWriter
-    requires { Room out.old w (length (code_m m minus)) × (m ≤ 2 ^ 63) }
-    ensures { Wrote out.old w (code_m m minus) out.new result }
-{
-    if m < 511 {
-        let c = word_of(m, minus);
-        return put_short(out, w, c.bits, c.len);
-    }
-    let s = put_code(out, w, m + 1);
-    put_bit(out, s, minus)
-}
-
-// Puts the signed code word of v.
-pub(crate) fn put_sint(out: &mut [u8], w: BitWriter, v: i64) -> BitWriter
-    requires { Room out.old w (length (code_s v)) }
-    ensures { Wrote out.old w (code_s v) out.new result }
-{
-    put_signed(out, w, crate::unsigned_abs(v), v < 0)
-}
-
-// Puts zeros up to the end of the byte; no bit is pending then.
-pub(crate) fn byte_align(out: &mut [u8], w: BitWriter) -> BitWriter
-    requires { Room out.old w (padding w.pending_bits) }
-    ensures { Aligns out.old w out.new result }
-{
-    let s = put_short(out, w, 0, (8 - w.pending_bits % 8) % 8);
-    flush(out, s)
-}
-
-// Puts n ones.
-pub(crate) fn put_ones(out: &mut [u8], w: BitWriter, n: u64) -> BitWriter
-    requires { Room out.old w n }
-    ensures { Wrote out.old w (one_bits n) out.new result }
-{
-    let mut left = n;
-    let mut s = w;
-    while 32 < left {
-        left -= 32;
-        s = put_short(out, s, 0xFFFF_FFFF, 32);
-    }
-    put_short(out, s, 0xFFFF_FFFF, left as u32)
 }

@@ -1,10 +1,10 @@
 -- What the entry points leave behind their references.
-use Rattle.std.specs.Prelude.{◌≡◌, ◌↔◌, Bool, true, false, cond, List, ℕ, ltb, ℤ, take}
-use Rattle.unit.specs.declared.Answer.{Answer}
-use Rattle.unit.specs.declared.Answer.TheVariants.{Accepted, Refused}
+use Rattle.std.specs.Prelude.{◌≡◌, ◌↔◌, Bool, true, false, cond, List, ℕ, ltb, ℤ, take, Result, Ok, Err}
+use Rattle.refusals.specs.declared.Refusal.{Refusal}
+use Rattle.refusals.specs.Number.{number_of}
 use Rattle.unit.specs.Three.{Three}
 use Rattle.unit.specs.Words.{known, settings_of}
-use Rattle.unit.specs.Outcome.{number_of, outcome_of}
+use Rattle.unit.specs.Outcome.{Answer, outcome_of}
 use Rattle.unit.specs.Unit.{plan_of}
 use Rattle.unit.specs.Demand.{Undropped, Demand3}
 
@@ -12,6 +12,11 @@ use Rattle.unit.specs.Demand.{Undropped, Demand3}
 pub record Gives (i : ℕ) (z before after : ℤ) (r : ℕ) : Type 0 where
   pub number : r ≡ cond (ltb 255 i) 6 0
   pub value : after ≡ cond (ltb 255 i) before z
+
+-- what stands behind the reference after a quantiser call: the answer's value; a refusal leaves what stood there
+abbrev pub left_by : Result ℤ Refusal → ℤ → ℤ
+left_by (Ok v) before = v
+left_by (Err r) before = before
 
 -- length, cut slices and scaler behind three references
 pub record Values : Type 0 where
@@ -21,8 +26,8 @@ pub record Values : Type 0 where
 
 -- the values that a call leaves: an accepted one's own; a refused one leaves what stood there
 abbrev pub values_of : Answer → Values → Values
-values_of (Accepted c) v = record { written = c.written; cut = c.cut_slices; scaler = c.slice_size_scaler }
-values_of (Refused n) v = v
+values_of (Ok c) v = record { written = c.written; cut = c.cut_slices; scaler = c.slice_size_scaler }
+values_of (Err r) v = v
 
 -- everything that a picture call leaves
 pub record Left : Type 0 where

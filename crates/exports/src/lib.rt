@@ -3,14 +3,24 @@
 #![tactic(auto)]
 
 ghost use Rattle.std.specs.Prelude.{◌≡◌, pos, length};
+ghost use Rattle.refusals.specs.Number.{number_of};
 ghost use Rattle.codewords.specs.CodeWord.{code_u, code_s};
 ghost use Rattle.quantiser.specs.Quant.{quant_factor, quant_offset, forward_quant, inverse_quant};
 ghost use Rattle.wavelet.specs.RowCall.{Analysed};
 ghost use Rattle.unit.specs.Three.{planes};
-ghost use Rattle.exports.specs.Calls.{Gives, Picture};
+ghost use Rattle.exports.specs.Calls.{left_by, Gives, Picture};
 
-use quantiser::QuantAnswer;
-use unit::Answer;
+use refusals::{Refusal, number_of};
+
+// The number of an answer, whose value goes behind the reference; a refusal leaves what stands there.
+fn give(r: Result<i64, Refusal>, value: &mut i64) -> u32
+    ensures { (result ≡ number_of r) × (value.new ≡ left_by r value.old) }
+{
+    if let Ok(v) = r {
+        *value = v;
+    }
+    number_of(r)
+}
 
 // How many bits the unsigned code word of v has.
 #[unsafe(no_mangle)]
@@ -32,56 +42,28 @@ pub extern "C" fn vc2_sint_code_len(v: i64) -> u32
 pub extern "C" fn vc2_quant_factor(index: u32, value: &mut i64) -> u32
     ensures { Gives index (pos (quant_factor index)) value.old value.new result }
 {
-    let a = quantiser::quant_factor(index);
-    match a {
-        QuantAnswer::Value(v) => {
-            *value = v;
-            0
-        }
-        QuantAnswer::Refused(n) => n,
-    }
+    give(quantiser::quant_factor(index), value)
 }
 
 #[unsafe(no_mangle)]
 pub extern "C" fn vc2_quant_offset(index: u32, value: &mut i64) -> u32
     ensures { Gives index (pos (quant_offset index)) value.old value.new result }
 {
-    let a = quantiser::quant_offset(index);
-    match a {
-        QuantAnswer::Value(v) => {
-            *value = v;
-            0
-        }
-        QuantAnswer::Refused(n) => n,
-    }
+    give(quantiser::quant_offset(index), value)
 }
 
 #[unsafe(no_mangle)]
 pub extern "C" fn vc2_forward_quant(coeff: i64, index: u32, value: &mut i64) -> u32
     ensures { Gives index (forward_quant coeff index) value.old value.new result }
 {
-    let a = quantiser::forward_quant(coeff, index);
-    match a {
-        QuantAnswer::Value(v) => {
-            *value = v;
-            0
-        }
-        QuantAnswer::Refused(n) => n,
-    }
+    give(quantiser::forward_quant(coeff, index), value)
 }
 
 #[unsafe(no_mangle)]
 pub extern "C" fn vc2_inverse_quant(number: i64, index: u32, value: &mut i64) -> u32
     ensures { Gives index (inverse_quant number index) value.old value.new result }
 {
-    let a = quantiser::inverse_quant(number, index);
-    match a {
-        QuantAnswer::Value(v) => {
-            *value = v;
-            0
-        }
-        QuantAnswer::Refused(n) => n,
-    }
+    give(quantiser::inverse_quant(number, index), value)
 }
 
 // The analysis of a row in place: 0, or with the row unchanged 1 or 15.
@@ -89,7 +71,7 @@ pub extern "C" fn vc2_inverse_quant(number: i64, index: u32, value: &mut i64) ->
 pub extern "C" fn vc2_oned_analysis(row: &mut [i64], index: u32) -> u32
     ensures { Analysed index row.old row.new result }
 {
-    wavelet::oned_analysis(row, index)
+    number_of(wavelet::oned_analysis(row, index))
 }
 
 // The picture call, with the settings as 21 words in the job program's order: 0, a refusal's number, or 100 where the
@@ -122,13 +104,10 @@ pub extern "C" fn vc2_encode_picture(
     }
     let s = words::settings_of(settings);
     let r = picture::encoder::encode_picture(s, matrix, y, c1, c2, work, out);
-    match r {
-        Answer::Accepted(c) => {
-            *written = c.written;
-            *cut_slices = c.cut_slices;
-            *slice_size_scaler = c.slice_size_scaler;
-            0
-        }
-        Answer::Refused(n) => n,
+    if let Ok(c) = r {
+        *written = c.written;
+        *cut_slices = c.cut_slices;
+        *slice_size_scaler = c.slice_size_scaler;
     }
+    number_of(r)
 }

@@ -1,10 +1,8 @@
 -- The job program: document 01, "Table of marked examples", its last part.
-use Rattle.std.specs.Prelude.{Bool, true, false, not, cond, ◌&&◌, ◌||◌, List, [], ◌∷◌, ◌++◌, map, ℕ, zero, suc, ◌+◌, ◌*◌, ◌/◌, ◌%◌, ◌^◌, eqb, leb, ltb, ℤ, length, take, drop}
-use Rattle.unit.specs.declared.Answer.{Answer}
-use Rattle.unit.specs.declared.Answer.TheVariants.{Accepted, Refused}
+use Rattle.std.specs.Prelude.{Bool, true, false, not, cond, ◌&&◌, ◌||◌, List, [], ◌∷◌, ◌++◌, map, ℕ, zero, suc, ◌+◌, ◌*◌, ◌/◌, ◌%◌, ◌^◌, eqb, leb, ltb, ℤ, length, take, drop, Ok, Err}
 use Rattle.unit.specs.Refusal.{any_above}
 use Rattle.unit.specs.Words.{word_at, known, settings_of}
-use Rattle.unit.specs.Outcome.{tells, Outcome, outcome_of}
+use Rattle.unit.specs.Outcome.{Answer, tells, Outcome, outcome_of}
 
 -- ---- words
 -- 32-bit words, high byte first; bytes that are no whole word at the end are left out
@@ -106,8 +104,8 @@ bytes_from i (b ∷ bs) = hex_digit (b / 16) ∷ hex_digit (b % 16) ∷ separato
 
 -- the bytes that are printed: an accepted call's unit
 abbrev pub unit_in : Answer → List ℕ → List ℕ
-unit_in (Accepted c) out = take c.written out
-unit_in (Refused n) out = []
+unit_in (Ok c) out = take c.written out
+unit_in (Err r) out = []
 
 unfoldable pub text_of : Outcome → List ℕ
 text_of o = line_of (tells o.answer) ++ bytes_from 0 (unit_in o.answer o.output)

@@ -35,6 +35,7 @@ fn encode(
 }
 
 // The call of a well-formed job. matrix and samples are scratch.
+#[tactic(auto, using(crate::specs::Laws::Parse::ends_rise, crate::specs::Laws::Parse::parts_few))]
 fn call(
     words: &[u32],
     e: Ends,

@@ -1,5 +1,5 @@
 // A job's words, taken apart.
-ghost use Rattle.std.specs.Prelude.{◌≡◌, false, map, ◌+◌, ◌*◌, ◌≤◌, ◌<◌, length, drop};
+ghost use Rattle.std.specs.Prelude.{◌≡◌, ℕ, false, map, ◌+◌, ◌*◌, ◌≤◌, ◌<◌, length, drop};
 ghost use Rattle.laws.specs.Code.Laid.{Lays};
 ghost use Rattle.unit.specs.Refusal.{any_above};
 ghost use Rattle.jobs.specs.Job.{words_of, kind_of, content_of, is_end, in_order};
@@ -15,21 +15,12 @@ pub(crate) struct Ends {
     pub c2: usize,
 }
 
-fn wide(x: u8) -> u32
-    ensures { (result ≡ x) × (result < 256) }
-{
-    x as u32
-}
-
 // The word whose bytes stand from i on.
 fn word_at(bytes: &[u8], i: usize) -> u32
     requires { i + 4 ≤ length bytes.now }
     ensures { result ≡ word_from bytes.now i }
 {
-    wide(bytes[i]) * 0x100_0000
-        + wide(bytes[i + 1]) * 0x1_0000
-        + wide(bytes[i + 2]) * 0x100
-        + wide(bytes[i + 3])
+    u32::from_be_bytes([bytes[i], bytes[i + 1], bytes[i + 2], bytes[i + 3]])
 }
 
 // The whole words of bytes, and how many there are.
@@ -38,10 +29,8 @@ pub(crate) fn unpack(bytes: &[u8], words: &mut [u32]) -> usize
     ensures { Lays words.old 0 (words_of bytes.now) words.new result }
 {
     let n = bytes.len() / 4;
-    let mut i = 0;
-    while i < n {
+    for i in 0..n {
         words[i] = word_at(bytes, 4 * i);
-        i += 1;
     }
     n
 }
@@ -63,15 +52,10 @@ fn run_end(words: &[u32], from: usize, kind: u32) -> usize
     requires { from ≤ length words.now }
     ensures { (result ≡ run_end kind words.now from) × (result ≤ length words.now) }
 {
-    let n = words.len();
-    let mut i = from;
-    while i < n {
-        if kind_of(words[i]) != kind {
-            return i;
-        }
-        i += 1;
-    }
-    i
+    from + words[from..]
+        .iter()
+        .take_while(|w| kind_of(**w) == kind)
+        .count()
 }
 
 // Where the words of each kind end.
@@ -95,28 +79,14 @@ pub(crate) fn ends_of(words: &[u32]) -> Ends
 fn any_above(words: &[u32]) -> bool
     ensures { result ≡ any_above 65535 (map content_of words.now) }
 {
-    let n = words.len();
-    let mut i = 0;
-    while i < n {
-        if content_of(words[i]) > 65535 {
-            return true;
-        }
-        i += 1;
-    }
-    false
+    words.iter().any(|w| content_of(*w) > 65535)
 }
 
-// Whether the one last word stands at place at.
-fn is_end(words: &[u32], at: usize) -> bool
-    ensures { result ≡ is_end (drop at words.now) }
+// Whether the words are the one last word.
+fn is_end(words: &[u32]) -> bool
+    ensures { result ≡ is_end words.now }
 {
-    if words.len() == 0 {
-        return false;
-    }
-    if words.len() - 1 != at {
-        return false;
-    }
-    words[at] == 0xF000_0000
+    matches!(words, [0xF000_0000])
 }
 
 // Whether lossless has rate number 0, matrix words stand only where custom is 1, and there are at most 64 of them and
@@ -131,6 +101,7 @@ fn counted(rate: u32, number: u32, custom: u32, matrix: usize, samples: usize) -
 }
 
 // Whether the job is well formed.
+#[tactic(auto, using(crate::specs::Laws::Parse::ends_rise, crate::specs::Laws::Parse::words_enough))]
 pub(crate) fn well_formed(words: &[u32], e: Ends) -> bool
     requires { e ≡ ends_of words.now }
     ensures { result ≡ in_order words.now }
@@ -141,7 +112,7 @@ pub(crate) fn well_formed(words: &[u32], e: Ends) -> bool
     if !words::known(&words[..settings]) {
         return false;
     }
-    if !is_end(words, end) {
+    if !is_end(&words[end..]) {
         return false;
     }
     if !counted(
@@ -156,17 +127,25 @@ pub(crate) fn well_formed(words: &[u32], e: Ends) -> bool
     !any_above(&words[settings..end])
 }
 
+// The contents of the words, each as of gives it, laid from the front of numbers on; value says what of gives.
+fn load<T: Copy, F: Fn(u32) -> T>(words: &[u32], numbers: &mut [T], of: F)
+    ghost value: { ℕ → T }
+    requires room { length words.now ≤ length numbers.old }
+    requires callable { F.IsAlwaysCallable of }
+    requires exact { (content : ℕ) (r : T) → F.post of content r → r ≡ value content }
+    ensures { Lays numbers.old 0 (map value (map content_of words.now)) numbers.new (length words.now) }
+{
+    for i in 0..words.len() {
+        numbers[i] = of(content_of(words[i]));
+    }
+}
+
 // The contents of the words, laid from the front of matrix on.
 pub(crate) fn load_matrix(words: &[u32], matrix: &mut [u32])
     requires { length words.now ≤ length matrix.old }
     ensures { Lays matrix.old 0 (map content_of words.now) matrix.new (length words.now) }
 {
-    let n = words.len();
-    let mut i = 0;
-    while i < n {
-        matrix[i] = content_of(words[i]);
-        i += 1;
-    }
+    load(words, matrix, |content| content)
 }
 
 // The contents of the words, laid from the front of samples on.
@@ -174,10 +153,5 @@ pub(crate) fn load_samples(words: &[u32], samples: &mut [u16])
     requires { (length words.now ≤ length samples.old) × (any_above 65535 (map content_of words.now) ≡ false) }
     ensures { Lays samples.old 0 (map content_of words.now) samples.new (length words.now) }
 {
-    let n = words.len();
-    let mut i = 0;
-    while i < n {
-        samples[i] = content_of(words[i]) as u16;
-        i += 1;
-    }
+    load(words, samples, |content| (content % 65536) as u16)
 }

@@ -4,6 +4,7 @@ pub mod Refusal
 pub mod Head
 pub mod Strip
 pub mod Added
+pub mod Counter
 pub mod Cost
 pub mod Tally
 pub mod Put

@@ -3,5 +3,6 @@ pub(crate) mod choice;
 pub(crate) mod election;
 pub(crate) mod notes;
 pub(crate) mod packed;
+pub(crate) mod plan;
 pub(crate) mod size;
 pub(crate) mod slice;

@@ -1,9 +1,9 @@
 // The default matrices of Annex D: a table by the wavelets, a matrix in it by the depths.
-ghost use Rattle.std.specs.Prelude.{◌≡◌, ◌<◌, get_or};
+ghost use Rattle.std.specs.Prelude.{◌≡◌, ◌<◌, IfSome};
 ghost use Rattle.std.proofs.Math.ListN.{get_elem?};
 ghost use Rattle.quantiser.specs.AnnexD.{table_of};
 ghost use Rattle.quantiser.specs.Code.Default.{places, default_of};
-ghost use Rattle.quantiser.specs.Code.Cells.{all_tables, cell_of, matrix_at};
+ghost use Rattle.quantiser.specs.Code.Cells.{all_tables, cell_of, matrix_at, or_past};
 
 // Annex D, a matrix to a line: 14 bytes, with zeros behind the values. A table has 19: those for horizontal-only depth
 // 0 and depths 0 to 4, for 1 and 0 to 4, for 2 and 0 to 3, for 3 and 0 to 2, for 4 and 0 to 1.
@@ -189,66 +189,47 @@ const MATRICES: [[u8; 266]; 8] = [
 // Where in a table the matrices of each horizontal-only depth start, and where the last end.
 const STARTS: [u32; 6] = [0, 5, 10, 14, 17, 19];
 
-// Whether there is a default, and its values in subband order with zeros behind them.
-#[derive(Clone, Copy)]
-pub struct DefaultMatrix {
-    pub found: bool,
-    pub values: [u32; 25],
-}
-
-// The default matrix for a wavelet, a horizontal-only wavelet, a depth and a horizontal-only depth. For the layers
-// above.
+// The default matrix for a wavelet, a horizontal-only wavelet, a depth and a horizontal-only depth, in subband order
+// with zeros behind its values; none where Annex D has none. For the layers above.
 pub fn default_quant_matrix(
     wavelet: u32,
     wavelet_ho: u32,
     depth: u32,
     depth_ho: u32,
-) -> DefaultMatrix
+) -> Option<[u32; 25]>
     ensures { result ≡ default_of wavelet wavelet_ho depth depth_ho }
 {
-    let table = table_of(wavelet, wavelet_ho);
-    let cell = cell_of(depth, depth_ho);
-    if table < 8 {
-        if cell < 19 {
-            return DefaultMatrix {
-                found: true,
-                values: matrix_at(table, cell),
-            };
-        }
-    }
-    DefaultMatrix {
-        found: false,
-        values: [0; 25],
-    }
+    let table = table_of(wavelet, wavelet_ho)?;
+    let cell = cell_of(depth, depth_ho)?;
+    Some(matrix_at(table, cell))
 }
 
-// The number of a table, from 0; 8 where there is none.
-fn table_of(wavelet: u32, wavelet_ho: u32) -> u32
-    ensures { get_elem? all_tables result ≡ table_of wavelet wavelet_ho }
+// The number of a table, from 0.
+fn table_of(wavelet: u32, wavelet_ho: u32) -> Option<u32>
+    ensures is { get_elem? all_tables (or_past 8 result) ≡ table_of wavelet wavelet_ho }
+    ensures few { IfSome result (λ t. t < 8) }
 {
-    if wavelet == wavelet_ho {
-        return if wavelet < 7 { wavelet } else { 8 };
-    }
-    if wavelet == 3 && wavelet_ho == 1 {
-        7
-    } else {
-        8
+    match (wavelet, wavelet_ho) {
+        (3, 1) => Some(7),
+        (a, b) if a == b && a < 7 => Some(a),
+        _ => None,
     }
 }
 
-// The place of a matrix in its table; 19 where there is none.
-fn cell_of(depth: u32, depth_ho: u32) -> u32
-    ensures { result ≡ cell_of depth depth_ho }
+// The place of a matrix in its table.
+fn cell_of(depth: u32, depth_ho: u32) -> Option<u32>
+    ensures is { or_past 19 result ≡ cell_of depth depth_ho }
+    ensures few { IfSome result (λ c. c < 19) }
 {
     if depth_ho > 4 {
-        return 19;
+        return None;
     }
     let k = depth_ho as usize;
     let start = STARTS[k];
     if depth < STARTS[k + 1] - start {
-        start + depth
+        Some(start + depth)
     } else {
-        19
+        None
     }
 }
 
@@ -258,26 +239,9 @@ fn matrix_at(table: u32, cell: u32) -> [u32; 25]
     ensures { result ≡ places (matrix_at table cell) }
 {
     let mut values = [0; 25];
-    let mut i = 0;
-    while i < 14 {
-        values[i] = value_at(table, cell, i);
-        i += 1;
+    let start = cell as usize * 14;
+    for i in 0..14 {
+        values[i] = MATRICES[table as usize][start + i] as u32;
     }
     values
-}
-
-// Value i of a matrix, of its first 14: 0 after the last.
-fn value_at(table: u32, cell: u32, i: usize) -> u32
-    requires { (table < 8) × ((cell < 19) × (i < 14)) }
-    ensures { result ≡ get_or (matrix_at table cell) i 0 }
-{
-    let place = cell as usize * 14 + i;
-    wide(MATRICES[table as usize][place])
-}
-
-// A byte in 32 bits.
-fn wide(x: u8) -> u32
-    ensures { result ≡ x }
-{
-    x as u32
 }

@@ -275,16 +275,12 @@ fn factor_by(remainder: u32, base: u64) -> u64
     requires { base ≤ 2 ^ 31 }
     ensures { result ≡ factor_by remainder base }
 {
-    if remainder == 0 {
-        return 4 * base;
+    match remainder {
+        0 => 4 * base,
+        1 => (503829 * base + 52958) / 105917,
+        2 => (665857 * base + 58854) / 117708,
+        _ => (440253 * base + 32722) / 65444,
     }
-    if remainder == 1 {
-        return (503829 * base + 52958) / 105917;
-    }
-    if remainder == 2 {
-        return (665857 * base + 58854) / 117708;
-    }
-    (440253 * base + 32722) / 65444
 }
 
 // A factor without the table below index 128, by the standard's formulas, whose terms stay below 2^64 there; from 128
@@ -297,8 +293,7 @@ pub fn factor_at(index: u32) -> u64
     if index >= 128 {
         return table_at(index);
     }
-    let one: u64 = 1;
-    factor_by(index % 4, one << (index / 4))
+    factor_by(index % 4, 1u64 << (index / 4))
 }
 
 // The offset of an index, by its factor. For the layers above.
@@ -306,13 +301,11 @@ pub fn offset_by(index: u32, factor: u64) -> u64
     requires { (factor ≡ quant_factor index) × (factor < 2 ^ 63) }
     ensures { (result ≡ quant_offset index) × (result < 2 ^ 63) }
 {
-    if index == 0 {
-        return 1;
+    match index {
+        0 => 1,
+        1 => 2,
+        _ => crate::cap(factor + 1) / 2,
     }
-    if index == 1 {
-        return 2;
-    }
-    crate::cap(factor + 1) / 2
 }
 
 // The offset of an index.

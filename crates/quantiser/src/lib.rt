@@ -4,54 +4,53 @@
 pub mod annex_d;
 pub mod factors;
 
-ghost use Rattle.std.specs.Prelude.{◌≡◌, ◌*◌, ◌/◌, ◌≤◌, ◌<◌, ◌^◌, length, pos, nat_abs};
+ghost use Rattle.std.specs.Prelude.{◌≡◌, ◌*◌, ◌/◌, ◌≤◌, ◌<◌, ◌^◌, length, pos, nat_abs, IfOk, IfErr};
 ghost use Rattle.codewords.specs.CodeWord.{log2, code_s};
+ghost use Rattle.refusals.specs.declared.Refusal.TheVariants.{Index};
 ghost use Rattle.quantiser.specs.Answer.{Answered};
 ghost use Rattle.quantiser.specs.Standard.{signed};
 ghost use Rattle.quantiser.specs.Quant.{cap, quant_factor, quant_offset, forward_by, forward_quant, inverse_by, inverse_quant};
 ghost use Rattle.quantiser.specs.Code.Step.{Doubles};
 
-// A call's value, or its refusal's number in document 01.
-#[derive(Clone, Copy)]
-pub enum QuantAnswer {
-    Value(i64),
-    Refused(u32),
+use refusals::Refusal;
+
+// An index above 255 is refused.
+fn in_table(index: u32) -> Result<(), Refusal>
+    ensures ok { IfOk result (λ u. index ≤ 255) }
+    ensures err { IfErr result (λ r. (r ≡ Index) × (255 < index)) }
+{
+    if index > 255 {
+        return Err(Refusal::Index);
+    }
+    Ok(())
 }
 
-pub fn quant_factor(index: u32) -> QuantAnswer
+pub fn quant_factor(index: u32) -> Result<i64, Refusal>
     ensures { Answered index (pos (quant_factor index)) result }
 {
-    if index > 255 {
-        return QuantAnswer::Refused(6);
-    }
-    QuantAnswer::Value(factors::table_at(index) as i64)
+    in_table(index)?;
+    Ok(factors::table_at(index) as i64)
 }
 
-pub fn quant_offset(index: u32) -> QuantAnswer
+pub fn quant_offset(index: u32) -> Result<i64, Refusal>
     ensures { Answered index (pos (quant_offset index)) result }
 {
-    if index > 255 {
-        return QuantAnswer::Refused(6);
-    }
-    QuantAnswer::Value(factors::offset_at(index) as i64)
+    in_table(index)?;
+    Ok(factors::offset_at(index) as i64)
 }
 
-pub fn forward_quant(coeff: i64, index: u32) -> QuantAnswer
+pub fn forward_quant(coeff: i64, index: u32) -> Result<i64, Refusal>
     ensures { Answered index (forward_quant coeff index) result }
 {
-    if index > 255 {
-        return QuantAnswer::Refused(6);
-    }
-    QuantAnswer::Value(forward_by(coeff, factors::table_at(index)))
+    in_table(index)?;
+    Ok(forward_by(coeff, factors::table_at(index)))
 }
 
-pub fn inverse_quant(number: i64, index: u32) -> QuantAnswer
+pub fn inverse_quant(number: i64, index: u32) -> Result<i64, Refusal>
     ensures { Answered index (inverse_quant number index) result }
 {
-    if index > 255 {
-        return QuantAnswer::Refused(6);
-    }
-    QuantAnswer::Value(inverse_by(number, factors::table_at(index), factors::offset_at(index)))
+    in_table(index)?;
+    Ok(inverse_by(number, factors::table_at(index), factors::offset_at(index)))
 }
 
 // The magnitude m with the sign of z.
@@ -60,7 +59,7 @@ fn signed(z: i64, m: u64) -> i64
     ensures { result ≡ signed z m }
 {
     let n = m as i64;
-    if z < 0 { 0 - n } else { n }
+    if z < 0 { -n } else { n }
 }
 
 // The largest i64, 2^63 - 1.
@@ -70,11 +69,7 @@ const LARGEST: u64 = 0x7FFF_FFFF_FFFF_FFFF;
 fn cap(n: u64) -> u64
     ensures { (result ≡ cap n) × (result < 2 ^ 63) }
 {
-    if n < LARGEST {
-        n
-    } else {
-        0x7FFF_FFFF_FFFF_FFFF
-    }
+    n.min(LARGEST)
 }
 
 // A quotient and its remainder.
@@ -129,7 +124,7 @@ pub fn forward_by(c: i64, f: u64) -> i64
     requires { (4 ≤ f) × (f < 2 ^ 63) }
     ensures { result ≡ forward_by f c }
 {
-    let m = codewords::unsigned_abs(c);
+    let m = c.unsigned_abs();
     signed(c, cap(four_over(m, f)))
 }
 
@@ -139,7 +134,7 @@ pub fn forward_size(c: i64, f: u64) -> u64
     requires { ((4 ≤ f) × (f < 2 ^ 63)) × (nat_abs c < 2 ^ 60) }
     ensures { (result ≡ nat_abs (forward_by f c)) × (result ≤ 2 ^ 60) }
 {
-    let m = codewords::unsigned_abs(c);
+    let m = c.unsigned_abs();
     if f == 4 {
         return m;
     }
@@ -170,21 +165,16 @@ pub fn forward_len_by(c: i64, f: u64) -> u32
     requires { ((4 ≤ f) × (f < 2 ^ 63)) × (nat_abs c < 2 ^ 60) }
     ensures { result ≡ length (code_s (forward_by f c)) }
 {
-    let n = 4 * codewords::unsigned_abs(c) + f;
+    let n = 4 * c.unsigned_abs() + f;
     let e = quotient_log2(n, f);
     if e == 0 { 1 } else { 2 * e + 2 }
 }
 
 // A product, capped.
 fn capped_mul(a: u64, b: u64) -> u64
-    requires { 0 < b }
     ensures { (result ≡ cap (a * b)) × (result < 2 ^ 63) }
 {
-    if a > 0x7FFF_FFFF_FFFF_FFFF / b {
-        0x7FFF_FFFF_FFFF_FFFF
-    } else {
-        a * b
-    }
+    cap(a.saturating_mul(b))
 }
 
 // The number q rebuilt at the factor f and the offset off. For the layers above.
@@ -192,7 +182,7 @@ pub fn inverse_by(q: i64, f: u64, off: u64) -> i64
     requires { (4 ≤ f) × (off < 2 ^ 63) }
     ensures { result ≡ inverse_by f off q }
 {
-    let m = codewords::unsigned_abs(q);
+    let m = q.unsigned_abs();
     if m == 0 {
         return 0;
     }

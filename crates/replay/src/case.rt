@@ -1,58 +1,44 @@
-// Words and packed bytes.
-ghost use Rattle.std.specs.Prelude.{◌+◌, ◌*◌, ◌≤◌, ◌<◌, length, ◌≡◌};
+// Words, packed bytes, and what comes of a case.
+ghost use Rattle.std.specs.Prelude.{◌≡◌, ◌*◌, ◌≤◌, length, IfOk};
 
-#[derive(Clone, Copy)]
-pub(crate) enum Verdict {
-    Same,
-    Differs,
-    Malformed,
+use std::num::TryFromIntError;
+
+// Words that are no case.
+#[derive(Clone, Copy, Debug, PartialEq, Eq)]
+pub(crate) struct Malformed;
+
+impl From<TryFromIntError> for Malformed {
+    fn from(_e: TryFromIntError) -> Malformed {
+        Malformed
+    }
 }
 
-// The word from place p on, high byte first.
-pub(crate) fn word_at(bytes: &[u8], p: usize) -> u64
-    requires { p + 8 ≤ length bytes.now }
+// Whether what came out is what was recorded.
+pub(crate) type Judged = Result<bool, Malformed>;
+
+// The word of eight bytes, high byte first.
+pub(crate) fn word(b: &[u8]) -> u64
+    requires { length b.now ≡ 8 }
 {
-    let mut v: u64 = 0;
-    let mut i = 0;
-    while i < 8 {
-        v = v % 0x100_0000_0000_0000 * 256 + wide(bytes[p + i]);
-        i += 1;
-    }
-    v
+    u64::from_be_bytes([b[0], b[1], b[2], b[3], b[4], b[5], b[6], b[7]])
 }
 
-fn wide(x: u8) -> u64
-    ensures { result < 256 }
+// The words of bytes.
+pub(crate) fn unpack(bytes: &[u8], words: &mut [u64])
+    requires { 8 * length words.old ≤ length bytes.now }
 {
-    x as u64
+    for i in 0..words.len() {
+        words[i] = word(&bytes[8 * i..8 * i + 8]);
+    }
 }
 
-// n words from the front of bytes.
-pub(crate) fn unpack(bytes: &[u8], n: usize, words: &mut [u64])
-    requires { (8 * n ≤ length bytes.now) × (n ≤ length words.old) }
-    ensures { length words.new ≡ length words.old }
+// A number from low to most.
+pub(crate) fn within(v: u64, low: u32, most: u32) -> Result<u32, Malformed>
+    ensures { IfOk result (λ n. (low ≤ n) × (n ≤ most)) }
 {
-    let mut i = 0;
-    while i < n {
-        let v = word_at(bytes, 8 * i);
-        words[i] = v;
-        i += 1;
+    let n = u32::try_from(v)?;
+    if n < low || n > most {
+        return Err(Malformed);
     }
-}
-
-// The number that the word's bits are.
-pub(crate) fn signed(u: u64) -> i64 {
-    if u < 0x8000_0000_0000_0000 {
-        u as i64
-    } else {
-        !((!u) as i64)
-    }
-}
-
-pub(crate) fn judged(same: bool) -> Verdict {
-    if same {
-        Verdict::Same
-    } else {
-        Verdict::Differs
-    }
+    Ok(n)
 }

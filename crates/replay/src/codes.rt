@@ -3,26 +3,21 @@ ghost use Rattle.std.specs.Prelude.{◌+◌, ◌*◌, ◌≤◌, ◌≡◌, leng
 ghost use Rattle.codewords.specs.Code.Writer.{Room, Wrote};
 ghost use Rattle.replay.specs.Code.Put.{bits_of, Legal};
 
-use crate::case::Verdict;
+use crate::case::{self, Judged, Malformed};
 use codewords::writer::BitWriter;
 
-pub(crate) fn uint_len(w: &[u64]) -> Verdict {
-    if w.len() != 2 {
-        return Verdict::Malformed;
-    }
-    let v = w[0];
-    if v > 0xFFFF_FFFF {
-        return Verdict::Malformed;
-    }
-    crate::case::judged(codewords::uint_code_len(v as u32) as u64 == w[1])
+pub(crate) fn uint_len(w: &[u64]) -> Judged {
+    let [v, len] = w else {
+        return Err(Malformed);
+    };
+    Ok(u64::from(codewords::uint_code_len(u32::try_from(*v)?)) == *len)
 }
 
-pub(crate) fn sint_len(w: &[u64]) -> Verdict {
-    if w.len() != 2 {
-        return Verdict::Malformed;
-    }
-    let v = crate::case::signed(w[0]);
-    crate::case::judged(codewords::sint_code_len(v) as u64 == w[1])
+pub(crate) fn sint_len(w: &[u64]) -> Judged {
+    let [v, len] = w else {
+        return Err(Malformed);
+    };
+    Ok(u64::from(codewords::sint_code_len(v.cast_signed())) == *len)
 }
 
 // What a case puts behind the ones.
@@ -33,14 +28,14 @@ enum Put {
     Nbits(u32, u64),
 }
 
-fn put_one(out: &mut [u8], w: BitWriter, p: Put) -> BitWriter
-    requires { Room out.old w (length (bits_of p)) × Legal p }
-    ensures { Wrote out.old w (bits_of p) out.new result }
+fn put_one(out: &mut [u8], w: &mut BitWriter, p: Put)
+    requires { Room out.old w.old (length (bits_of p)) × Legal p }
+    ensures { Wrote out.old w.old (bits_of p) out.new w.new }
 {
     match p {
-        Put::Uint(v) => codewords::bitio::put_uint(out, w, v),
-        Put::Sint(v) => codewords::bitio::put_sint(out, w, v),
-        Put::Nbits(n, v) => codewords::bitio::put_nbits(out, w, v, n),
+        Put::Uint(v) => w.put_uint(out, v),
+        Put::Sint(v) => w.put_sint(out, v),
+        Put::Nbits(n, v) => w.put_nbits(out, v, n),
     }
 }
 
@@ -48,68 +43,45 @@ fn put_one(out: &mut [u8], w: BitWriter, p: Put) -> BitWriter
 fn put_all(out: &mut [u8], s: u64, p: Put) -> u64
     requires { (length out.old ≡ 24) × ((s ≤ 7) × Legal p) }
 {
-    let w = BitWriter {
-        at: 0,
-        pending: 0,
-        pending_bits: 0,
-    };
-    let a = codewords::bitio::put_ones(out, w, s);
-    let b = put_one(out, a, p);
-    let bits = b.at as u64 * 8 + b.pending_bits as u64;
-    codewords::bitio::byte_align(out, b);
+    let mut w = BitWriter::new(0);
+    w.put_ones(out, s);
+    put_one(out, &mut w, p);
+    let bits = w.at as u64 * 8 + u64::from(w.pending_bits);
+    w.byte_align(out);
     bits
 }
 
-// The recorded bits w[from], w[from + 1] .. are those of the case.
-fn agrees(w: &[u64], from: usize, s: u64, p: Put) -> Verdict
-    requires { (from + 1 ≤ length w.now) × Legal p }
+// The recorded bits, how many and packed, are those of s ones and p.
+fn agrees(s: u64, p: Put, bits: u64, packed: &[u64]) -> Judged
+    requires { Legal p }
 {
-    let bits = w[from];
-    if bits > 192 || s > 7 {
-        return Verdict::Malformed;
-    }
-    if w.len() - from - 1 != ((bits + 63) / 64) as usize {
-        return Verdict::Malformed;
+    if bits > 192 || s > 7 || packed.len() != bits.div_ceil(64) as usize {
+        return Err(Malformed);
     }
     let mut out = [0u8; 24];
-    let b = put_all(&mut out, s, p);
-    if b != bits {
-        return Verdict::Differs;
-    }
-    same_words(w, from + 1, &out)
+    let mut words = [0u64; 3];
+    let put = put_all(&mut out, s, p);
+    case::unpack(&out, &mut words);
+    Ok(put == bits && packed == &words[..packed.len()])
 }
 
-// The words from place from on are those of out.
-fn same_words(w: &[u64], from: usize, out: &[u8]) -> Verdict
-    requires { (from ≤ length w.now) × (8 * length w.now ≤ 8 * from + length out.now) }
-{
-    let mut k = from;
-    while k < w.len() {
-        if w[k] != crate::case::word_at(out, 8 * (k - from)) {
-            return Verdict::Differs;
-        }
-        k += 1;
-    }
-    Verdict::Same
+pub(crate) fn uint_bits(w: &[u64]) -> Judged {
+    let [s, v, bits, packed @ ..] = w else {
+        return Err(Malformed);
+    };
+    agrees(*s, Put::Uint(u32::try_from(*v)?), *bits, packed)
 }
 
-pub(crate) fn uint_bits(w: &[u64]) -> Verdict {
-    if w.len() < 3 || w[1] > 0xFFFF_FFFF {
-        return Verdict::Malformed;
-    }
-    agrees(w, 2, w[0], Put::Uint(w[1] as u32))
+pub(crate) fn sint_bits(w: &[u64]) -> Judged {
+    let [s, v, bits, packed @ ..] = w else {
+        return Err(Malformed);
+    };
+    agrees(*s, Put::Sint(v.cast_signed()), *bits, packed)
 }
 
-pub(crate) fn sint_bits(w: &[u64]) -> Verdict {
-    if w.len() < 3 {
-        return Verdict::Malformed;
-    }
-    agrees(w, 2, w[0], Put::Sint(crate::case::signed(w[1])))
-}
-
-pub(crate) fn nbits_bits(w: &[u64]) -> Verdict {
-    if w.len() < 4 || w[1] > 64 {
-        return Verdict::Malformed;
-    }
-    agrees(w, 3, w[0], Put::Nbits(w[1] as u32, w[2]))
+pub(crate) fn nbits_bits(w: &[u64]) -> Judged {
+    let [s, n, v, bits, packed @ ..] = w else {
+        return Err(Malformed);
+    };
+    agrees(*s, Put::Nbits(case::within(*n, 0, 64)?, *v), *bits, packed)
 }

@@ -1,48 +1,59 @@
 // Cases of jobs: what a recorded job prints.
-ghost use Rattle.std.specs.Prelude.{◌+◌, ◌/◌, ◌≤◌, ◌<◌, length};
+ghost use Rattle.std.specs.Prelude.{◌+◌, ◌*◌, ◌/◌, ◌≤◌, ◌<◌, length, IfOk};
 
-use crate::case::Verdict;
+use crate::case::{Judged, Malformed};
 
-// Byte i of the packed bytes that begin at word from.
-fn byte_at(w: &[u64], from: usize, i: usize) -> u8
-    requires { (from + i / 8 < length w.now) × (from ≤ 8192) }
-{
-    let k = from + i / 8;
-    let mut v = w[k];
-    let mut n = 7 - i % 8;
-    while 0 < n {
-        v /= 256;
-        n -= 1;
-    }
-    (v % 256) as u8
+// Bytes packed eight to a word, high byte first.
+#[derive(Clone, Copy)]
+struct Packed<'a> {
+    words: &'a [u64],
+    len: usize,
+    ghost within: { len ≤ 8 * length words.now },
 }
 
-// The first n packed bytes from word from on.
-fn load(w: &[u64], from: usize, n: usize, bytes: &mut [u8])
-    requires { (from + (n + 7) / 8 ≤ length w.now) × ((from ≤ 8192) × (n ≤ length bytes.old)) }
-{
-    let mut i = 0;
-    while i < n {
-        let b = byte_at(w, from, i);
-        bytes[i] = b;
-        i += 1;
+impl<'a> Packed<'a> {
+    // At most most bytes from the front of the words, how many they are and packed, and the words behind them.
+    fn take(w: &'a [u64], most: usize) -> Result<(Packed<'a>, &'a [u64]), Malformed>
+        ensures { IfOk result (λ r. r.0.len ≤ most) }
+    {
+        let [n, rest @ ..] = w else {
+            return Err(Malformed);
+        };
+        let len = *n as usize;
+        if len > most || rest.len() < len.div_ceil(8) {
+            return Err(Malformed);
+        }
+        let (words, behind) = rest.split_at(len.div_ceil(8));
+        Ok((Packed { words, len }, behind))
     }
-}
 
-// Whether the packed bytes from word from on are the text.
-fn same_text(w: &[u64], from: usize, text: &[u8]) -> bool
-    requires { (from + (length text.now + 7) / 8 ≤ length w.now) × (from ≤ 8192) }
-{
-    let n = text.len();
-    let mut i = 0;
-    while i < n {
-        let b = byte_at(w, from, i);
-        if b != text[i] {
+    fn byte(self, i: usize) -> u8
+        requires { i < self.len }
+    {
+        self.words[i / 8].to_be_bytes()[i % 8]
+    }
+
+    // The bytes, laid from the front of bytes on.
+    fn unpack(self, bytes: &mut [u8])
+        requires { self.len ≤ length bytes.old }
+    {
+        for i in 0..self.len {
+            bytes[i] = self.byte(i);
+        }
+    }
+
+    // Whether the bytes are the text.
+    fn is(self, text: &[u8]) -> bool {
+        if text.len() != self.len {
             return false;
         }
-        i += 1;
+        for i in 0..self.len {
+            if self.byte(i) != text[i] {
+                return false;
+            }
+        }
+        true
     }
-    true
 }
 
 // What the job prints: how long it is.
@@ -66,39 +77,22 @@ fn printed(bytes: &[u8], text: &mut [u8]) -> usize
     )
 }
 
-// The job of n bytes from word 1 on prints the m bytes from word from on.
-fn run(w: &[u64], n: usize, from: usize, m: usize) -> Verdict
-    requires { (1 + (n + 7) / 8 ≤ length w.now) × ((from + (m + 7) / 8 ≤ length w.now) × ((from ≤ 8192) × (n ≤ 16732))) }
+// Whether the job prints what was recorded.
+fn run(job: Packed<'_>, recorded: Packed<'_>) -> bool
+    requires { job.len ≤ 16732 }
 {
     let mut bytes = [0u8; 16732];
     let mut text = [0u8; 24640];
-    load(w, 1, n, &mut bytes);
-    let k = printed(&bytes[..n], &mut text);
-    if k != m {
-        return Verdict::Differs;
-    }
-    crate::case::judged(same_text(w, from, &text[..k]))
+    job.unpack(&mut bytes);
+    let n = printed(&bytes[..job.len], &mut text);
+    recorded.is(&text[..n])
 }
 
-pub(crate) fn job(w: &[u64]) -> Verdict {
-    if w.len() < 2 {
-        return Verdict::Malformed;
+pub(crate) fn job(w: &[u64]) -> Judged {
+    let (job, rest) = Packed::take(w, 16732)?;
+    let (recorded, rest) = Packed::take(rest, 24640)?;
+    if !rest.is_empty() {
+        return Err(Malformed);
     }
-    let n = w[0];
-    if n > 16732 {
-        return Verdict::Malformed;
-    }
-    let at = 1 + (n as usize + 7) / 8;
-    if w.len() <= at {
-        return Verdict::Malformed;
-    }
-    let m = w[at];
-    if m > 24640 {
-        return Verdict::Malformed;
-    }
-    let from = at + 1;
-    if w.len() != from + (m as usize + 7) / 8 {
-        return Verdict::Malformed;
-    }
-    run(w, n as usize, from, m as usize)
+    Ok(run(job, recorded))
 }

@@ -32,114 +32,83 @@ mod quant;
 mod tally;
 mod transform;
 
-ghost use Rattle.std.specs.Prelude.{◌*◌, ◌≤◌, ◌<◌, ◌≡◌, length};
+ghost use Rattle.std.specs.Prelude.{◌≡◌, IfOk, length};
+ghost use Rattle.replay.specs.Code.Case.{Held};
 
-use case::Verdict;
+use case::{Judged, Malformed};
 use jobs::input::read_full;
 use std::io::{self, Read};
 use tally::Tally;
 
-// A case of the quantiser is run.
-fn run_quant(kind: u64, w: &[u64]) -> Verdict {
-    match kind {
-        16 => quant::factor(w),
-        17 => quant::offset(w),
-        18 => quant::forward(w),
-        19 => quant::inverse(w),
-        20 => quant::matrix(w),
-        _ => Verdict::Malformed,
-    }
-}
-
-// A case of the transform or a job is run.
-fn run_transform(kind: u64, w: &[u64]) -> Verdict {
-    match kind {
-        32 => transform::row(w),
-        33 => transform::dwt(w),
-        34 => transform::long_row(w),
-        48 => job::job(w),
-        _ => run_quant(kind, w),
-    }
-}
-
 // Runs a case, by its kind.
-fn run_case(kind: u64, w: &[u64]) -> Verdict {
+fn run_case(kind: u64, w: &[u64]) -> Judged {
     match kind {
         1 => codes::uint_len(w),
         2 => codes::sint_len(w),
         3 => codes::uint_bits(w),
         4 => codes::sint_bits(w),
         5 => codes::nbits_bits(w),
-        _ => run_transform(kind, w),
+        16 => quant::index_case(w, quantiser::quant_factor),
+        17 => quant::index_case(w, quantiser::quant_offset),
+        18 => quant::number_case(w, quantiser::forward_quant),
+        19 => quant::number_case(w, quantiser::inverse_quant),
+        20 => quant::matrix(w),
+        32 => transform::row(w),
+        33 => transform::dwt(w),
+        34 => transform::long_row(w),
+        48 => job::job(w),
+        _ => Err(Malformed),
     }
 }
 
-// The words of a case whose n words were read into bytes are run.
-fn run_bytes(kind: u64, n: usize, bytes: &[u8], words: &mut [u64]) -> Verdict
-    requires { (8 * n ≤ length bytes.now) × (n ≤ length words.old) }
-{
-    case::unpack(bytes, n, words);
-    run_case(kind, &words[..n])
+// What comes next on the input: nothing, a case of some kind that is cut off or too long, or n words of one.
+enum Next {
+    End,
+    Cut(u64),
+    Case(u64, usize),
 }
 
-// One case more is read and run.
-fn step<R: Read>(
-    rt: &impl Print,
-    input: &mut R,
-    bytes: &mut [u8],
-    words: &mut [u64],
-    t: Tally,
-) -> io::Result<Tally>
+// Reads the next case's words.
+fn read_case<R: Read>(input: &mut R, bytes: &mut [u8], words: &mut [u64]) -> io::Result<Next>
     requires { (65536 ≡ length bytes.old) × (8192 ≡ length words.old) }
+    ensures { IfOk result (Held 8192) }
 {
     let head = read_full(input, &mut bytes[..8])?;
     if head == 0 {
-        return Ok(t.ended());
+        return Ok(Next::End);
     }
     if head < 8 {
-        return t.cut(rt, 0);
+        return Ok(Next::Cut(0));
     }
-    let first = case::word_at(bytes, 0);
-    let kind = first / 0x1_0000_0000;
+    let first = case::word(&bytes[..8]);
+    let kind = first >> 32;
     let n = (first % 0x1_0000_0000) as usize;
-    if n > 8192 {
-        return t.cut(rt, kind);
+    if n > 8192 || read_full(input, &mut bytes[..8 * n])? < 8 * n {
+        return Ok(Next::Cut(kind));
     }
-    let e = 8 * n;
-    let got = read_full(input, &mut bytes[..e])?;
-    if got < e {
-        return t.cut(rt, kind);
-    }
-    let v = run_bytes(kind, n, bytes, words);
-    t.counted(rt, kind, v)
+    case::unpack(bytes, &mut words[..n]);
+    Ok(Next::Case(kind, n))
 }
 
 // All cases, at most a million.
-fn replay<R: Read>(
-    rt: &impl Print,
-    input: &mut R,
-    bytes: &mut [u8],
-    words: &mut [u64],
-) -> io::Result<Tally>
-    requires { (65536 ≡ length bytes.old) × (8192 ≡ length words.old) }
-{
+fn replay<R: Read>(rt: &impl Print, input: &mut R) -> io::Result<Tally> {
+    let mut bytes = [0u8; 65536];
+    let mut words = [0u64; 8192];
     let mut t = Tally::new();
-    let mut turns: u64 = 1000000;
-    while 0 < turns {
-        t = step(rt, input, bytes, words, t)?;
-        if t.done {
-            turns = 0;
-        } else {
-            turns -= 1;
+    for _ in 0..1_000_000 {
+        match read_case(input, &mut bytes, &mut words)? {
+            Next::End => break,
+            Next::Cut(kind) => {
+                t.broken(rt, kind)?;
+                break;
+            }
+            Next::Case(kind, n) => t.count(rt, kind, run_case(kind, &words[..n]))?,
         }
     }
     Ok(t)
 }
 
 fn main(rt: HostRuntime) -> io::Result<()> {
-    let mut bytes = [0u8; 65536];
-    let mut words = [0u64; 8192];
     let mut input = rt.reader();
-    let t = replay(&rt, &mut input, &mut bytes, &mut words)?;
-    t.print(&rt)
+    replay(&rt, &mut input)?.print(&rt)
 }

@@ -1,96 +1,61 @@
 // Cases of the quantiser and the default matrices.
-ghost use Rattle.std.specs.Prelude.{◌+◌, ◌≤◌, length};
+use crate::case::{Judged, Malformed};
+use refusals::Refusal;
 
-use crate::case::Verdict;
-use quantiser::QuantAnswer;
-use quantiser::annex_d::DefaultMatrix;
-
-// The answer is the recorded number and value at the end of the words.
-fn agrees(a: QuantAnswer, number: u64, value: u64) -> Verdict {
+// The answer is the recorded number and value.
+fn agrees(a: Result<i64, Refusal>, number: u64, value: u64) -> bool {
     match a {
-        QuantAnswer::Value(z) => {
-            crate::case::judged(number == 0 && z == crate::case::signed(value))
-        }
-        QuantAnswer::Refused(n) => crate::case::judged(n as u64 == number && value == 0),
+        Ok(z) => number == 0 && z == value.cast_signed(),
+        Err(r) => number == u64::from(r.number()) && value == 0,
     }
 }
 
-pub(crate) fn factor(w: &[u64]) -> Verdict {
-    if w.len() != 3 || w[0] > 0xFFFF_FFFF {
-        return Verdict::Malformed;
-    }
-    agrees(quantiser::quant_factor(w[0] as u32), w[1], w[2])
-}
-
-pub(crate) fn offset(w: &[u64]) -> Verdict {
-    if w.len() != 3 || w[0] > 0xFFFF_FFFF {
-        return Verdict::Malformed;
-    }
-    agrees(quantiser::quant_offset(w[0] as u32), w[1], w[2])
-}
-
-pub(crate) fn forward(w: &[u64]) -> Verdict {
-    if w.len() != 4 || w[1] > 0xFFFF_FFFF {
-        return Verdict::Malformed;
-    }
-    let c = crate::case::signed(w[0]);
-    agrees(quantiser::forward_quant(c, w[1] as u32), w[2], w[3])
-}
-
-pub(crate) fn inverse(w: &[u64]) -> Verdict {
-    if w.len() != 4 || w[1] > 0xFFFF_FFFF {
-        return Verdict::Malformed;
-    }
-    let q = crate::case::signed(w[0]);
-    agrees(quantiser::inverse_quant(q, w[1] as u32), w[2], w[3])
-}
-
-// The value at place i is the recorded one, and 0 behind the last.
-fn agrees_at(w: &[u64], m: DefaultMatrix, i: usize) -> bool
-    requires { (5 ≤ length w.now) × (i + 1 ≤ 25) }
+// A call of an index.
+pub(crate) fn index_case<F: Fn(u32) -> Result<i64, Refusal>>(w: &[u64], call: F) -> Judged
+    requires { F.IsAlwaysCallable call }
 {
-    let v = m.values[i] as u64;
-    if i < w.len() - 5 {
-        v == w[5 + i]
-    } else {
-        v == 0
-    }
+    let [index, number, value] = w else {
+        return Err(Malformed);
+    };
+    Ok(agrees(call(u32::try_from(*index)?), *number, *value))
 }
 
-fn same_values(w: &[u64], m: DefaultMatrix) -> Verdict
-    requires { 5 ≤ length w.now }
+// A call of a coefficient or a number, and an index.
+pub(crate) fn number_case<F: Fn(i64, u32) -> Result<i64, Refusal>>(w: &[u64], call: F) -> Judged
+    requires { F.IsAlwaysCallable call }
 {
-    let mut i = 0;
-    while i < 25 {
-        if !agrees_at(w, m, i) {
-            return Verdict::Differs;
-        }
-        i += 1;
-    }
-    Verdict::Same
+    let [x, index, number, value] = w else {
+        return Err(Malformed);
+    };
+    Ok(agrees(
+        call(x.cast_signed(), u32::try_from(*index)?),
+        *number,
+        *value,
+    ))
 }
 
-pub(crate) fn matrix(w: &[u64]) -> Verdict {
-    if w.len() < 5 || w.len() > 30 {
-        return Verdict::Malformed;
-    }
-    if w[4] != (w.len() - 5) as u64 {
-        return Verdict::Malformed;
-    }
-    if w[0] > 0xFFFF_FFFF || w[1] > 0xFFFF_FFFF {
-        return Verdict::Malformed;
-    }
-    if w[2] > 0xFFFF_FFFF || w[3] > 0xFFFF_FFFF {
-        return Verdict::Malformed;
+// The matrix is the recorded values, with zeros behind them; none is found where none is recorded.
+fn same_values(m: Option<[u32; 25]>, values: &[u64]) -> bool {
+    let Some(m) = m else {
+        return values.is_empty();
+    };
+    !values.is_empty()
+        && m.iter().zip(values).all(|(a, b)| u64::from(*a) == *b)
+        && m.iter().skip(values.len()).all(|a| *a == 0)
+}
+
+pub(crate) fn matrix(w: &[u64]) -> Judged {
+    let [wavelet, wavelet_ho, depth, depth_ho, count, values @ ..] = w else {
+        return Err(Malformed);
+    };
+    if values.len() > 25 || *count != values.len() as u64 {
+        return Err(Malformed);
     }
     let m = quantiser::annex_d::default_quant_matrix(
-        w[0] as u32,
-        w[1] as u32,
-        w[2] as u32,
-        w[3] as u32,
+        u32::try_from(*wavelet)?,
+        u32::try_from(*wavelet_ho)?,
+        u32::try_from(*depth)?,
+        u32::try_from(*depth_ho)?,
     );
-    if m.found != (w.len() > 5) {
-        return Verdict::Differs;
-    }
-    same_values(w, m)
+    Ok(same_values(m, values))
 }

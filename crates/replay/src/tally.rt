@@ -1,30 +1,38 @@
 // What was run, and what came of it.
 ghost use Rattle.std.specs.Prelude.{◌<◌};
 
-use crate::case::Verdict;
+use crate::case::Judged;
 use std::io;
+
+// The kinds of cases, with their names.
+const KINDS: [(usize, &str); 14] = [
+    (1, "uint_code_len"),
+    (2, "sint_code_len"),
+    (3, "put_uint"),
+    (4, "put_sint"),
+    (5, "put_nbits"),
+    (16, "quant_factor"),
+    (17, "quant_offset"),
+    (18, "forward_quant"),
+    (19, "inverse_quant"),
+    (20, "default_quant_matrix"),
+    (32, "oned_analysis"),
+    (33, "dwt"),
+    (34, "long row"),
+    (48, "job"),
+];
 
 #[derive(Clone, Copy)]
 pub(crate) struct Tally {
-    pub done: bool,
-    pub cases: u64,
-    pub malformed: u64,
-    pub run: [u64; 64],
-    pub differ: [u64; 64],
-}
-
-fn more(n: u64) -> u64 {
-    if n < 1000000 { n + 1 } else { n }
-}
-
-fn say(rt: &impl Print, text: &str, number: u64, kind: u64) -> io::Result<()> {
-    println!(rt; "{text} case {number} kind {kind}")
+    cases: u64,
+    malformed: u64,
+    run: [u64; 64],
+    differ: [u64; 64],
 }
 
 impl Tally {
     pub(crate) fn new() -> Tally {
         Tally {
-            done: false,
             cases: 0,
             malformed: 0,
             run: [0; 64],
@@ -32,78 +40,47 @@ impl Tally {
         }
     }
 
-    // The input has ended.
-    pub(crate) fn ended(mut self) -> Tally {
-        self.done = true;
-        self
-    }
-
-    // A case that is cut off or too long: the run ends.
-    pub(crate) fn cut(self, rt: &impl Print, kind: u64) -> io::Result<Tally> {
-        let mut t = self.broken(rt, kind)?;
-        t.done = true;
-        Ok(t)
-    }
-
-    fn broken(mut self, rt: &impl Print, kind: u64) -> io::Result<Tally> {
-        self.cases = more(self.cases);
-        self.malformed = more(self.malformed);
-        say(rt, "malformed", self.cases, kind)?;
-        Ok(self)
-    }
-
-    fn ran(mut self, kind: usize) -> Tally
-        requires { kind < 64 }
-    {
-        self.cases = more(self.cases);
-        self.run[kind] = more(self.run[kind]);
-        self
-    }
-
-    fn differs(mut self, rt: &impl Print, kind: usize) -> io::Result<Tally>
-        requires { kind < 64 }
-    {
-        self.differ[kind] = more(self.differ[kind]);
-        say(rt, "differs", self.cases, kind as u64)?;
-        Ok(self)
-    }
-
-    // One case more. A kind from 64 on is always malformed.
-    pub(crate) fn counted(self, rt: &impl Print, kind: u64, v: Verdict) -> io::Result<Tally> {
-        if kind >= 64 {
-            return self.broken(rt, kind);
-        }
-        let k = kind as usize;
+    // One case more, and what came of it. A kind from 64 on is always malformed.
+    pub(crate) fn count(&mut self, rt: &impl Print, kind: u64, v: Judged) -> io::Result<()> {
         match v {
-            Verdict::Malformed => self.broken(rt, kind),
-            Verdict::Same => Ok(self.ran(k)),
-            Verdict::Differs => self.ran(k).differs(rt, k),
+            Ok(same) if kind < 64 => self.ran(rt, kind as usize, same),
+            _ => self.broken(rt, kind),
         }
     }
 
-    fn line(self, rt: &impl Print, name: &str, kind: usize) -> io::Result<()>
-        requires { kind < 64 }
-    {
-        let run = self.run[kind];
-        let differ = self.differ[kind];
-        println!(rt; "{name}: {run} run, {differ} differ")
+    // One case more that is malformed.
+    pub(crate) fn broken(&mut self, rt: &impl Print, kind: u64) -> io::Result<()> {
+        self.cases = self.cases.saturating_add(1);
+        self.malformed = self.malformed.saturating_add(1);
+        println!(rt; "malformed case {} kind {kind}", self.cases)
     }
 
-    pub(crate) fn print(self, rt: &impl Print) -> io::Result<()> {
-        self.line(rt, "uint_code_len", 1)?;
-        self.line(rt, "sint_code_len", 2)?;
-        self.line(rt, "put_uint", 3)?;
-        self.line(rt, "put_sint", 4)?;
-        self.line(rt, "put_nbits", 5)?;
-        self.line(rt, "quant_factor", 16)?;
-        self.line(rt, "quant_offset", 17)?;
-        self.line(rt, "forward_quant", 18)?;
-        self.line(rt, "inverse_quant", 19)?;
-        self.line(rt, "default_quant_matrix", 20)?;
-        self.line(rt, "oned_analysis", 32)?;
-        self.line(rt, "dwt", 33)?;
-        self.line(rt, "long row", 34)?;
-        self.line(rt, "job", 48)?;
+    // One case more that was run.
+    fn ran(&mut self, rt: &impl Print, kind: usize, same: bool) -> io::Result<()>
+        requires { kind < 64 }
+    {
+        self.cases = self.cases.saturating_add(1);
+        self.run[kind] = self.run[kind].saturating_add(1);
+        if same {
+            return Ok(());
+        }
+        self.differ[kind] = self.differ[kind].saturating_add(1);
+        println!(rt; "differs case {} kind {kind}", self.cases)
+    }
+
+    fn line(&self, rt: &impl Print, name: &str, kind: usize) -> io::Result<()>
+        requires { kind < 64 }
+    {
+        println!(rt;
+            "{name}: {} run, {} differ",
+            self.run[kind], self.differ[kind]
+        )
+    }
+
+    pub(crate) fn print(&self, rt: &impl Print) -> io::Result<()> {
+        for (kind, name) in &KINDS {
+            self.line(rt, name, *kind)?;
+        }
         println!(rt; "malformed: {}", self.malformed)
     }
 }

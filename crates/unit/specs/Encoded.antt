@@ -1,17 +1,16 @@
 -- What the picture call leaves: answer, output and work slice as the definition's outcome has them, demand 3, and what
 -- the count of cut slices says.
-use Rattle.std.specs.Prelude.{◌≡◌, ◌↔◌, List, [], ◌∷◌, ℕ, zero, suc, ℤ, length, take}
+use Rattle.std.specs.Prelude.{◌≡◌, ◌↔◌, List, [], ◌∷◌, ℕ, zero, suc, ℤ, length, take, Ok}
+use Rattle.refusals.specs.Number.{number_of}
 use Rattle.unit.specs.declared.Settings.{Settings}
 use Rattle.unit.specs.declared.Coded.{Coded}
-use Rattle.unit.specs.declared.Answer.{Answer}
-use Rattle.unit.specs.declared.Answer.TheVariants.{Accepted}
 use Rattle.unit.specs.Three.{Three}
 use Rattle.unit.specs.Rules.{or_else}
 use Rattle.unit.specs.Refusal.{refusal_of}
 use Rattle.unit.specs.Plan.{Plan}
 use Rattle.unit.specs.Unit.{plan_of, length_of}
 use Rattle.unit.specs.Cut.{cut_count}
-use Rattle.unit.specs.Outcome.{number_of, tells, scaler_in, coding_refusal, outcome_of}
+use Rattle.unit.specs.Outcome.{Answer, tells, scaler_in, coding_refusal, outcome_of}
 use Rattle.unit.specs.Demand.{Undropped, Demand3}
 
 -- the answer's number: that of the first rule of 1 to 13 that is broken, else of the first one that coding finds
@@ -37,7 +36,7 @@ pub record Encodes (s : Settings) (m : List ℕ) (p : Three (List ℕ)) (out : L
   pub output : out' ≡ (outcome_of s m p out work).output
   pub work_left : work' ≡ (outcome_of s m p out work).work
   -- an accepted call: demand 3 of the bytes that the answer counts, as they now stand in the output
-  pub demand : (c : Coded) → r ≡ Accepted c → Demand3 s m p (take c.written out')
+  pub demand : (c : Coded) → r ≡ Ok c → Demand3 s m p (take c.written out')
   -- its count of cut slices is 0 just where no slice has dropped a number that is not 0, a premise of demand 3's `near`
   -- and `samples`
-  pub uncut : (c : Coded) → r ≡ Accepted c → (c.cut_slices ≡ 0) ↔ Undropped (plan_of s m p)
+  pub uncut : (c : Coded) → r ≡ Ok c → (c.cut_slices ≡ 0) ↔ Undropped (plan_of s m p)

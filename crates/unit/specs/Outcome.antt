@@ -1,9 +1,9 @@
 -- The outcome of a picture call: document 01, "Answers that turn a call away".
-use Rattle.std.specs.Prelude.{◌||◌, List, [], ◌∷◌, ◌++◌, ℕ, zero, suc, ltb, ℤ, pos, length, drop, replicate}
+use Rattle.std.specs.Prelude.{◌||◌, List, [], ◌∷◌, ◌++◌, ℕ, zero, suc, ltb, ℤ, pos, length, drop, replicate, Result, Ok, Err}
+use Rattle.refusals.specs.declared.Refusal.{Refusal}
+use Rattle.refusals.specs.Number.{number, refusal_by}
 use Rattle.unit.specs.declared.Settings.{Settings}
 use Rattle.unit.specs.declared.Coded.{Coded}
-use Rattle.unit.specs.declared.Answer.{Answer}
-use Rattle.unit.specs.declared.Answer.TheVariants.{Accepted, Refused}
 use Rattle.unit.specs.Limits.{unit_limit}
 use Rattle.unit.specs.Three.{Three}
 use Rattle.unit.specs.Rules.{Rule, rule, first}
@@ -13,20 +13,19 @@ use Rattle.unit.specs.Plan.{Plan}
 use Rattle.unit.specs.Cut.{cut_count}
 use Rattle.unit.specs.Unit.{plan_of, length_of, unit_of}
 
--- document 01's number of an answer: 0 where the call is accepted
-abbrev pub number_of : Answer → ℕ
-number_of (Accepted c) = 0
-number_of (Refused n) = n
+-- the answer of a picture call: what an accepted one tells of its unit, or why it is refused
+abbrev pub Answer : Type 0
+Answer = Result Coded Refusal
 
 -- what an answer tells: its number and, for an accepted call, its values: length, cut slices and final scaler
 abbrev pub tells : Answer → List ℕ
-tells (Accepted c) = 0 ∷ c.written ∷ c.cut_slices ∷ c.slice_size_scaler ∷ []
-tells (Refused n) = n ∷ []
+tells (Ok c) = 0 ∷ c.written ∷ c.cut_slices ∷ c.slice_size_scaler ∷ []
+tells (Err r) = number r ∷ []
 
 -- the length that an answer gives: 0 where the call is refused
 abbrev pub length_in : Answer → ℕ
-length_in (Accepted c) = c.written
-length_in (Refused n) = 0
+length_in (Ok c) = c.written
+length_in (Err r) = 0
 
 -- the final scaler; in low delay the setting's
 abbrev pub scaler_in : SliceParameters → ℕ → ℕ
@@ -60,8 +59,8 @@ coding_refusal len n = first (coding_rules len n)
 -- the rest of it stays, and the work slice is filled with zeros
 abbrev pub coded_if : Settings → Plan → List ℕ → List ℤ → ℕ → Outcome
 coded_if s a out work zero =
-    record { answer = Accepted (coded_of s a); output = unit_of s a ++ drop (length_of s a) out; work = replicate (length work) (pos 0) }
-coded_if s a out work (suc n) = record { answer = Refused (suc n); output = replicate (length out) 0; work = replicate (length work) (pos 0) }
+    record { answer = Ok (coded_of s a); output = unit_of s a ++ drop (length_of s a) out; work = replicate (length work) (pos 0) }
+coded_if s a out work (suc n) = record { answer = Err (refusal_by (suc n)); output = replicate (length out) 0; work = replicate (length work) (pos 0) }
 
 abbrev pub coded : Settings → Plan → List ℕ → List ℤ → Outcome
 coded s a out work = coded_if s a out work (coding_refusal (length out) (length_of s a))
@@ -69,7 +68,7 @@ coded s a out work = coded_if s a out work (coding_refusal (length out) (length_
 -- the outcome by the number of the first of rules 1 to 13 that is broken: a refusal leaves both slices as they came
 abbrev pub outcome_if : Settings → List ℕ → Three (List ℕ) → List ℕ → List ℤ → ℕ → Outcome
 outcome_if s m p out work zero = coded s (plan_of s m p) out work
-outcome_if s m p out work (suc n) = record { answer = Refused (suc n); output = out; work = work }
+outcome_if s m p out work (suc n) = record { answer = Err (refusal_by (suc n)); output = out; work = work }
 
 -- the outcome of a call: settings, lent matrix, planes, and the output and work slices as they came
 unfoldable pub outcome_of : Settings → List ℕ → Three (List ℕ) → List ℕ → List ℤ → Outcome

@@ -3,7 +3,7 @@
 -- (wavelet/RowCall), so an encoder that leaves anything else at one of these calls breaks that contract. At each call
 -- stands what the definition gives (`right`), and that it is not what wrong encoders left there (`apart`): each
 -- was built without proof from edited code, and run at that call.
-use Rattle.std.specs.Prelude.{◌≡◌, refl, Bool, true, false, ◌&&◌, ◌||◌, ℕ, ◌+◌, eqb, pos, length, replicate, set}
+use Rattle.std.specs.Prelude.{◌≡◌, refl, Bool, true, false, ◌&&◌, ◌||◌, ℕ, ◌+◌, eqb, pos, length, replicate, set, Ok, Err}
 use mathlib.Core.List.{List, [], ◌∷◌, ◌++◌, map, flatten}
 use Rattle.laws.specs.Wrap.{wrap}
 use Rattle.codewords.specs.Bit.{lit}
@@ -17,7 +17,7 @@ use Rattle.wavelet.specs.Lifting.{within, dot, delta, lifted, analysis}
 use Rattle.wavelet.specs.Filters.{legall, haar0, fidelity, analysis_by}
 use Rattle.wavelet.specs.Planes.{rows_by, dwt_h, dwt}
 use Rattle.wavelet.specs.RowCall.{answer_of}
-use Rattle.unit.specs.declared.Answer.TheVariants.{Accepted, Refused}
+use Rattle.refusals.specs.declared.Refusal.TheVariants as refused
 use Rattle.unit.specs.Three.{Three, planes}
 use Rattle.unit.specs.Sizes.{luma_size, colour_size, intlog2, depths_of}
 use Rattle.unit.specs.Subbands.{padded_size, work_needed}
@@ -125,7 +125,7 @@ among xs (ys ∷ yss) = same xs ys || among xs yss
 pub record Gives (c : ℕ) (ws m : List ℕ) (p : Three (List ℕ)) (cut scaler : ℕ) (bs : List ℕ) (wrong : List (List ℕ)) : Type 0 where
   pub right : outcome ws m p (17 + length bs)
       ≡ record {
-        answer = Accepted (record { written = 17 + length bs; cut_slices = cut; slice_size_scaler = scaler });
+        answer = Ok (record { written = 17 + length bs; cut_slices = cut; slice_size_scaler = scaler });
         output = unit c bs;
         work = replicate (work_needed (settings_of ws)) (pos 0);
       }
@@ -185,7 +185,7 @@ pub record WrongEncoders : Type 0 where
       ∷ [])
   pub short_output :
       Leaves (outcome job [] (luma (128 ∷ [])) 22)
-      (record { answer = Refused 14; output = replicate 22 0; work = replicate 9 (pos 0) })
+      (record { answer = Err refused.Unit; output = replicate 22 0; work = replicate 9 (pos 0) })
       -- never_14 writes what there is room for of a unit longer than the output
       (left 23 0 1 0xE8 (0x32 ∷ 0x64 ∷ 0x00 ∷ 0x00 ∷ 0x00 ∷ [])
       -- leaves_output_at_14 says 14 and leaves the output as it came
@@ -369,7 +369,7 @@ pub record WrongEncoders : Type 0 where
   -- clears_when_refused answers 13 too, and clears the work slice.
   pub short_work_lem :
       outcome_of (settings_of job) [] (luma (128 ∷ [])) (0xAA ∷ []) (replicate 8 (pos 5))
-      ≡ record { answer = Refused 13; output = 0xAA ∷ []; work = replicate 8 (pos 5) }
+      ≡ record { answer = Err refused.Work; output = 0xAA ∷ []; work = replicate 8 (pos 5) }
   -- The first rule that each of these calls breaks.
   pub numbers :
       GivesList

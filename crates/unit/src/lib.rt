@@ -2,6 +2,8 @@
 // and what it gives back of a unit stand in specs/. There is no code here.
 #![tactic(auto)]
 
+use refusals::Refusal;
+
 #[derive(Clone, Copy)]
 pub enum PictureKind {
     LowDelay,
@@ -47,8 +49,5 @@ pub struct Coded {
     pub slice_size_scaler: u32,
 }
 
-#[derive(Clone, Copy)]
-pub enum Answer {
-    Accepted(Coded),
-    Refused(u32),
-}
+// The answer of a picture call.
+pub type Answer = Result<Coded, Refusal>;

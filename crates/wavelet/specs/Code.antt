@@ -5,6 +5,7 @@ pub mod Table
 pub mod Run
 pub mod Columns
 pub mod Copy
+pub mod Count
 pub mod Level
 pub mod Walk
 pub mod Component

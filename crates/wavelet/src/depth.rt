@@ -6,14 +6,15 @@ ghost use Rattle.wavelet.specs.Depth.{deep_filter, depth_limit, too_deep};
 fn deep_filter(i: u32) -> bool
     ensures { result ≡ deep_filter i }
 {
-    (i == 1) | ((i == 3) | (i == 4))
+    matches!(i, 1 | 3 | 4)
 }
 
 // The most that the two depths may sum to, by the two wavelet indices.
+#[tactic(auto, unfolding(crate::specs::Depth::depth_limit))]
 fn depth_limit(i: u32, j: u32) -> u32
     ensures { result ≡ depth_limit i j }
 {
-    if deep_filter(i) & deep_filter(j) {
+    if deep_filter(i) && deep_filter(j) {
         8
     } else {
         5

@@ -1,6 +1,7 @@
 // The wavelet layer: the analysis of rows and planes (wavelet.rs, and the analysis of transform.rs).
 #![tactic(auto)]
 
+ghost use Rattle.refusals.specs.Number.{number_of};
 ghost use Rattle.wavelet.specs.RowCall.{Analysed};
 
 mod arith;
@@ -9,18 +10,22 @@ pub mod depth;
 mod lift;
 pub mod pad;
 mod plane;
+mod shape;
+mod stage;
 
-// The analysis of a row by a wavelet index, in place: 0, or with the row unchanged 1 (no such index) or 15 (the row is
-// too long). Open to the box.
-pub fn oned_analysis(row: &mut [i64], index: u32) -> u32
-    ensures { Analysed index row.old row.new result }
+use refusals::Refusal;
+
+// The analysis of a row by a wavelet index, in place: refused, with the row unchanged, where there is no such index and
+// where the row is too long. Open to the box.
+pub fn oned_analysis(row: &mut [i64], index: u32) -> Result<(), Refusal>
+    ensures { Analysed index row.old row.new (number_of result) }
 {
     if index > 6 {
-        return 1;
+        return Err(Refusal::Wavelets);
     }
     if row.len() > 65536 {
-        return 15;
+        return Err(Refusal::Row);
     }
     lift::analyse(row, index as usize);
-    0
+    Ok(())
 }

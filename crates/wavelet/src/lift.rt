@@ -1,27 +1,15 @@
 // Lifting stages (ST 2042-1, 15.4.4.1) and the analysis of a row by all stages of a filter.
-ghost use Rattle.std.specs.Prelude.{◌≡◌, ◌+◌, ◌/◌, ◌^◌, ◌<◌, ◌≤◌, length, pos, ◌+ℤ◌};
+ghost use Rattle.std.specs.Prelude.{◌≡◌, ◌+◌, ◌/◌, ◌^◌, ◌<◌, ◌≤◌, length, not, pos, ◌+ℤ◌};
 ghost use Rattle.std.specs.Int.Signed.{shr_z};
 ghost use Rattle.laws.specs.Wrap.{wrap};
 ghost use Rattle.wavelet.specs.Lifting.{within, place, change, lifted};
 ghost use Rattle.wavelet.specs.Filters.{filter_of, analysis_by};
-ghost use Rattle.wavelet.specs.Code.Table.{stage_of, Legal, Staged};
-ghost use Rattle.wavelet.specs.Code.Run.{taps_to, ran, Placed, Moves, TapsIn, TapIn, RunIn, two_taps, two_places};
+ghost use Rattle.wavelet.specs.Code.Table.{stage_of, stage_at};
+ghost use Rattle.wavelet.specs.Code.Run.{taps_to, ran, Placed, Moves, TapsIn, RunIn, two_taps, two_places};
 ghost use Rattle.wavelet.specs.RowCall.{row_limit};
 
 use crate::arith;
-
-// A stage: to is 0 where it goes to the even places and 1 where it goes to the odd ones; the standard's D is ahead less
-// back; the first count of the taps are its own.
-#[derive(Clone, Copy)]
-pub(crate) struct LiftStage {
-    pub to: usize,
-    pub adds: bool,
-    pub shift: u32,
-    pub ahead: usize,
-    pub back: usize,
-    pub count: usize,
-    pub taps: [i64; 8],
-}
+use crate::stage::LiftStage;
 
 // The stages of all filters: those of filter i begin at 2 i.
 const STAGES: [LiftStage; 16] = [
@@ -181,42 +169,38 @@ const STAGES: [LiftStage; 16] = [
 // Stage j of the table.
 pub(crate) fn stage(j: usize) -> LiftStage
     requires { j < 16 }
-    ensures { Staged j result }
+    ensures { stage_of result ≡ stage_at j }
 {
     STAGES[j]
 }
 
 // A place near c of the other parity than to, kept inside a row of len.
+#[tactic(auto, unfolding(crate::specs::Lifting::within))]
 fn within(to: usize, len: usize, c: usize) -> usize
     requires { (to ≤ 1) × ((1 < len) × (c < 2 ^ 32)) }
     ensures { result ≡ within to len c }
 {
     let e = 1 - to;
-    let p = arith::monus(2 * c, e);
-    let q = arith::least(p, len - 1 - to);
-    arith::most(e, q)
+    (2 * c).saturating_sub(e).min(len - 1 - to).max(e)
 }
 
 // The place that tap k reads for update n of a row of len.
 fn place(s: LiftStage, len: usize, n: usize, k: usize) -> usize
-    requires { Legal s × ((len ≤ row_limit) × ((n < len / 2) × (k < 8))) }
+    requires { (len ≤ row_limit) × ((n < len / 2) × (k < 8)) }
     ensures { (result ≡ place (stage_of s) len n k) × (result < len) }
 {
-    let c = arith::monus(n + k + s.ahead, s.back);
+    let c = (n + k + s.ahead).saturating_sub(s.back);
     within(s.to, len, c)
 }
 
 // The places that the taps read for update n, each times w.
 pub(crate) fn places(s: LiftStage, len: usize, n: usize, w: usize) -> [usize; 8]
-    requires { Legal s × ((len ≤ row_limit) × ((n < len / 2) × (w ≤ row_limit))) }
+    requires { (len ≤ row_limit) × ((n < len / 2) × (w ≤ row_limit)) }
     ensures { Placed (stage_of s) len n w result }
 {
     let mut o = [0usize; 8];
-    let mut k = 0;
-    while k < 8 {
-        let p = place(s, len, n, k);
-        o[k] = p * w;
-        k += 1;
+    for k in 0..8 {
+        o[k] = place(s, len, n, k) * w;
     }
     o
 }
@@ -224,62 +208,40 @@ pub(crate) fn places(s: LiftStage, len: usize, n: usize, w: usize) -> [usize; 8]
 // How many updates from n on read places that move on by 2 with each: in the middle of a row, where no place is
 // clamped, all up to its end.
 fn run_length(s: LiftStage, len: usize, n: usize) -> usize
-    requires { Legal s × ((len ≤ row_limit) × (n < len / 2)) }
+    requires { (len ≤ row_limit) × (n < len / 2) }
     ensures { Moves (stage_of s) len n result }
 {
     if n + s.ahead <= s.back {
         return 1;
     }
     let half = len / 2;
-    let end = arith::monus(half + s.back + 1, s.count + s.ahead);
-    arith::most(1, arith::monus(arith::least(half, end), n))
+    let end = (half + s.back + 1).saturating_sub(s.count + s.ahead);
+    half.min(end).saturating_sub(n).max(1)
 }
 
-// A sum with one tap more: tap k times the number at its place, moved by x. Two and four taps are built of it, so that
-// a sum has no loop.
-fn one_tap(a: &[i64], s: LiftStage, o: [usize; 8], x: usize, k: usize, sum: i64) -> i64
-    requires { TapIn a.now s o x k sum 1 }
-    ensures { result ≡ taps_to s.taps o x a.now (k + 1) }
+// The sum of the first N taps, their places moved by x. The compiler knows N, and makes no loop of it.
+fn sum_of<const N: usize>(a: &[i64], s: LiftStage, o: [usize; 8], x: usize) -> i64
+    requires { TapsIn a.now s.count o x × (N ≤ s.count) }
+    ensures { result ≡ taps_to s.taps o x a.now N }
 {
-    let p = o[k] + x;
-    let y = a[p];
-    let t = s.taps[k];
-    arith::wrapping_add_i64(sum, arith::wrapping_mul_i64(t, y))
-}
-
-fn two_taps(a: &[i64], s: LiftStage, o: [usize; 8], x: usize, k: usize, sum: i64) -> i64
-    requires { TapIn a.now s o x k sum 2 }
-    ensures { result ≡ taps_to s.taps o x a.now (k + 2) }
-{
-    let r = one_tap(a, s, o, x, k, sum);
-    one_tap(a, s, o, x, k + 1, r)
-}
-
-fn four_taps(a: &[i64], s: LiftStage, o: [usize; 8], x: usize, k: usize, sum: i64) -> i64
-    requires { TapIn a.now s o x k sum 4 }
-    ensures { result ≡ taps_to s.taps o x a.now (k + 4) }
-{
-    let r = two_taps(a, s, o, x, k, sum);
-    two_taps(a, s, o, x, k + 2, r)
+    let mut sum = 0i64;
+    for k in 0..N {
+        sum = sum.wrapping_add(arith::wrapping_mul_i64(s.taps[k], a[o[k] + x]));
+    }
+    sum
 }
 
 // The sum of all taps, their places moved by x.
 fn tap_sum(a: &[i64], s: LiftStage, o: [usize; 8], x: usize) -> i64
-    requires { TapsIn a.now s o x }
+    requires { TapsIn a.now s.count o x }
     ensures { result ≡ taps_to s.taps o x a.now s.count }
 {
-    let count = s.count;
-    if count == 1 {
-        return one_tap(a, s, o, x, 0, 0);
+    match s.count {
+        1 => sum_of::<1>(a, s, o, x),
+        2 => sum_of::<2>(a, s, o, x),
+        4 => sum_of::<4>(a, s, o, x),
+        _ => sum_of::<8>(a, s, o, x),
     }
-    if count == 2 {
-        return two_taps(a, s, o, x, 0, 0);
-    }
-    let r = four_taps(a, s, o, x, 0, 0);
-    if count == 4 {
-        return r;
-    }
-    four_taps(a, s, o, x, 4, r)
 }
 
 // Half of 2 ^ shift, the rounding constant.
@@ -287,8 +249,7 @@ fn rounding(shift: u32) -> i64
     requires { shift ≤ 12 }
     ensures { result ≡ pos (2 ^ shift / 2) }
 {
-    let one: u64 = 1;
-    ((one << shift) / 2) as i64
+    ((1u64 << shift) / 2) as i64
 }
 
 // A sum, rounded and shifted.
@@ -296,8 +257,7 @@ fn scaled(sum: i64, shift: u32) -> i64
     requires { shift ≤ 12 }
     ensures { result ≡ shr_z (wrap (sum +ℤ pos (2 ^ shift / 2))) (2 ^ shift) }
 {
-    let z = arith::wrapping_add_i64(sum, rounding(shift));
-    z >> shift
+    sum.wrapping_add(rounding(shift)) >> shift
 }
 
 // x with d added or taken away.
@@ -305,9 +265,9 @@ fn change(plus: bool, x: i64, d: i64) -> i64
     ensures { result ≡ change wrap plus x d }
 {
     if plus {
-        arith::wrapping_add_i64(x, d)
+        x.wrapping_add(d)
     } else {
-        arith::wrapping_sub_i64(x, d)
+        x.wrapping_sub(d)
     }
 }
 
@@ -321,18 +281,14 @@ fn run_taps(
     count: usize,
     step: usize,
 )
-    requires { RunIn a.old s o p count step }
+    requires { RunIn a.old s.count o p count step }
     ensures { a.new ≡ ran (stage_of s) plus o p step count a.old }
 {
-    let mut i = 0;
-    while i < count {
+    for i in 0..count {
         let x = step * i;
         let d = scaled(tap_sum(a, s, o, x), s.shift);
         let k = p + x;
-        let v = a[k];
-        let y = change(plus, v, d);
-        a[k] = y;
-        i += 1;
+        a[k] = change(plus, a[k], d);
     }
 }
 
@@ -349,25 +305,16 @@ fn run_two(
     count: usize,
     step: usize,
 )
-    requires { RunIn a.old (two_taps t shift) (two_places i j) p count step }
-    ensures { a.new ≡ ran (stage_of (two_taps t shift)) plus (two_places i j) p step count a.old }
+    requires { RunIn a.old 2 (two_places i j) p count step × (shift ≤ 12) }
+    ensures { a.new ≡ ran (two_taps t shift) plus (two_places i j) p step count a.old }
 {
-    let mut n = 0;
-    while n < count {
+    for n in 0..count {
         let x = step * n;
-        let e = i + x;
-        let u = a[e];
-        let f = j + x;
-        let v = a[f];
-        let d = scaled(
-            arith::wrapping_mul_i64(t, arith::wrapping_add_i64(u, v)),
-            shift,
-        );
+        let u = a[i + x];
+        let v = a[j + x];
+        let d = scaled(arith::wrapping_mul_i64(t, u.wrapping_add(v)), shift);
         let k = p + x;
-        let w = a[k];
-        let y = change(plus, w, d);
-        a[k] = y;
-        n += 1;
+        a[k] = change(plus, a[k], d);
     }
 }
 
@@ -382,40 +329,35 @@ pub(crate) fn run(
     count: usize,
     step: usize,
 )
-    requires { RunIn a.old s o p count step }
+    requires { RunIn a.old s.count o p count step }
     ensures { a.new ≡ ran (stage_of s) plus o p step count a.old }
 {
-    let taps = s.count;
     let t = s.taps[0];
-    let t1 = s.taps[1];
-    if taps == 2 && t == t1 {
-        let shift = s.shift;
-        let i = o[0];
-        let j = o[1];
+    if s.count == 2 && t == s.taps[1] {
         // the literal lets the compiler drop the multiplication
         if t == 1 {
-            run_two(a, plus, 1, shift, i, j, p, count, step);
-            return;
+            run_two(a, plus, 1, s.shift, o[0], o[1], p, count, step);
+        } else {
+            run_two(a, plus, t, s.shift, o[0], o[1], p, count, step);
         }
-        run_two(a, plus, t, shift, i, j, p, count, step);
-        return;
+    } else {
+        run_taps(a, s, plus, o, p, count, step);
     }
-    run_taps(a, s, plus, o, p, count, step);
 }
 
-// One lifting stage of a row; plus says whether the deltas are added.
-fn lift(a: &mut [i64], s: LiftStage, plus: bool)
-    requires { Legal s × (length a.old ≤ row_limit) }
-    ensures { a.new ≡ lifted wrap (stage_of s) plus (length a.old / 2) a.old }
+// One lifting stage of a row, undone.
+fn lift(a: &mut [i64], s: LiftStage)
+    requires { length a.old ≤ row_limit }
+    ensures { a.new ≡ lifted wrap (stage_of s) (not s.adds) (length a.old / 2) a.old }
 {
     let len = a.len();
     let half = len / 2;
     let mut n = 0;
+    // a step is as long as run_length says
     while n < half {
         let m = run_length(s, len, n);
         let o = places(s, len, n, 1);
-        let k = 2 * n + s.to;
-        run(a, s, plus, o, k, m, 2);
+        run(a, s, !s.adds, o, 2 * n + s.to, m, 2);
         n += m;
     }
 }
@@ -433,11 +375,7 @@ pub(crate) fn analyse(row: &mut [i64], index: usize)
     requires { (index ≤ 6) × (length row.old ≤ row_limit) }
     ensures { row.new ≡ analysis_by wrap index row.old }
 {
-    let mut k = stage_count(index);
-    while k > 0 {
-        k -= 1;
-        let s = stage(2 * index + k);
-        let adds = s.adds;
-        lift(row, s, !adds);
+    for k in (0..stage_count(index)).rev() {
+        lift(row, stage(2 * index + k));
     }
 }

@@ -12,19 +12,16 @@ use Rattle.codewords.proofs.sint_code_len.Goals.{After-unsigned_abs-m}
 
 -- a signed argument is passed as its bits, and read back
 is-abs : (c : After-unsigned_abs-m) → c.unsigned_abs-m.result ≡ nat_abs c.args.v
-is-abs c = c.unsigned_abs-m.ensures.0 ∙ ap nat_abs (to_z-of_z {w = w64} c.ranges.v)
+is-abs c = c.unsigned_abs-m.ensures.value ∙ ap nat_abs (to_z-of_z {w = w64} c.ranges.v)
 
 pub returns-then-m-eq0 : goal.returns-then-m-eq0
 returns-then-m-eq0 c = sym (length-code_s-zero c.args.v (sym (is-abs (goal.at.returns-then-m-eq0 c).After-unsigned_abs-m) ∙ c.if-m-eq0.true))
 
-pub overflow_sub-result : goal.overflow_sub-result
-overflow_sub-result c = omega (arith, leading_log2 64 (c.unsigned_abs-m.result + 1) (omega arith) (omega arith))
-
-pub returns : goal.returns
-returns c =
+pub returns-else-m-eq0 : goal.returns-else-m-eq0
+returns-else-m-eq0 c =
     let v = c.args.v in
     let m = c.unsigned_abs-m.result in
-    let e : m ≡ nat_abs v = is-abs (goal.at.returns c).After-unsigned_abs-m in
+    let e : m ≡ nat_abs v = is-abs (goal.at.returns-else-m-eq0 c).After-unsigned_abs-m in
     let p : 0 < m = omega arith in
     omega (
       arith,

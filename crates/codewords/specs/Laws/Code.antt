@@ -1,6 +1,6 @@
 -- Laws of code words: lengths by the leading one, a word by its parts, a signed word by its sign.
 use Rattle.std.specs.Prelude.{◌≡◌, refl, Bool, true, false, List, [], ◌∷◌, ◌++◌, ℕ, zero, suc, ◌+◌, ◌-◌, ◌*◌, ◌/◌, ◌^◌, ◌≤◌, ◌<◌, length, ℤ, pos, negsuc, nat_abs}
-use Rattle.std.proofs.Common.{sym, ap, ◌∙◌, append_assoc, append-nil, le_refl, le_trans, le_antisymm, le_of_eq, lt_of_le_of_lt, lt_of_not-le, not-le_of_lt, le_of_suc-le-suc, pow-suc, arith, length-append, pow_mono}
+use Rattle.std.proofs.Common.{sym, ap, ◌∙◌, append_assoc, append-nil, le_refl, le_trans, le_antisymm, le_of_eq, lt_of_le_of_lt, lt_of_not-le, not-le_of_lt, le_of_suc-le-suc, pow-suc, arith, length-append, pow_mono, pow_pos}
 use Rattle.std.proofs.Math.Arith.{half_le}
 use Rattle.std.proofs.Math.Dec.{leb-suc-zero}
 use Rattle.std.specs.Int.Signed.{lt_z}
@@ -43,6 +43,11 @@ leading_log2 k w p h =
     let t = leading_top k w p h in
     let same : t.0 ≡ log2 w = top_unique w _ _ (record { low = t.2; high = rw pow-suc at t.3 }) (log2-top w p) in
     rw (← same) t.1
+
+-- and its whole logarithm
+pub log2_is : (w k : ℕ) → 2 ^ k ≤ w → w < 2 * 2 ^ k → k ≡ log2 w
+log2_is w k l h =
+    top_unique w k (log2 w) (record { low = l; high = omega arith }) (log2-top w (omega (arith, pow_pos k)))
 
 -- the bits below the leading one of v + 1 say v + 1, read on from 1
 pub value-code : (v : ℕ) → value 1 (lit (log2 (v + 1)) (v + 1)) ≡ v + 1

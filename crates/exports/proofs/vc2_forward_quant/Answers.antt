@@ -5,20 +5,11 @@ use mir.Syntax.{w64}
 use mir.Facts.{to_z-of_z}
 use Rattle.quantiser.specs.Quant.{forward_quant}
 use Rattle.quantiser.specs.Answer.{Answered}
-use Rattle.exports.specs.Laws.Calls.{gives_value, gives_refused}
+use Rattle.exports.specs.Laws.Calls.{gives}
 use Rattle.exports.proofs.vc2_forward_quant.Goals as goal
-use Rattle.exports.proofs.vc2_forward_quant.Goals.{After-forward_quant-a}
 
--- the number handed on is the one that came
-answered : (c : After-forward_quant-a) → let a = c.args in Answered a.index (forward_quant a.coeff a.index) c.forward_quant-a.result
-answered c =
+pub returns : goal.returns
+returns c =
     let a = c.args in
-    subst (λ (z : ℤ). Answered a.index (forward_quant z a.index) c.forward_quant-a.result) (to_z-of_z {w = w64} c.ranges.coeff) c.forward_quant-a.ensures
-
-pub returns-in-Value : goal.returns-in-Value
-returns-in-Value c =
-    gives_value c.args.index _ c.args.value.now _ c.forward_quant-a.result (answered (goal.at.returns-in-Value c).After-forward_quant-a) c.in-Value.is c.in-Value.known_told-1-own.given.0.1
-
-pub returns-in-Refused : goal.returns-in-Refused
-returns-in-Refused c =
-    gives_refused c.args.index _ _ c.args.value.now c.forward_quant-a.result (answered (goal.at.returns-in-Refused c).After-forward_quant-a) c.in-Refused.is
+    let h = subst (λ (z : ℤ). Answered a.index (forward_quant z a.index) c.forward_quant.result) (to_z-of_z {w = w64} c.ranges.coeff) c.forward_quant.ensures in
+    gives a.index _ a.value.now _ c.give.result c.forward_quant.result h c.give.ensures.0 c.give.ensures.1

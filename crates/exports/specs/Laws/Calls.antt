@@ -1,59 +1,53 @@
 -- The entry points' outcomes from what the calls inside leave.
-use Rattle.std.specs.Prelude.{◌≡◌, refl, ◌↔◌, Bool, true, false, cond, List, ℕ, zero, suc, ◌^◌, ◌<◌, ltb, ℤ, length, take}
+use Rattle.std.specs.Prelude.{◌≡◌, refl, ◌↔◌, Bool, true, false, cond, List, ℕ, zero, suc, ◌^◌, ◌<◌, ltb, ℤ, length, take, Result, Ok, Err}
 use Rattle.std.proofs.Common.{sym, ◌∙◌, arith, to_z, of_z}
 use Rattle.std.proofs.Math.Path.{ap}
 use Rattle.std.specs.Int.Signed.{mag}
 use Rattle.std.specs.Int.{w64}
-use Rattle.quantiser.specs.declared.QuantAnswer.{QuantAnswer}
-use Rattle.quantiser.specs.declared.QuantAnswer.TheVariants as quant
-use Rattle.quantiser.specs.Answer as answer
+use Rattle.refusals.specs.declared.Refusal.{Refusal}
+use Rattle.refusals.specs.declared.Refusal.TheVariants.{Index}
+use Rattle.refusals.specs.Number.{number, number_of, refusal_by}
+use Rattle.refusals.specs.Laws.Number.{number_some}
 use Rattle.quantiser.specs.Answer.{answer_of, Answered}
 use Rattle.quantiser.specs.Laws.Step.{back}
 use Rattle.unit.specs.declared.Settings.{Settings}
 use Rattle.unit.specs.declared.Coded.{Coded}
-use Rattle.unit.specs.declared.Answer.{Answer}
-use Rattle.unit.specs.declared.Answer.TheVariants.{Accepted, Refused}
 use Rattle.unit.specs.Three.{Three}
 use Rattle.unit.proofs.Laws.Test.{no_truth}
 use Rattle.unit.specs.Refusal.{refusal_of}
 use Rattle.unit.specs.Plan.{Plan}
 use Rattle.unit.specs.Unit.{plan_of, length_of}
 use Rattle.unit.specs.Words.{known, settings_of}
-use Rattle.unit.specs.Outcome.{Outcome, number_of, coding_refusal, coded_if, outcome_if, outcome_of}
+use Rattle.unit.specs.Outcome.{Answer, Outcome, coding_refusal, coded_if, outcome_if, outcome_of}
 use Rattle.unit.proofs.Laws.Demand.{is_accepted}
 use Rattle.unit.specs.Demand.{Undropped, Demand3}
 use Rattle.unit.specs.Encoded.{Encodes}
-use Rattle.exports.specs.Calls.{Gives, Values, values_of, Left, left_if, left_of, Picture}
+use Rattle.exports.specs.Calls.{left_by, Gives, Values, values_of, Left, left_if, left_of, Picture}
 
 -- ---- the four quantiser calls, by the answer a of the call inside
--- what is behind the reference after an answer
-abbrev leaves : QuantAnswer → ℤ → ℤ
-leaves (quant.Value v) before = v
-leaves (quant.Refused n) before = before
+left_if_lem : (b : Bool) (z before : ℤ) → left_by (cond b (Err Index) (Ok z)) before ≡ cond b before z
+left_if_lem true z before = refl
+left_if_lem false z before = refl
 
-leaves_by : (b : Bool) (z before : ℤ) → leaves (cond b (quant.Refused 6) (quant.Value z)) before ≡ cond b before z
-leaves_by true z before = refl
-leaves_by false z before = refl
-
-leaves_answer : (i : ℕ) (z before : ℤ) → leaves (answer_of i z) before ≡ cond (ltb 255 i) before z
+left_answer : (i : ℕ) (z before : ℤ) → left_by (answer_of i z) before ≡ cond (ltb 255 i) before z
 unfolding answer_of
-leaves_answer i z before = leaves_by (ltb 255 i) z before
+left_answer i z before = left_if_lem (ltb 255 i) z before
 
-gives : (i : ℕ) (z before after : ℤ) (r : ℕ) (a : QuantAnswer) → Answered i z a → r ≡ answer.number_of a → after ≡ leaves a before → Gives i z before after r
+pub gives : (i : ℕ) (z before after : ℤ) (r : ℕ) (a : Result ℤ Refusal) → Answered i z a → r ≡ number_of a → after ≡ left_by a before → Gives i z before after r
 gives i z before after r a h e f = record {
   number = e ∙ h.number;
-  value = f ∙ ap (λ (a : QuantAnswer). leaves a before) h.is ∙ leaves_answer i z before;
+  value = f ∙ ap (λ (a : Result ℤ Refusal). left_by a before) h.is ∙ left_answer i z before;
 }
 
 -- a value v goes there, by its bits
-pub gives_value : (i : ℕ) (z before v : ℤ) (a : QuantAnswer) → Answered i z a → a ≡ quant.Value v → mag v < 2 ^ 63 → Gives i z before (to_z w64 (of_z w64 v)) 0
+pub gives_value : (i : ℕ) (z before v : ℤ) (a : Result ℤ Refusal) → Answered i z a → a ≡ Ok v → mag v < 2 ^ 63 → Gives i z before (to_z w64 (of_z w64 v)) 0
 gives_value i z before v a h e l =
-    gives i z before (to_z w64 (of_z w64 v)) 0 a h (ap answer.number_of (sym e)) (back v l ∙ ap (λ (a : QuantAnswer). leaves a before) (sym e))
+    gives i z before (to_z w64 (of_z w64 v)) 0 a h (ap number_of (sym e)) (back v l ∙ ap (λ (a : Result ℤ Refusal). left_by a before) (sym e))
 
 -- a refused index leaves what stood there
-pub gives_refused : (i n : ℕ) (z before : ℤ) (a : QuantAnswer) → Answered i z a → a ≡ quant.Refused n → Gives i z before before n
-gives_refused i n z before a h e =
-    gives i z before before n a h (ap answer.number_of (sym e)) (ap (λ (a : QuantAnswer). leaves a before) (sym e))
+pub gives_refused : (i : ℕ) (r : Refusal) (z before : ℤ) (a : Result ℤ Refusal) → Answered i z a → a ≡ Err r → Gives i z before before (number r)
+gives_refused i r z before a h e =
+    gives i z before before (number r) a h (ap number_of (sym e)) (ap (λ (a : Result ℤ Refusal). left_by a before) (sym e))
 
 -- ---- the picture call
 -- an outcome of number 0 is an accepted one
@@ -64,11 +58,11 @@ module _ (s : Settings) (m : List ℕ) (p : Three (List ℕ)) (out : List ℕ) (
   -- coding that answers 0 is accepted
   coded-zero : (n : ℕ) → number_of (coded_if s a out work n).answer ≡ 0 → is_accepted (coded_if s a out work n).answer ≡ true
   coded-zero zero e = refl
-  coded-zero (suc n) e = absurd (omega (arith, e))
+  coded-zero (suc n) e = absurd (omega (arith, e, number_some (refusal_by (suc n))))
 
   outcome-zero : (n : ℕ) → number_of (outcome_if s m p out work n).answer ≡ 0 → is_accepted (outcome_if s m p out work n).answer ≡ true
   outcome-zero zero e = coded-zero (coding_refusal (length out) (length_of s a)) e
-  outcome-zero (suc n) e = absurd (omega (arith, e))
+  outcome-zero (suc n) e = absurd (omega (arith, e, number_some (refusal_by (suc n))))
 
   zero_accepted : number_of (outcome_of s m p out work).answer ≡ 0 → is_accepted (outcome_of s m p out work).answer ≡ true
   unfolding outcome_of
@@ -76,16 +70,16 @@ module _ (s : Settings) (m : List ℕ) (p : Three (List ℕ)) (out : List ℕ) (
 
   -- demand 3 and the count of an answer of number 0
   module _ (out' : List ℕ) (work' : List ℤ) (v : Values) where
-    not_refused : {A : Type 0} (n : ℕ) → Encodes s m p out work out' work' (Refused n) → number_of (Refused n) ≡ 0 → A
+    not_refused : {A : Type 0} (n : Refusal) → Encodes s m p out work out' work' (Err n) → number n ≡ 0 → A
     not_refused n h e = no_truth (sym (ap is_accepted h.answer ∙ zero_accepted (sym (ap number_of h.answer) ∙ e)))
 
     demand_zero : (r : Answer) → Encodes s m p out work out' work' r → number_of r ≡ 0 → Demand3 s m p (take (values_of r v).written out')
-    demand_zero (Accepted c) h e = h.demand c refl
-    demand_zero (Refused n) h e = not_refused n h e
+    demand_zero (Ok c) h e = h.demand c refl
+    demand_zero (Err n) h e = not_refused n h e
 
     uncut_zero : (r : Answer) → Encodes s m p out work out' work' r → number_of r ≡ 0 → ((values_of r v).cut ≡ 0) ↔ Undropped (plan_of s m p)
-    uncut_zero (Accepted c) h e = h.uncut c refl
-    uncut_zero (Refused n) h e = not_refused n h e
+    uncut_zero (Ok c) h e = h.uncut c refl
+    uncut_zero (Err n) h e = not_refused n h e
 
 left-same : (n k : ℕ) (o u : List ℕ) (w x : List ℤ) (a b : Values) → n ≡ k → o ≡ u → w ≡ x → a ≡ b
     → ◌≡◌ {A = Left} (record { number = n; output = o; work = w; values = a }) (record { number = k; output = u; work = x; values = b })
@@ -118,10 +112,18 @@ module _ (ws m : List ℕ) (p : Three (List ℕ)) (out : List ℕ) (work : List 
     encodes_as r' g = rw (← f, ← g) h
 
     -- an accepted call
-    pub picture_accepted : (c : Coded) → r ≡ Accepted c
+    pub picture_accepted : (c : Coded) → r ≡ Ok c
         → Picture ws m p out work v (record { number = 0; output = out'; work = work'; values = record { written = c.written; cut = c.cut_slices; scaler = c.slice_size_scaler } })
-    picture_accepted c g = encoded out' work' (Accepted c) e (encodes_as (Accepted c) g)
+    picture_accepted c g = encoded out' work' (Ok c) e (encodes_as (Ok c) g)
 
     -- a refused one
-    pub picture_refused : (n : ℕ) → r ≡ Refused n → Picture ws m p out work v (record { number = n; output = out'; work = work'; values = v })
-    picture_refused n g = encoded out' work' (Refused n) e (encodes_as (Refused n) g)
+    pub picture_refused : (n : Refusal) → r ≡ Err n → Picture ws m p out work v (record { number = number n; output = out'; work = work'; values = v })
+    picture_refused n g = encoded out' work' (Err n) e (encodes_as (Err n) g)
+
+    -- one with no value leaves the values that stood there
+    pub picture_kept : ((c : Coded) → r ≡ Ok c → ⊥) → Picture ws m p out work v (record { number = number_of r; output = out'; work = work'; values = v })
+    picture_kept n = by r refl
+      where
+        by : (r' : Answer) → r ≡ r' → Picture ws m p out work v (record { number = number_of r; output = out'; work = work'; values = v })
+        by (Ok c) g = absurd (n c g)
+        by (Err x) g = rw (ap number_of g) (picture_refused x g)

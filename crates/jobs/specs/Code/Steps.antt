@@ -1,6 +1,6 @@
 -- What the functions of the job program give, for their contracts.
 use Rattle.std.specs.Prelude.{◌≡◌, Bool, true, false, not, cond, ◌&&◌, ◌||◌, List, [], ◌∷◌, ℕ, ◌+◌, ◌*◌, ◌/◌, ◌%◌, ◌^◌, eqb, leb, ℤ, length, drop, get_or}
-use Rattle.unit.specs.declared.Answer.{Answer}
+use Rattle.unit.specs.Outcome.{Answer}
 use Rattle.jobs.specs.declared.parse.Ends.{Ends}
 use Rattle.jobs.specs.Job.{of_kind, in_order, hex_digit, outcome_in, text_of, job_text}
 

@@ -1,23 +1,22 @@
 -- From what the parts of the job program leave to what a job prints.
 use Rattle.std.specs.Prelude.{◌≡◌, refl, Bool, true, false, ◌&&◌, List, ◌++◌, map, ℕ, zero, suc, ◌+◌, ◌*◌, ◌-◌, ◌%◌, ◌≤◌, ℤ, length, take, drop}
-use Rattle.std.proofs.Common.{sym, ap, ap₂, ◌∙◌, append_assoc, arith, length-append, length-drop, take_all, take_at, drop_at, eq-eqb, ne_eqb}
+use Rattle.std.proofs.Common.{sym, ap, ap₂, ◌∙◌, append_assoc, arith, length-append, take_at, drop_at, eq-eqb, ne_eqb}
 use Rattle.std.proofs.lemmas.List.{map-append}
 use Rattle.laws.specs.Code.Laid.{Lays}
 use Rattle.unit.specs.declared.Settings.{Settings}
-use Rattle.unit.specs.declared.Answer.{Answer}
 use Rattle.unit.specs.Three.{Three, planes}
 use Rattle.unit.specs.Plan.{Plan}
 use Rattle.unit.specs.Unit.{plan_of, length_of}
 use Rattle.unit.specs.Refusal.{any_above, refusal_of}
 use Rattle.unit.specs.Words.{known, settings_of}
-use Rattle.unit.specs.Outcome.{tells, length_in, coded_of, coding_refusal, coded_if, coded, Outcome, outcome_if, outcome_of}
+use Rattle.unit.specs.Outcome.{Answer, tells, length_in, coded_of, coding_refusal, coded_if, coded, Outcome, outcome_if, outcome_of}
 use Rattle.unit.proofs.Laws.Demand.{not-long}
 use Rattle.unit.specs.Encoded.{Encodes}
 use Rattle.jobs.specs.declared.parse.Ends.{Ends}
 use Rattle.jobs.specs.Job.{words_of, content_of, parts_of, in_order, line_of, bytes_from, unit_in, text_of, job_text, outcome_in, printed}
 use Rattle.jobs.specs.Code.Steps.{ends_of, Called, printed_by}
 use Rattle.jobs.specs.Laws.Print.{lays_same, lays_read}
-use Rattle.jobs.specs.Laws.Parse.{part, part-long, part_join, length_part, contents_count, parted, ready}
+use Rattle.jobs.specs.Laws.Parse.{part, lent_rest, part-long, part_join, length_part, contents_count, parted, ready}
 
 -- ---- the call
 -- what a well-formed job allows, where matrix and samples have m and k places
@@ -58,7 +57,7 @@ loaded b ws b' i j h l n p =
 -- a part that is lent up to the end
 pub lent-to_end : {s : Settings} {m : List ℕ} (a b l : List ℕ) (i : ℕ) {out : List ℕ} {work : List ℤ} {out' : List ℕ} {work' : List ℤ} {r : Answer}
     → Encodes s m (planes a b (take (length l - i) (drop i l))) out work out' work' r → Encodes s m (planes a b (drop i l)) out work out' work' r
-lent-to_end a b l i h = rw (take_all (length l - i) (drop i l) (omega (arith, length-drop i l))) at h
+lent-to_end a b l i h = rw (lent_rest i l) at h
 
 -- luma and colours, one behind the other
 module _ (ws : List ℕ) (e : Ends) (ends : e ≡ ends_of ws) where

@@ -1,11 +1,13 @@
 -- Laws of a job's words: unpacked, taken apart kind by kind, and in order.
-use Rattle.std.specs.Prelude.{◌≡◌, refl, Bool, true, false, not, ◌&&◌, ◌||◌, List, [], ◌∷◌, ◌++◌, map, ℕ, zero, suc, ◌+◌, ◌*◌, ◌-◌, ◌/◌, ◌^◌, ◌≤◌, ◌<◌, leb, ltb, drop, get_or, set}
-use Rattle.std.proofs.Common.{sym, ap₂, ◌∙◌, zero-add, add-one, arith, length-drop, drop_of_length-le, take-suc, take_all, take-add, drop-cons, drop-drop, get_or-take, length-take-le, eqb-true, eq-eqb, ne_eqb, leb-true}
+use Rattle.std.specs.Prelude.{◌≡◌, refl, Bool, true, false, not, cond, ◌&&◌, ◌||◌, List, [], ◌∷◌, ◌++◌, map, ℕ, zero, suc, ◌+◌, ◌*◌, ◌-◌, ◌/◌, ◌%◌, ◌^◌, ◌≤◌, ◌<◌, leb, ltb, drop, get_or, set}
+use Rattle.std.proofs.Common.{sym, ltb-false, ap₂, ◌∙◌, zero-add, add-one, arith, length-drop, drop-cons, drop_of_length-le, take-suc, take_all, take-add, drop-drop, get_or-take, length-take-le, eqb-true, eq-eqb, ne_eqb, leb-true}
 use Rattle.std.proofs.Math.Path.{ap}
 use Rattle.std.proofs.Math.Bool.{or_assoc}
 use Rattle.std.proofs.lemmas.List.{map-append, length-map}
 use Rattle.std.proofs.Math.Nat.{add-sub_cancel_left}
 use Rattle.std.proofs.Math.Dec.{eqb}
+use Rattle.std.specs.List.{list_any, prefix_len}
+use Rattle.std.proofs.lemmas.List.Folds.{length-prefix_len}
 use Rattle.std.proofs.Math.ListN.{length, take, get_or-map}
 use Rattle.std.proofs.lemmas.Bool.{not-true}
 use Rattle.laws.specs.Code.Laid.{Lays}
@@ -20,14 +22,15 @@ use Rattle.jobs.specs.Code.Steps.{word_from, run_end, ends_of, counted}
 use Rattle.jobs.specs.Laws.Print.{lays_same, lays_one}
 
 -- ---- a slice filled from its front: the first i of vs are laid
-pub fill-next : {b b' : List ℕ} (vs : List ℕ) (i v : ℕ) → i < length vs → v ≡ get_or vs i 0 → Lays b 0 (take i vs) b' i → Lays b 0 (take (i + 1) vs) (set b' i v) (i + 1)
-fill-next {b} {b'} vs i v h e p = lays_same more (lays_on p (lays_one b' i v))
-  where
-    more : take i vs ++ (v ∷ []) ≡ take (i + 1) vs
-    more = rw (e, add-one i) (sym (take-suc vs i 0 h))
+module _ {A : Type 0} {b b' : List A} (vs : List A) (i : ℕ) where
+  pub fill-next : (v d : A) → i < length vs → v ≡ get_or vs i d → Lays b 0 (take i vs) b' i → Lays b 0 (take (i + 1) vs) (set b' i v) (i + 1)
+  fill-next v d h e p = lays_same more (lays_on p (lays_one b' i v))
+    where
+      more : take i vs ++ (v ∷ []) ≡ take (i + 1) vs
+      more = rw (e, add-one i) (sym (take-suc vs i d h))
 
-pub fill_all : {b b' : List ℕ} (vs : List ℕ) (i n : ℕ) → length vs ≡ n → i ≡ n → Lays b 0 (take i vs) b' i → Lays b 0 vs b' n
-fill_all vs i n h e p = rw e at (lays_same (take_all i vs (omega arith)) p)
+  pub fill_all : (n : ℕ) → length vs ≡ n → i ≡ n → Lays b 0 (take i vs) b' i → Lays b 0 vs b' n
+  fill_all n h e p = rw e at (lays_same (take_all i vs (omega arith)) p)
 
 -- ---- words of bytes
 -- how many there are
@@ -66,27 +69,30 @@ contents_count ws = length-map ws content_of
 pub content_at : (ws : List ℕ) (i : ℕ) → content_of (get_or ws i 0) ≡ get_or (map content_of ws) i 0
 content_at ws i = sym (get_or-map content_of ws i 0)
 
--- none is above 65,535
-pub content_small : (ws : List ℕ) (i : ℕ) → any_above 65535 (map content_of ws) ≡ false → content_of (get_or ws i 0) ≤ 65535
-content_small ws i h = rw (content_at ws i) (most-at 65535 (map content_of ws) ((all_most 65535 (map content_of ws)).0 h) i)
+-- the one at place i as value gives it, and how many there are
+pub value-at : {A : Type 0} (value : ℕ → A) (ws : List ℕ) (i : ℕ) → value (content_of (get_or ws i 0)) ≡ get_or (map value (map content_of ws)) i (value 0)
+value-at value ws i = ap value (content_at ws i) ∙ sym (get_or-map value (map content_of ws) i 0)
+
+pub values_count : {A : Type 0} (value : ℕ → A) (ws : List ℕ) → length (map value (map content_of ws)) ≡ length ws
+values_count value ws = length-map (map content_of ws) value ∙ contents_count ws
+
+-- the low 16 bits of contents of which none is above 65,535
+pub values_same : (vs : List ℕ) → any_above 65535 vs ≡ false → map (λ v. v % 65536) vs ≡ vs
+values_same [] h = refl
+values_same (v ∷ vs) h =
+    let t = (or-none (ltb 65535 v) (any_above 65535 vs)).0 h in
+    let l : v ≤ 65535 = ltb-false 65535 v t.0 in
+    ap₂ ◌∷◌ (omega arith) (values_same vs t.1)
+
+-- the test of all contents, word by word
+pub any_content : (ws : List ℕ) → list_any (λ w. ltb 65535 (content_of w)) ws ≡ any_above 65535 (map content_of ws)
+any_content [] = refl
+any_content (w ∷ ws) = ap (λ (b : Bool). ltb 65535 (content_of w) || b) (any_content ws)
 
 -- ---- words of a kind
 -- what stands in front, by the first word's kind
 abbrev front : ℕ → ℕ → List ℕ → Bool → List ℕ
 front k w ws b = elim b [ true ↦ w ∷ of_kind k ws | false ↦ [] ]
-
--- one more, and none
-kind_more : (k w : ℕ) (ws : List ℕ) → kind_of w ≡ k → of_kind k (w ∷ ws) ≡ w ∷ of_kind k ws
-unfolding of_kind
-kind_more k w ws e = ap (front k w ws) (eq-eqb (kind_of w) k e)
-
-kind_over : (k w : ℕ) (ws : List ℕ) → (kind_of w ≡ k → ⊥) → of_kind k (w ∷ ws) ≡ []
-unfolding of_kind
-kind_over k w ws h = ap (front k w ws) (ne_eqb (kind_of w) k h)
-
-kind_none : (k : ℕ) → of_kind k [] ≡ []
-unfolding of_kind
-kind_none k = refl
 
 -- the words of a kind stand in front
 kind_front : (k : ℕ) (ws : List ℕ) → of_kind k ws ≡ take (length (of_kind k ws)) ws
@@ -121,6 +127,30 @@ content_same (w ∷ ws) = by (eqb (kind_of w) 0) refl (content_same ws)
         ap₂ ◌∷◌ s same
     by false e same = refl
 
+-- one more, and none
+kind_more : (k w : ℕ) (ws : List ℕ) → kind_of w ≡ k → of_kind k (w ∷ ws) ≡ w ∷ of_kind k ws
+unfolding of_kind
+kind_more k w ws e = ap (front k w ws) (eq-eqb (kind_of w) k e)
+
+kind_over : (k w : ℕ) (ws : List ℕ) → (kind_of w ≡ k → ⊥) → of_kind k (w ∷ ws) ≡ []
+unfolding of_kind
+kind_over k w ws h = ap (front k w ws) (ne_eqb (kind_of w) k h)
+
+kind_none : (k : ℕ) → of_kind k [] ≡ []
+unfolding of_kind
+kind_none k = refl
+
+-- how many they are
+kind_count : (k : ℕ) (ws : List ℕ) → length (of_kind k ws) ≡ prefix_len (λ w. eqb (kind_of w) k) ws
+unfolding of_kind
+kind_count k [] = refl
+kind_count k (w ∷ ws) = by (eqb (kind_of w) k) (kind_count k ws)
+  where
+    by : (b : Bool) → length (of_kind k ws) ≡ prefix_len (λ w. eqb (kind_of w) k) ws
+        → length (front k w ws b) ≡ cond b (1 + prefix_len (λ w. eqb (kind_of w) k) ws) 0
+    by true e = omega arith
+    by false e = refl
+
 -- ---- where they end
 -- from place i on: the run is over, goes on, or the words are over; it ends within the words
 module _ (k : ℕ) (ws : List ℕ) (i : ℕ) where
@@ -135,6 +165,9 @@ module _ (k : ℕ) (ws : List ℕ) (i : ℕ) where
 
   pub run_over : length ws ≤ i → i ≡ run_end k ws i
   run_over h = let e = ap length (ap (of_kind k) (drop_of_length-le ws {i = i} h) ∙ kind_none k) in omega arith
+
+  pub run_is : {n : ℕ} → n ≡ length (take (prefix_len (λ w. eqb (kind_of w) k) (drop i ws)) (drop i ws)) → i + n ≡ run_end k ws i
+  run_is {n} h = omega (arith, h, kind_count k (drop i ws), length-prefix_len (λ w. eqb (kind_of w) k) (drop i ws))
 
   pub run-within : i ≤ length ws → run_end k ws i ≤ length ws
   run-within h = omega (arith, kind_few k (drop i ws), length-drop i ws)
@@ -152,6 +185,10 @@ part a e ws = take (e - a) (drop a ws)
 
 pub length_part : (a e : ℕ) (ws : List ℕ) → a ≤ e → e ≤ length ws → length (part a e ws) ≡ e - a
 length_part a e ws h l = length-take-le (e - a) (drop a ws) (rw (length-drop a ws) (omega arith))
+
+-- what is lent from place i up to the end
+pub lent_rest : (i : ℕ) (ws : List ℕ) → take (length ws - i) (drop i ws) ≡ drop i ws
+lent_rest i ws = take_all (length ws - i) (drop i ws) (omega (arith, length-drop i ws))
 
 -- the contents of a part
 pub part-long : (vs ws : List ℕ) (a e : ℕ) → vs ≡ map content_of (part a e ws) → a ≤ e → e ≤ length ws → length vs ≡ e - a
@@ -218,6 +255,10 @@ parted ws e h = rw h is
           c2_is = ap (λ (l : List ℕ). map content_of (of_kind 4 l)) b3 ∙ ap (map content_of) (kind_part 4 ws c1);
           rest_is = ap (behind 4) b3 ∙ behind_is 4 ws c1;
         }
+
+-- the ends of a job's words, one behind the other
+pub ends_rise : (ws : List ℕ) (e : Ends) → e ≡ ends_of ws → (e.settings ≤ e.matrix) × ((e.matrix ≤ e.y) × ((e.y ≤ e.c1) × ((e.c1 ≤ e.c2) × (e.c2 ≤ length ws))))
+ends_rise ws e h = let q = parted ws e h in (q.to-matrix, (q.to_y, (q.to_c1, (q.to_c2, q.within))))
 
 -- ---- tests
 -- the one last word
@@ -306,6 +347,11 @@ module _ (ws : List ℕ) (e : Ends) (ends : e ≡ ends_of ws) where
       let q = parted ws e ends in
       sym (length-take-le e.settings ws (omega (arith, q.to-matrix, q.to_y, q.to_c1, q.to_c2, q.within))) ∙ known-long (take e.settings ws) k
 
+  pub words_enough : known (take e.settings ws) ≡ true → 21 ≤ length ws
+  words_enough k =
+      let q = parted ws e ends in
+      omega (arith, settings_long k, q.to-matrix, q.to_y, q.to_c1, q.to_c2, q.within)
+
   -- the settings stand in front of all words
   setting_at : known (take e.settings ws) ≡ true → (i : ℕ) → i < 21 → word_at (take e.settings ws) i ≡ get_or ws i 0
   setting_at k i h = get_or-take e.settings ws i 0 (rw (settings_long k) h)
@@ -354,3 +400,11 @@ module _ (ws : List ℕ) (e : Ends) (ends : e ≡ ends_of ws) where
         samples_few = leb-true k 4096 t4.1;
         samples_small = ((or-none (any_above 65535 (map content_of (part e.settings e.matrix ws))) (any_above 65535 (map content_of (part e.matrix e.c2 ws)))).0 (sym split ∙ not-true large t3.1)).1;
       }
+
+  pub parts_few : in_order ws ≡ true → (e.matrix - e.settings ≤ 64) × (e.c2 - e.matrix ≤ 4096)
+  parts_few h = let d = ready h in (d.matrix_few, d.samples_few)
+
+-- ---- further laws
+-- no content is above 65,535
+pub content_small : (ws : List ℕ) (i : ℕ) → any_above 65535 (map content_of ws) ≡ false → content_of (get_or ws i 0) ≤ 65535
+content_small ws i h = rw (content_at ws i) (most-at 65535 (map content_of ws) ((all_most 65535 (map content_of ws)).0 h) i)

@@ -1,5 +1,5 @@
 -- Laws of the text: digits, lines and bytes as the loops write them.
-use Rattle.std.specs.Prelude.{◌≡◌, refl, Bool, true, false, cond, ◌||◌, List, [], ◌∷◌, ◌++◌, ℕ, zero, suc, ◌+◌, ◌*◌, ◌-◌, ◌/◌, ◌%◌, ◌^◌, ◌≤◌, ◌<◌, eqb, length, take, drop, get_or, set}
+use Rattle.std.specs.Prelude.{◌≡◌, refl, Bool, true, false, cond, ◌||◌, List, [], ◌∷◌, ◌++◌, ℕ, zero, suc, ◌+◌, ◌*◌, ◌-◌, ◌/◌, ◌%◌, ◌^◌, ◌≤◌, ◌<◌, eqb, length, take, drop, get_or, set, Ok, Err}
 use Rattle.std.proofs.Common.{sym, ap, ◌∙◌, append_assoc, append-nil, pow-suc, add-one, arith, length-append, length-drop, drop-cons, lt-ltb, le-ltb, eq-eqb, ne_eqb}
 use Rattle.std.proofs.Math.Decide.{dec_lt}
 use Rattle.std.proofs.Math.Seq.{drop-length}
@@ -7,20 +7,20 @@ use Rattle.laws.specs.Code.Chunks.{chunks}
 use Rattle.laws.specs.Laws.Chunks.{length-chunks}
 use Rattle.laws.specs.Code.Laid.{Lays}
 use Rattle.laws.specs.Laws.Laid.{lays_start, lays_on, lays_first, run_laid0}
-use Rattle.unit.specs.declared.Answer.{Answer}
-use Rattle.unit.specs.declared.Answer.TheVariants.{Accepted, Refused}
 use Rattle.unit.specs.declared.Coded.{Coded}
-use Rattle.unit.specs.Outcome.{tells, length_in}
+use Rattle.refusals.specs.declared.Refusal.{Refusal}
+use Rattle.refusals.specs.Number.{number}
+use Rattle.unit.specs.Outcome.{Answer, tells, length_in}
 use Rattle.jobs.specs.Job.{decimal_from, decimal, line_of, hex_digit, separator, bytes_from, unit_in}
 use Rattle.jobs.specs.Code.Steps.{chunk}
 
 -- ---- Lays
 -- a run that lies there, by an equal run
-pub lays_same : {b b' vs ws : List ℕ} {at r : ℕ} → vs ≡ ws → Lays b at vs b' r → Lays b at ws b' r
-lays_same {b} {b'} {vs} {ws} {at} {r} e p = rw e at p
+pub lays_same : {A : Type 0} {b b' vs ws : List A} {at r : ℕ} → vs ≡ ws → Lays b at vs b' r → Lays b at ws b' r
+lays_same {A} {b} {b'} {vs} {ws} {at} {r} e p = rw e at p
 
 -- one element
-pub lays_one : (b : List ℕ) (at v : ℕ) → Lays b at (v ∷ []) (set b at v) (at + 1)
+pub lays_one : {A : Type 0} (b : List A) (at : ℕ) (v : A) → Lays b at (v ∷ []) (set b at v) (at + 1)
 lays_one b at v = lays_first v (lays_start (set b at v) (at + 1))
 
 -- what was laid from the front on
@@ -94,8 +94,8 @@ unfolding line_of
 line-one n = refl
 
 -- an accepted call's line, number after number
-pub line-laid : {t t₁ t₂ t₃ t' : List ℕ} {i j k r : ℕ} (c : Coded) → Lays t 0 (decimal 0 ++ (32 ∷ [])) t₁ i → Lays t₁ i (decimal c.written ++ (32 ∷ [])) t₂ j
-    → Lays t₂ j (decimal c.cut_slices ++ (32 ∷ [])) t₃ k → Lays t₃ k (decimal c.slice_size_scaler ++ (10 ∷ [])) t' r → Lays t 0 (line_of (tells (Accepted c))) t' r
+pub line-laid : {t t₁ t₂ t₃ t' : List ℕ} {at i j k r : ℕ} (c : Coded) → Lays t at (decimal 0 ++ (32 ∷ [])) t₁ i → Lays t₁ i (decimal c.written ++ (32 ∷ [])) t₂ j
+    → Lays t₂ j (decimal c.cut_slices ++ (32 ∷ [])) t₃ k → Lays t₃ k (decimal c.slice_size_scaler ++ (10 ∷ [])) t' r → Lays t at (line_of (tells (Ok c))) t' r
 line-laid c p q s u =
     let v = lays_same (sym (line-one c.slice_size_scaler)) u in
     let w = lays_same (line-more c.cut_slices c.slice_size_scaler []) (lays_on s v) in
@@ -164,15 +164,15 @@ length_bytes bs = ap length (sym (text_is bs)) ∙ length_text bs (length bs)
 
 -- ---- answers
 -- the text of an answer
-pub refused_laid : {r : Answer} {t t' : List ℕ} {e : ℕ} (n : ℕ) (out : List ℕ) → r ≡ Refused n → Lays t 0 (decimal n ++ (10 ∷ [])) t' e
+pub refused_laid : {r : Answer} {t t' : List ℕ} {e : ℕ} (n : Refusal) (out : List ℕ) → r ≡ Err n → Lays t 0 (decimal (number n) ++ (10 ∷ [])) t' e
     → Lays t 0 (line_of (tells r) ++ bytes_from 0 (unit_in r out)) t' e
 unfolding line_of bytes_from
-refused_laid n out q p = rw q (lays_same (sym (append-nil (decimal n ++ (10 ∷ [])))) p)
+refused_laid n out q p = rw q (lays_same (sym (append-nil (decimal (number n) ++ (10 ∷ [])))) p)
 
-pub accepted_laid : {r : Answer} {t t₁ t' : List ℕ} {i e : ℕ} (c : Coded) (out : List ℕ) → r ≡ Accepted c → Lays t 0 (line_of (tells (Accepted c))) t₁ i
+pub accepted_laid : {r : Answer} {t t₁ t' : List ℕ} {i e : ℕ} (c : Coded) (out : List ℕ) → r ≡ Ok c → Lays t 0 (line_of (tells (Ok c))) t₁ i
     → Lays t₁ i (bytes_from 0 (take c.written out)) t' e → Lays t 0 (line_of (tells r) ++ bytes_from 0 (unit_in r out)) t' e
 accepted_laid c out h p q = rw h (lays_on p q)
 
 -- the room that an accepted call's unit needs
-pub accepted_room : {r : Answer} (c : Coded) (m n : ℕ) → r ≡ Accepted c → (length_in r ≤ m) × (44 + 3 * length_in r ≤ n) → (c.written ≤ m) × (44 + 3 * c.written ≤ n)
+pub accepted_room : {r : Answer} (c : Coded) (m n : ℕ) → r ≡ Ok c → (length_in r ≤ m) × (44 + 3 * length_in r ≤ n) → (c.written ≤ m) × (44 + 3 * c.written ≤ n)
 accepted_room c m n q h = rw q at h

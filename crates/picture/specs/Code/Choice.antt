@@ -1,5 +1,6 @@
 -- High quality as the code has it: needs, index, choice, bits and words of a slice by its numbers in the work slice.
 use Rattle.std.specs.Prelude.{◌≡◌, Bool, true, false, List, ◌++◌, ℕ, ◌+◌, ◌^◌, ◌≤◌, ℤ, length}
+use Rattle.std.specs.Coded.{Unit-prop, le_prop}
 use Rattle.laws.specs.Ceiling.{ceiling}
 use Rattle.laws.specs.Rows.{span}
 use Rattle.laws.specs.Code.Chunks.{chunks}
@@ -20,7 +21,7 @@ use Rattle.picture.specs.declared.slices.layout.Picture.{Picture}
 use Rattle.picture.specs.declared.high.size.Needs.{Needs}
 use Rattle.picture.specs.declared.high.packed.Packed.{Packed}
 use Rattle.picture.specs.declared.high.choice.Choice.{Choice}
-use Rattle.picture.specs.declared.high.size.Terms.{Terms}
+use Rattle.picture.specs.declared.high.plan.Terms.{Terms}
 use Rattle.picture.specs.Code.Strip.{Small}
 use Rattle.picture.specs.Code.Counts.{count_of}
 use Rattle.picture.specs.Code.Packed.{packed}
@@ -100,6 +101,15 @@ pub record TermsIn (t : Terms) : Type 0 where
   pub scaler : (1 ≤ t.scaler) × (t.scaler ≤ 2 ^ 24)
   pub bytes : t.bytes ≤ 2 ^ 30
   pub lo : t.lo ≤ last_index HighQuality
+
+-- these facts have one proof each
+rate_once : (r : RateControl) → IsProp (RateFits HighQuality r)
+rate_once Lossless = Unit-prop
+rate_once (FixedQuantIndex q) = le_prop
+rate_once (PictureBytes b) = le_prop
+
+pub terms_once : (t : Terms) → IsProp (TermsIn t)
+terms_once t = hlevel (rate_once t.rate, le_prop)
 
 -- slices can be planned
 pub record PlanIn (p : Picture) (t : Terms) (w : List ℤ) : Type 0 where

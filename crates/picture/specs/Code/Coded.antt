@@ -1,22 +1,21 @@
 -- A call that is not refused, before its work slice is cleared: what coding asks, and its answer and output by the
 -- plan.
-use Rattle.std.specs.Prelude.{◌≡◌, List, ◌++◌, ℕ, zero, suc, ◌+◌, ℤ, length, drop, replicate}
+use Rattle.std.specs.Prelude.{◌≡◌, List, ◌++◌, ℕ, zero, suc, ◌+◌, ℤ, length, drop, replicate, Ok, Err}
+use Rattle.refusals.specs.Number.{refusal_by}
 use Rattle.unit.specs.declared.Settings.{Settings}
 use Rattle.unit.specs.declared.PictureKind.{PictureKind}
-use Rattle.unit.specs.declared.Answer.{Answer}
-use Rattle.unit.specs.declared.Answer.TheVariants.{Accepted, Refused}
 use Rattle.unit.specs.Three.{Three}
 use Rattle.unit.specs.Plan.{Plan}
 use Rattle.unit.specs.Unit.{plan_of, length_of, unit_of}
-use Rattle.unit.specs.Outcome.{coded_of, coding_refusal}
+use Rattle.unit.specs.Outcome.{Answer, coded_of, coding_refusal}
 use Rattle.picture.specs.declared.slices.layout.Picture.{Picture}
 use Rattle.picture.specs.Code.Strip.{Small}
 use Rattle.picture.specs.Code.Analysed.{picture_of, front_of, Called, Analysed}
 
 -- the answer and the output of a plan, by the number of the first rule that coding finds broken
 abbrev pub answer_by : Settings → Plan → ℕ → Answer
-answer_by s a zero = Accepted (coded_of s a)
-answer_by s a (suc n) = Refused (suc n)
+answer_by s a zero = Ok (coded_of s a)
+answer_by s a (suc n) = Err (refusal_by (suc n))
 
 abbrev pub output_by : Settings → Plan → List ℕ → ℕ → List ℕ
 output_by s a out zero = unit_of s a ++ drop (length_of s a) out
@@ -40,5 +39,5 @@ pub record CodesAny (s : Settings) (m : List ℕ) (w : List ℤ) (out out' : Lis
 
 -- the output after a call that codes: zeros where it is refused
 abbrev pub cleared_by : Answer → List ℕ → List ℕ
-cleared_by (Accepted c) out = out
-cleared_by (Refused n) out = replicate (length out) 0
+cleared_by (Ok c) out = out
+cleared_by (Err r) out = replicate (length out) 0

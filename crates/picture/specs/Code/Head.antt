@@ -5,14 +5,15 @@ use Rattle.codewords.specs.CodeWord.{code_u}
 use Rattle.unit.specs.declared.Settings.{Settings}
 use Rattle.unit.specs.declared.PictureKind.{PictureKind}
 use Rattle.unit.specs.Slices.{slice_count}
-use Rattle.unit.specs.Parameters.{flagged, SliceParameters, low_delay, high_quality, overhead}
+use Rattle.unit.specs.Parameters.{flagged, Parameters, SliceParameters, low_delay, high_quality, overhead}
 use Rattle.unit.specs.LowDelay.{numerator_by}
 use Rattle.unit.specs.Unit.{major_version, grid_of, target_of, low_parameters, parse_code, parameters_by}
 use Rattle.picture.specs.declared.front.header.SliceParameters as code
 use Rattle.picture.specs.declared.front.header.SliceParameters.TheVariants.{LowDelay, HighQuality}
 use Rattle.picture.specs.declared.front.matrix.Carried.{Carried}
+use Rattle.picture.specs.declared.front.matrix.Call.{Call}
 use Rattle.unit.specs.Code.Valid.{Shaped}
-use Rattle.picture.specs.Code.Matrix.{Carries}
+use Rattle.picture.specs.Code.Matrix.{lent_in, Carries}
 
 -- ---- the parts
 -- 12.4.4, if the version has it
@@ -38,11 +39,23 @@ abbrev pub slice_in : code.SliceParameters → SliceParameters
 slice_in (LowDelay n d) = low_delay n d
 slice_in (HighQuality p c) = high_quality p c
 
--- what the header asks: the matrix of a call, and its shape
+-- the matrix of a call, and its shape
 pub record CanCarry (s : Settings) (c : Carried) : Type 0 where
   pub carries : Carries s c
   pub shape : Shaped s
 
+-- the parameters of a call with slice parameters p
+abbrev pub parameters_in : Call → code.SliceParameters → Parameters
+parameters_in k p = parameters_by k.settings (lent_in k.matrix) (slice_in p)
+
+-- how many bytes stand before the first slice
+abbrev pub overhead_in : Call → code.SliceParameters → ℕ
+overhead_in k p = overhead (major_version k.settings) (parameters_in k p)
+
+-- where the slices begin with scaler c
+abbrev pub slices_from : Call → ℕ → ℕ
+slices_from k c = overhead_in k (HighQuality k.settings.slice_prefix_bytes c)
+
 -- the head fits the output
-abbrev pub HeadRoom : Settings → List ℕ → code.SliceParameters → List ℕ → Type 0
-HeadRoom s m p out = overhead (major_version s) (parameters_by s m (slice_in p)) ≤ length out
+abbrev pub HeadRoom : Call → code.SliceParameters → List ℕ → Type 0
+HeadRoom k p out = overhead_in k p ≤ length out

@@ -1,15 +1,17 @@
 -- Where the subbands of a component stand in the work slice, what a slice has of each, and its numbers of all of them.
-use Rattle.std.specs.Prelude.{◌≡◌, Bool, cond, ◌&&◌, List, [], ◌++◌, ℕ, zero, suc, ◌+◌, ◌*◌, ◌-◌, ◌/◌, ◌^◌, ◌≤◌, ◌<◌, eqb, leb, ℤ, length, get_or}
+use Rattle.std.specs.Prelude.{◌≡◌, Bool, cond, ◌&&◌, List, [], ◌++◌, ℕ, zero, suc, ◌+◌, ◌*◌, ◌-◌, ◌/◌, ◌^◌, ◌≤◌, ◌<◌, eqb, leb, ℤ, length, get_or, unwrap_or, is_some, Some, None}
 use Rattle.quantiser.specs.Quant.{quant_factor, quant_offset, band_index}
 use Rattle.wavelet.specs.Depth.{deepest}
 use Rattle.unit.specs.Limits.{side_limit}
 use Rattle.unit.specs.Sizes.{Size, area}
 use Rattle.unit.specs.Subbands.{level_size, subband_count}
 use Rattle.unit.specs.Slices.{Grid, slice_count, top, bottom, left, right}
+use Rattle.picture.specs.declared.slices.strip.Origin.{Origin}
 use Rattle.picture.specs.declared.slices.strip.Strip.{Strip}
 use Rattle.picture.specs.declared.slices.layout.Component.{Component}
 use Rattle.picture.specs.declared.slices.layout.Layout.{Layout}
 use Rattle.picture.specs.declared.slices.layout.Window.{Window}
+use Rattle.picture.specs.declared.slices.layout.Run.{Run}
 use Rattle.picture.specs.Code.Strip.{Small, Bounds, strip_numbers}
 use Rattle.wavelet.specs.RowCall.{row_limit}
 use Rattle.quantiser.specs.Code.Default.{matrix_places}
@@ -46,6 +48,10 @@ window_of l c n k =
       right = right (grid_in l) z k;
     }
 
+-- where a component's coefficients begin, start places behind its first, and its rebuilt plane
+abbrev pub origin_of : Component → ℕ → Origin
+origin_of c start = record { coefs = c.coefs + start; rebuilt = c.rebuilt }
+
 -- what slice k has of the n-th subband at index q
 unfoldable pub strip_of : Layout → Component → Component → Bool → ℕ → ℕ → ℕ → ℕ → Strip
 strip_of l c second pair n start k q =
@@ -54,8 +60,7 @@ strip_of l c second pair n start k q =
     record {
       coefs = c.coefs + start;
       rebuilt = c.rebuilt;
-      coefs2 = second.coefs + start;
-      rebuilt2 = second.rebuilt;
+      second = cond pair (Some (origin_of second start)) None;
       width = z.width;
       height = z.height;
       top = top (grid_in l) z k;
@@ -66,7 +71,6 @@ strip_of l c second pair n start k q =
       factor = quant_factor i;
       offset = quant_offset i;
       predicted = l.predicted && eqb n 0;
-      pair = pair;
     }
 
 -- slice k's numbers of the first n subbands
@@ -80,6 +84,28 @@ unfoldable pub rest_numbers : List ℤ → Layout → Component → Component �
 rest_numbers w l c second pair k q zero = []
 rest_numbers w l c second pair k q (suc n) =
     rest_numbers w l c second pair k q n ++ strip_numbers w (strip_of l c second pair (suc n) (start_of l c (suc n)) k q)
+
+-- ---- a run
+-- its second component, or the first where there is none, and whether there is one
+abbrev pub second_of : Run → Component
+second_of r = unwrap_or r.second r.first
+
+abbrev pub pair_of : Run → Bool
+pair_of r = is_some r.second
+
+-- what its slice has of the n-th subband: rows and columns, and the strip
+abbrev pub run_window : Run → ℕ → Window
+run_window r n = window_of r.layout r.first n r.slice
+
+abbrev pub run_strip : Run → ℕ → ℕ → Strip
+run_strip r n start = strip_of r.layout r.first (second_of r) (pair_of r) n start r.slice r.index
+
+-- its numbers of all subbands, and of those behind the first
+abbrev pub numbers_of : List ℤ → Run → List ℤ
+numbers_of w r = run_numbers w r.layout r.first (second_of r) (pair_of r) r.slice r.index (band_count r.layout)
+
+abbrev pub rest_of : List ℤ → Run → List ℤ
+rest_of w r = rest_numbers w r.layout r.first (second_of r) (pair_of r) r.slice r.index (band_count r.layout - 1)
 
 -- ---- conditions
 -- a layout that can be read: few levels, slices and values
@@ -131,3 +157,7 @@ pub record RunIn (l : Layout) (c second : Component) (a e k q : ℕ) (w : List �
 -- components of which a slice's run lies in the work slice
 abbrev pub RunLies : Layout → Component → Component → ℕ → ℕ → List ℤ → Type 0
 RunLies l c second k q w = Bounds (λ a e. RunIn l c second a e k q w)
+
+-- a run that lies in the work slice
+abbrev pub Lying : Run → List ℤ → Type 0
+Lying r = RunLies r.layout r.first (second_of r) r.slice r.index

@@ -2,7 +2,7 @@
 use Rattle.std.specs.Prelude.{◌≡◌, Bool, true, false, cond, List, ◌++◌, ℕ, zero, suc, ◌+◌, ◌^◌, ◌≤◌, ◌<◌, leb, ℤ, length, take}
 use Rattle.laws.specs.Code.Chunks.{chunks}
 use Rattle.laws.specs.Rows.{span, total}
-use Rattle.codewords.specs.Bit.{Bits}
+use Rattle.codewords.specs.Bit.{Bits, val}
 use Rattle.codewords.specs.Bytes.{to_bytes}
 use Rattle.codewords.specs.CodeWord.{codes}
 use Rattle.unit.specs.declared.PictureKind.TheVariants.{LowDelay}
@@ -17,7 +17,6 @@ use Rattle.picture.specs.declared.slices.cost.Cost.{Cost}
 use Rattle.picture.specs.declared.slices.tally.Trimmed.{Trimmed}
 use Rattle.picture.specs.declared.low.cut.Kept as code
 use Rattle.picture.specs.Code.Strip.{Small, rebuilt_strip}
-use Rattle.picture.specs.Code.Cost.{no_cost, add_all}
 use Rattle.picture.specs.Code.Layout.{band_count, strip_of, run_numbers}
 use Rattle.picture.specs.Code.Picture.{slices_in, run_of, Arranged}
 
@@ -98,23 +97,18 @@ pub record Shorter (c : Cost) (r : Trimmed) : Type 0 where
   pub fit : c.fit ≤ c.keep → (r.count ≡ c.fit) × (r.bits ≡ c.fit_bits)
   pub kept : c.keep < c.fit → (r.count ≡ c.keep) × (r.bits ≡ c.kept_bits)
 
--- luma has been costed, and the slice does not fit
-pub record CutIn (w : List ℤ) (p : Picture) (room k q : ℕ) (y : Cost) : Type 0 where
-  pub luma : y ≡ add_all (no_cost room) (luma_in w p k q)
-  pub over : room < trimmed_cost (luma_in w p k q) + trimmed_cost (colour_in w p k q)
-
 -- the bits of the two runs that are kept
 abbrev pub run_bits : List ℤ → Picture → ℕ → ℕ → code.Kept → Bits
-run_bits w p k q r = codes (take r.luma (luma_in w p k q)) ++ codes (take r.colour (colour_in w p k q))
+run_bits w p k q r = codes (take r.luma.count (luma_in w p k q)) ++ codes (take r.colour.count (colour_in w p k q))
 
 -- the runs that are written of ys and cs, by count and bits, and whether they are cut
 pub record KeptOf (room : ℕ) (ys cs : List ℤ) (r : code.Kept) : Type 0 where
-  pub luma : (kept_runs room ys cs).luma ≡ take r.luma ys
-  pub luma-bits : r.luma_bits ≡ bits_of (kept_runs room ys cs).luma
-  pub colour : (kept_runs room ys cs).colour ≡ take r.colour cs
-  pub colour-bits : r.colour_bits ≡ bits_of (kept_runs room ys cs).colour
-  pub fits : r.luma_bits + r.colour_bits ≤ room
-  pub cut : r.cut ≡ cut_by room ys cs
+  pub luma : (kept_runs room ys cs).luma ≡ take r.luma.count ys
+  pub luma-bits : r.luma.bits ≡ bits_of (kept_runs room ys cs).luma
+  pub colour : (kept_runs room ys cs).colour ≡ take r.colour.count cs
+  pub colour-bits : r.colour.bits ≡ bits_of (kept_runs room ys cs).colour
+  pub fits : r.luma.bits + r.colour.bits ≤ room
+  pub cut : val r.cut ≡ cut_by room ys cs
 
 -- low-delay slices can be coded with numerator n
 pub record LowIn (p : Picture) (n : ℕ) (w : List ℤ) : Type 0 where

@@ -7,7 +7,7 @@ use Rattle.unit.specs.Trim.{trimmed, bits_of}
 use Rattle.picture.specs.declared.slices.layout.Picture.{Picture}
 use Rattle.picture.specs.declared.high.packed.Packed.{Packed}
 use Rattle.picture.specs.declared.high.choice.Choice.{Choice}
-use Rattle.picture.specs.declared.high.size.Terms.{Terms}
+use Rattle.picture.specs.declared.high.plan.Terms.{Terms}
 use Rattle.picture.specs.Code.Strip.{Small}
 use Rattle.picture.specs.Code.Packed.{unpacked, words_at}
 use Rattle.picture.specs.Code.Picture.{slices_in}

@@ -1,14 +1,13 @@
 -- A run of numbers in short form, in words: a number that is not 0 is its own word, 2^52 + n stands for n zeros before
 -- one, and zeros at the run's end have no word.
-use Rattle.std.specs.Prelude.{◌≡◌, true, false, cond, List, [], ◌∷◌, ◌++◌, ℕ, zero, suc, ◌+◌, ◌*◌, ◌-◌, ◌^◌, ◌≤◌, leb, ℤ, pos, negsuc, length, replicate}
+use Rattle.std.specs.Prelude.{◌≡◌, true, false, cond, List, [], ◌∷◌, ◌++◌, ℕ, zero, suc, ◌+◌, ◌*◌, ◌-◌, ◌^◌, ◌≤◌, leb, ℤ, pos, negsuc, length, replicate, None}
 use Rattle.laws.specs.Code.Laid.{laid}
 use Rattle.laws.specs.Code.Window.{piece}
 use Rattle.codewords.specs.CodeWord.{code_s}
 use Rattle.unit.specs.Trim.{is_zero}
 use Rattle.picture.specs.declared.slices.strip.Strip.{Strip}
 use Rattle.picture.specs.declared.high.packed.Packing.{Packing}
-use Rattle.picture.specs.declared.slices.layout.Component.{Component}
-use Rattle.picture.specs.declared.slices.layout.Layout.{Layout}
+use Rattle.picture.specs.declared.slices.layout.Run.{Run}
 use Rattle.picture.specs.Code.Strip.{Plain, Bounds}
 use Rattle.picture.specs.Code.Layout.{RunIn}
 use Rattle.picture.specs.Code.Counts.{count_of}
@@ -53,7 +52,7 @@ words_at w i n = piece i n w
 -- a strip of one component that is not predicted
 pub record Single (a n : ℕ) (l : List ℤ) (s : Strip) : Type 0 where
   pub plain : Plain a n l s
-  pub single : s.pair ≡ false
+  pub single : s.second ≡ None
 
 -- whether a word is due for n zeros
 abbrev pub due : ℕ → ℕ
@@ -70,9 +69,11 @@ pub record Packable (a : ℕ) (t : Packing) (k : ℕ) : Type 0 where
 abbrev pub PackIn : List ℤ → Strip → Packing → ℕ → Type 0
 PackIn l s t k = Bounds (λ a n. Single a n l s × Packable a t k)
 
--- the numbers of all subbands of a component can be packed from place i on, before its coefficients
-abbrev pub PackRunIn : Layout → Component → ℕ → ℕ → ℕ → List ℤ → Type 0
-PackRunIn l c i k q w = Bounds (λ a e. RunIn l c c a e k q w × ((l.predicted ≡ false) × (i + count_of l c k ≤ a)))
+-- a run of one component can be packed from place i on, before its coefficients
+abbrev pub PackRunIn : Run → ℕ → List ℤ → Type 0
+PackRunIn r i w =
+    (r.second ≡ None)
+    × Bounds (λ a e. RunIn r.layout r.first r.first a e r.slice r.index w × ((r.layout.predicted ≡ false) × (i + count_of r.layout r.first r.slice ≤ a)))
 
 -- xs packed from t on, which gave v and r
 pub record Packs (w : List ℤ) (t : Packing) (xs : List ℤ) (v : List ℤ) (r : Packing) : Type 0 where

@@ -10,7 +10,7 @@ use Rattle.unit.specs.HighQuality.{slice_size_by, need_of, largest_need, scaler_
 use Rattle.unit.specs.Unit.{major_version, high_parameters}
 use Rattle.picture.specs.declared.slices.layout.Picture.{Picture}
 use Rattle.picture.specs.declared.high.choice.Choice.{Choice}
-use Rattle.picture.specs.declared.high.size.Terms.{Terms}
+use Rattle.picture.specs.declared.high.plan.Terms.{Terms}
 use Rattle.picture.specs.declared.coder.slice_coder.SliceCoder.{SliceCoder}
 use Rattle.picture.specs.declared.coder.plan.Settled.{Settled}
 use Rattle.picture.specs.Code.Strip.{Small}

@@ -1,16 +1,24 @@
 -- A picture in the work slice, and a slice's numbers there.
-use Rattle.std.specs.Prelude.{◌≡◌, false, List, ℕ, ◌+◌, ◌*◌, ◌≤◌, ◌<◌, ℤ}
+use Rattle.std.specs.Prelude.{◌≡◌, false, List, ℕ, ◌+◌, ◌*◌, ◌≤◌, ◌<◌, ℤ, None, Some}
 use Rattle.unit.specs.Limits.{area_limit, slice_limit}
 use Rattle.unit.specs.Three.{Three}
 use Rattle.unit.specs.Slices.{slice_count}
 use Rattle.picture.specs.declared.slices.layout.Component.{Component}
 use Rattle.picture.specs.declared.slices.layout.Picture.{Picture}
+use Rattle.picture.specs.declared.slices.layout.Run.{Run}
 use Rattle.picture.specs.Code.Strip.{Small}
 use Rattle.picture.specs.Code.Layout.{band_count, grid_in, run_numbers, LayoutIn, ComponentIn}
 
 -- how many slices there are
 abbrev pub slices_in : Picture → ℕ
 slices_in p = slice_count (grid_in p.layout)
+
+-- slice k's run of a component, and of the two colours together, at index q
+abbrev pub run_in : Picture → Component → ℕ → ℕ → Run
+run_in p c k q = record { layout = p.layout; first = c; second = None; slice = k; index = q }
+
+abbrev pub colours_in : Picture → ℕ → ℕ → Run
+colours_in p k q = record { layout = p.layout; first = p.c1; second = Some p.c2; slice = k; index = q }
 
 -- slice k's numbers of a component at index q
 abbrev pub run_of : List ℤ → Picture → Component → ℕ → ℕ → List ℤ

@@ -1,10 +1,11 @@
 -- The numbers of a slice as the code makes them from the work slice. A strip is what a slice has of one subband, of one
 -- component or of the two colours together.
-use Rattle.std.specs.Prelude.{◌≡◌, false, cond, List, [], ◌∷◌, ◌++◌, ℕ, zero, suc, ◌+◌, ◌*◌, ◌-◌, ◌^◌, ◌≤◌, ◌<◌, ℤ, pos, nat_abs, ◌+ℤ◌, ◌-ℤ◌, length, set}
+use Rattle.std.specs.Prelude.{◌≡◌, false, cond, Some, None, List, [], ◌∷◌, ◌++◌, ℕ, zero, suc, ◌+◌, ◌*◌, ◌-◌, ◌^◌, ◌≤◌, ◌<◌, ℤ, pos, nat_abs, ◌+ℤ◌, ◌-ℤ◌, length, set}
 use Rattle.laws.specs.Rows.{at}
 use Rattle.laws.specs.Plane.{Plane}
 use Rattle.quantiser.specs.Quant.{quant_factor, quant_offset, forward_by, inverse_by}
 use Rattle.unit.specs.Predict.{predict}
+use Rattle.picture.specs.declared.slices.strip.Origin.{Origin}
 use Rattle.picture.specs.declared.slices.strip.Strip.{Strip}
 
 -- the numbers of l from base on as a plane w wide
@@ -25,7 +26,7 @@ number_in l s coefs base y x = forward_by s.factor (residual_in l s coefs base y
 
 -- the second colour's number of a place, where there is one
 abbrev pub second_number : List ℤ → Strip → ℕ → ℕ → List ℤ
-second_number l s y x = cond s.pair (number_in l s s.coefs2 s.rebuilt2 y x ∷ []) []
+second_number l s y x = elim s.second [ Some o ↦ number_in l s o.coefs o.rebuilt y x ∷ [] | None ↦ [] ]
 
 -- the numbers of a place: one, or those of the two colours
 unfoldable pub place_numbers : List ℤ → Strip → ℕ → ℕ → List ℤ
@@ -101,11 +102,11 @@ pub record Within (a n : ℕ) (s : Strip) : Type 0 where
   pub wide : s.right ≤ s.width
   pub high : s.bottom ≤ s.height
   pub rebuilt : s.rebuilt + s.height * s.width ≤ a
-  pub rebuilt2 : s.rebuilt2 + s.height * s.width ≤ a
+  pub rebuilt2 : (o : Origin) → s.second ≡ Some o → o.rebuilt + s.height * s.width ≤ a
   pub behind : a ≤ s.coefs
-  pub behind2 : a ≤ s.coefs2
+  pub behind2 : (o : Origin) → s.second ≡ Some o → a ≤ o.coefs
   pub coefs : s.coefs + s.height * s.width ≤ n
-  pub coefs2 : s.coefs2 + s.height * s.width ≤ n
+  pub coefs2 : (o : Origin) → s.second ≡ Some o → o.coefs + s.height * s.width ≤ n
   pub factor : s.factor ≡ quant_factor s.index
   pub offset : s.offset ≡ quant_offset s.index
   pub index : s.index ≤ 255

@@ -1,6 +1,6 @@
 -- What coding needs of an accepted call, for both kinds of picture: its conditions, where its bands stand, and how a
 -- unit is put together.
-use Rattle.std.specs.Prelude.{◌≡◌, Bool, true, false, ℕ, zero, suc, ◌+◌, ◌*◌, ◌-◌, ◌^◌, ◌≤◌, ◌<◌, ℤ, drop, take, get_or, replicate}
+use Rattle.std.specs.Prelude.{◌≡◌, Bool, true, false, ℕ, zero, suc, ◌+◌, ◌*◌, ◌-◌, ◌^◌, ◌≤◌, ◌<◌, ℤ, drop, take, get_or, replicate, Ok, Err}
 use Rattle.std.proofs.Math.Path.{refl}
 use Rattle.std.proofs.Common.{sym, ap, ap₂, ◌∙◌, subst, mul_comm, length-append, length-drop, take_at, drop_at, drop-drop}
 use mathlib.Core.List.{List, [], ◌∷◌, ◌++◌, append_assoc, append-nil, flatten}
@@ -20,8 +20,9 @@ use Rattle.wavelet.specs.Lifting.{exact}
 use Rattle.wavelet.specs.Pad.{padded}
 use Rattle.unit.specs.declared.Settings.{Settings}
 use Rattle.unit.specs.declared.Coded.{Coded}
-use Rattle.unit.specs.declared.Answer.{Answer}
-use Rattle.unit.specs.declared.Answer.TheVariants.{Accepted, Refused}
+use Rattle.refusals.specs.declared.Refusal.{Refusal}
+use Rattle.refusals.specs.Number.{number, refusal_by}
+use Rattle.refusals.specs.Laws.Number.{by_number, number_some}
 use Rattle.unit.specs.Limits.{slice_limit}
 use Rattle.unit.specs.Three.{Three}
 use Rattle.unit.specs.Sizes.{Size, luma_size, colour_size, depths_of, offset_of}
@@ -34,7 +35,7 @@ use Rattle.unit.specs.Coefficients.{bands_of, coefficients_of}
 use Rattle.unit.specs.Plan.{SlicePlan, Plan}
 use Rattle.unit.specs.Unit.{major_version, grid_of, plan_of, slice_runs, head_bits, length_of, unit_of}
 use Rattle.unit.proofs.Laws.Unit.{length-unit}
-use Rattle.unit.specs.Outcome.{coded_of, coding_refusal}
+use Rattle.unit.specs.Outcome.{Answer, coded_of, coding_refusal}
 use Rattle.unit.proofs.Laws.Demand.{not-long}
 use Rattle.unit.specs.Code.Valid.{MatrixFits, Valid, Sized}
 use Rattle.unit.proofs.Laws.Valid.{levels_few, luma_sides, colour_sides}
@@ -294,17 +295,24 @@ module _ (s : Settings) (a : Plan) where
           ∙ ap (λ (u : List ℕ). u ++ drop (length_of s a) out) (sym unit_parts)
 
     -- answer and output where coding refuses the unit, and where it is written
-    pub codes_refused : (n : ℕ) → n ≡ coding_refusal (length out) (length_of s a) → (n ≡ 0 → ⊥) → Codes s a out out (Refused n)
-    codes_refused zero e h = absurd (h refl)
-    codes_refused (suc n) e h = record {
-      answer = ap (answer_by s a) e;
-      output = ap (output_by s a out) e;
+    pub codes_refused : (r : Refusal) → number r ≡ coding_refusal (length out) (length_of s a) → Codes s a out out (Err r)
+    codes_refused r e = record {
+      answer = by (coding_refusal (length out) (length_of s a)) e;
+      output = left (coding_refusal (length out) (length_of s a)) e;
     }
+      where
+        by : (n : ℕ) → number r ≡ n → Err r ≡ answer_by s a n
+        by zero q = absurd (omega (arith, q, number_some r))
+        by (suc n) q = ap Err (sym (ap refusal_by (sym q) ∙ by_number r))
+
+        left : (n : ℕ) → number r ≡ n → out ≡ output_by s a out n
+        left zero q = absurd (omega (arith, q, number_some r))
+        left (suc n) q = refl
 
     pub codes_written : (n at r : ℕ) (o o' : List ℕ) (c : Coded) → coding_refusal (length out) (length_of s a) ≡ 0 → n ≡ length_of s a
         → at ≡ overhead (major_version s) a.parameters → o ≡ to_bytes (head_bits s n a.parameters) ++ drop at out
-        → Lays o at (flatten (slice_runs a.slices)) o' r → c ≡ coded_of s a → Codes s a out o' (Accepted c)
+        → Lays o at (flatten (slice_runs a.slices)) o' r → c ≡ coded_of s a → Codes s a out o' (Ok c)
     codes_written n at r o o' c e en ea eo l ec = record {
-      answer = ap Accepted ec ∙ ap (answer_by s a) (sym e);
+      answer = ap Ok ec ∙ ap (answer_by s a) (sym e);
       output = unit-laid n at o (not-long (length out) (length_of s a) e).0 en ea eo r o' l ∙ ap (output_by s a out) (sym e);
     }

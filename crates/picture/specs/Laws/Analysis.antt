@@ -1,5 +1,5 @@
--- What analysis needs and leaves: zeros in a loop, sample offsets, the code's sides as the definitions have them, and
--- the work slice with its front of zeros and the three components behind it.
+-- What analysis needs and leaves: zeros, sample offsets, the code's sides as the definitions have them, and the work
+-- slice with its front of zeros and the three components behind it.
 use Rattle.std.specs.Prelude.{◌≡◌, refl, Bool, List, ◌∷◌, ◌++◌, ℕ, zero, suc, ◌+◌, ◌-◌, ◌*◌, ◌%◌, ◌^◌, ◌≤◌, ◌<◌, ℤ, pos, nat_abs, length, get_or, take, drop, replicate}
 use Rattle.std.proofs.Common.{sym, ap, ap₂, ◌∙◌, mul_comm, add_assoc, arith, length-append, get_or-append-add, length-take-le, pow_mono}
 use Rattle.std.proofs.Math.Decide.{dec_lt}
@@ -15,8 +15,8 @@ use Rattle.wavelet.specs.Depth.{deepest}
 use Rattle.wavelet.specs.Laws.Theorems.{component_exact}
 use Rattle.wavelet.specs.Code.Walk.{Deep}
 use Rattle.wavelet.specs.Code.Component.{component_of, ComponentsIn}
-use Rattle.wavelet.specs.declared.component.Component as below
-use Rattle.wavelet.specs.declared.component.Transform.{Transform}
+use Rattle.wavelet.specs.declared.shape.Component as below
+use Rattle.wavelet.specs.declared.shape.Transform.{Transform}
 use Rattle.unit.specs.declared.Settings.{Settings}
 use Rattle.unit.specs.Limits.{area_limit, side_limit}
 use Rattle.unit.specs.Three.{Three}
@@ -370,17 +370,25 @@ front_room s p w w1 k l c t e = omega (arith, e, front_is s l c t, k.lent.work_r
 
 -- behind a front that was lent and came back as zeros stands what the layer below left
 pub analysed-of : (s : Settings) (p : Three (List ℕ)) (w w1 ys : List ℤ) → Ready s p w → Sampled p → (l c : below.Component) → Taken s l c
-    → (n m : ℕ) → n ≡ front_of s → m ≡ n → (R : List ℤ) → length w1 ≡ length w
+    → (n : ℕ) → n ≡ front_of s → (R : List ℤ) → length w1 ≡ length w
     → drop n w1 ≡ list_of s p.y l ++ list_of s p.c1 c ++ list_of s p.c2 c ++ R
-    → ys ≡ replicate (length (take m w1)) (pos 0) → length (ys ++ drop m w1) ≡ length w → Analysed s p (ys ++ drop m w1)
+    → ys ≡ replicate (length (take n w1)) (pos 0) → length (ys ++ drop n w1) ≡ length w → Analysed s p (ys ++ drop n w1)
 unfolding work_needed
-analysed-of s p w w1 ys k hs l c t n m en em R e1 e ey el =
+analysed-of s p w w1 ys k hs l c t n en R e1 e ey el =
     let y = taken_of s (luma_size s) s.luma_excursion in
     let u = taken_of s (colour_size s) s.color_diff_excursion in
     let room = k.lent.work_room in
     let z : ys ≡ replicate (front_of s) (pos 0) =
-    ey ∙ ap (λ (m : ℕ). replicate m (pos 0)) (length-take-le m w1 (omega (arith, e1, em, en, room)) ∙ em ∙ en) in
-    let f : drop m w1 ≡ list_of s p.y y ++ list_of s p.c1 u ++ list_of s p.c2 u ++ R =
-    ap (λ (k : ℕ). drop k w1) em ∙ e
+    ey ∙ ap (λ (m : ℕ). replicate m (pos 0)) (length-take-le n w1 (omega (arith, e1, en, room)) ∙ en) in
+    let f : drop n w1 ≡ list_of s p.y y ++ list_of s p.c1 u ++ list_of s p.c2 u ++ R =
+    e
     ∙ ap₂ (λ (l c : below.Component). list_of s p.y l ++ list_of s p.c1 c ++ list_of s p.c2 c ++ R) t.luma t.colour in
-    analysed_is s p w (ys ++ drop m w1) k hs R (ap₂ ◌++◌ z f) (omega (arith, el, room))
+    analysed_is s p w (ys ++ drop n w1) k hs R (ap₂ ◌++◌ z f) (omega (arith, el, room))
+
+-- the same with a front of m places
+pub analysed_of_front : (s : Settings) (p : Three (List ℕ)) (w w1 ys : List ℤ) → Ready s p w → Sampled p → (l c : below.Component) → Taken s l c
+    → (n m : ℕ) → n ≡ front_of s → m ≡ n → (R : List ℤ) → length w1 ≡ length w
+    → drop n w1 ≡ list_of s p.y l ++ list_of s p.c1 c ++ list_of s p.c2 c ++ R
+    → ys ≡ replicate (length (take m w1)) (pos 0) → length (ys ++ drop m w1) ≡ length w → Analysed s p (ys ++ drop m w1)
+analysed_of_front s p w w1 ys k hs l c t n m en em R e1 e ey el =
+    analysed-of s p w w1 ys k hs l c t m (em ∙ en) R e1 (ap (λ (k : ℕ). drop k w1) em ∙ e) ey el

@@ -7,10 +7,11 @@ use Rattle.std.proofs.Math.Seq.{append_snoc}
 use Rattle.codewords.specs.CodeWord.{code_s, codes}
 use Rattle.codewords.specs.Laws.Code.{codes-more, length-code_s-zero, length-code_s}
 use Rattle.unit.specs.Trim.{is_zero, trim_cons, trimmed, bits_of, trimmed_cost, fit_prefix}
-use Rattle.unit.proofs.Laws.Trim.{Small, bits_most, fit_all, fit_prefix_lem}
+use Rattle.unit.proofs.Laws.Trim.{Small, fit_all, fit_prefix_lem}
 use Rattle.picture.specs.declared.slices.cost.Cost.{Cost}
 use Rattle.picture.specs.Code.Cost.{fitted, kept, add_len, add1, added, add_all, no_cost, Countable, KeptTo}
-use Rattle.picture.specs.Laws.Added.{added-one}
+use Rattle.picture.specs.Code.Counter.{cost_counts}
+use Rattle.picture.specs.Laws.Counter.{added-count, added-bits as counted_bits, counted_after, counted_one}
 
 -- ---- one number, as the code adds it
 pub kept_yes : (c : Cost) (none : Bool) (n : ℕ) → none ≡ true
@@ -54,24 +55,17 @@ added_len c z n r e d = d ∙ ap₂ (λ (b : Bool) (n : ℕ). fitted (kept c b (
 
 -- ---- what has been added up
 pub added_count : (c : Cost) (xs : List ℤ) → (add_all c xs).count ≡ c.count + length xs
-unfolding added fitted kept
-added_count c [] = omega arith
-added_count c (z ∷ xs) = added_count (add1 c z) xs ∙ omega arith
+added_count = added-count cost_counts
 
 pub added-bits : (c : Cost) (xs : List ℤ) → (add_all c xs).bits ≡ c.bits + bits_of xs
-unfolding added fitted kept codes
-added-bits c [] = omega arith
-added-bits c (z ∷ xs) = added-bits (add1 c z) xs ∙ omega (arith, length-append (code_s z) (codes xs))
+added-bits = counted_bits cost_counts
 
 -- there is room for n numbers behind xs
 pub countable_after : (c : Cost) (xs : List ℤ) (m n : ℕ) → Countable c m → Small xs → length xs + n ≤ m → Countable (add_all c xs) n
-countable_after c xs m n h s l =
-    let b = added-bits c xs in
-    let k = added_count c xs in
-    record { bits = omega (arith, bits_most xs s, h.bits); count = omega (arith, h.count) }
+countable_after = counted_after cost_counts
 
 pub countable_one : (c d : Cost) (z : ℤ) → Countable c 2 → nat_abs z ≤ 2 ^ 63 → d ≡ add1 c z → Countable d 1
-countable_one c d z h s e = rw (e ∙ sym (added-one add1 c z)) (countable_after c (z ∷ []) 2 1 h (s, tt) (omega arith))
+countable_one = counted_one cost_counts
 
 -- k rows are added, and the next one has at most 2 w numbers
 pub strip_room : (k n w len : ℕ) → k < n → len ≤ k * (w * 2) → len + 2 * w ≤ 2 * (n * w)

@@ -58,24 +58,8 @@ pub record Halving (f : ℕ → Bool) (first last : ℕ) (r : Range) : Type 0 wh
   pub order : r.lo ≤ r.hi
   pub most : r.hi ≤ last
 
--- the range at the start
-pub halving_start : (f : ℕ → Bool) (first last : ℕ) → first ≤ last → Halving f first last (record { lo = first; hi = last })
-halving_start f first last h = record { same = refl; order = h; most = omega arith }
-
--- the middle is an index
-pub halving_middle : {f : ℕ → Bool} {first last : ℕ} {r : Range} → Halving f first last r → (mid : ℕ) → mid ≡ (r.lo + r.hi) / 2 → mid ≤ last
-halving_middle v mid m = omega (arith, v.order, v.most)
-
 -- a turn, where d says whether the middle fits
 module _ (r : Range) (mid : ℕ) (h : r.lo < r.hi) (m : mid ≡ (r.lo + r.hi) / 2) where
-  half_less : (d : Bool) → (half_of r mid d).hi - (half_of r mid d).lo < r.hi - r.lo
-  half_less true = omega arith
-  half_less false = omega arith
-
-  -- the range becomes narrower
-  pub halving_less : (d : Bool) (n : Range) → n ≡ half_of r mid d → n.hi - n.lo < r.hi - r.lo
-  halving_less d n e = rw e (half_less d)
-
   module _ {f : ℕ → Bool} {first last : ℕ} (v : Halving f first last r) where
     half_same : (d : Bool) → f mid ≡ d → halve f ((half_of r mid d).hi - (half_of r mid d).lo) (half_of r mid d).lo (half_of r mid d).hi ≡ halve f (r.hi - r.lo) r.lo r.hi
     half_same d g =
@@ -107,3 +91,21 @@ module _ {f : ℕ → Bool} {first last : ℕ} {r : Range} (v : Halving f first 
 
   pub halving_low : r.lo ≤ last
   halving_low = omega (arith, v.order, v.most)
+
+-- ---- further laws
+-- the range at the start
+pub halving_start : (f : ℕ → Bool) (first last : ℕ) → first ≤ last → Halving f first last (record { lo = first; hi = last })
+halving_start f first last h = record { same = refl; order = h; most = omega arith }
+
+-- the middle is an index
+pub halving_middle : {f : ℕ → Bool} {first last : ℕ} {r : Range} → Halving f first last r → (mid : ℕ) → mid ≡ (r.lo + r.hi) / 2 → mid ≤ last
+halving_middle v mid m = omega (arith, v.order, v.most)
+
+module _ (r : Range) (mid : ℕ) (h : r.lo < r.hi) (m : mid ≡ (r.lo + r.hi) / 2) where
+  half_less : (d : Bool) → (half_of r mid d).hi - (half_of r mid d).lo < r.hi - r.lo
+  half_less true = omega arith
+  half_less false = omega arith
+
+  -- the range becomes narrower
+  pub halving_less : (d : Bool) (n : Range) → n ≡ half_of r mid d → n.hi - n.lo < r.hi - r.lo
+  halving_less d n e = rw e (half_less d)

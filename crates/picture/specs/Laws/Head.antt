@@ -1,5 +1,5 @@
 -- The header's parts, what they are by case, and how they make up the header.
-use Rattle.std.specs.Prelude.{◌≡◌, refl, Bool, true, false, not, ◌||◌, ◌⊎◌, List, [], ◌∷◌, ◌++◌, ℕ, zero, suc, ◌+◌, ◌*◌, ◌-◌, ◌/◌, ◌^◌, ◌%◌, ◌≤◌, ◌<◌, T, eqb, length, take, drop, get_or, replicate}
+use Rattle.std.specs.Prelude.{◌≡◌, refl, Bool, true, false, Some, None, not, ◌||◌, ◌⊎◌, List, [], ◌∷◌, ◌++◌, ℕ, zero, suc, ◌+◌, ◌*◌, ◌-◌, ◌/◌, ◌^◌, ◌%◌, ◌≤◌, ◌<◌, T, eqb, length, take, drop, get_or}
 use Rattle.std.proofs.Common.{sym, ap, ap₂, ◌∙◌, subst, ⊎_elim, append_assoc, append-nil, add-one, arith, le-leb, length-append, take-suc}
 use Rattle.std.proofs.Math.Option.{Option, none, some}
 use Rattle.std.proofs.lemmas.Bool.{lt-leb}
@@ -17,13 +17,12 @@ use Rattle.codewords.specs.Laws.Code.{length-code_u, leading_log2}
 use Rattle.unit.specs.declared.Settings.{Settings}
 use Rattle.unit.specs.declared.PictureKind.{PictureKind}
 use Rattle.unit.specs.Parameters.{SliceParameters, flagged, extended_bits, slice_parameter_bits, codes_u, matrix_bits, parameter_bits, parameter_bytes, Parameters, fill}
-use Rattle.unit.specs.Matrix.{matrix_values, carried_matrix}
+use Rattle.unit.specs.Matrix.{carried_matrix}
 use Rattle.unit.specs.LowDelay.{numerator}
 use Rattle.unit.specs.Unit.{version_by, major_version, parameters_by, target_of, numerator_of, head_bits}
 use Rattle.picture.specs.declared.front.matrix.Carried.{Carried}
 use Rattle.picture.specs.Code.Matrix.{lent_in, carried_in, InPlaces, Carries}
 use Rattle.picture.specs.Code.Head.{extension_of, shape_bits, info_of, numerator_after}
-use Rattle.quantiser.specs.Code.Default.{matrix_places}
 
 -- ---- the major version, by its three flags
 version_three : (a b c : Bool) (k : PictureKind) → (a ≡ true) ⊎ ((b ≡ true) ⊎ (c ≡ true)) → 3 ≡ version_by (a || (b || c)) k
@@ -67,14 +66,22 @@ codes_u-more (x ∷ xs) v = ap (λ (r : Bits). code_u x ++ r) (codes_u-more xs v
 pub codes_u-take : (vs : List ℕ) (i d : ℕ) → i < length vs → codes_u (take (i + 1) vs) ≡ codes_u (take i vs) ++ code_u (get_or vs i d)
 codes_u-take vs i d h = ap (λ (k : ℕ). codes_u (take k vs)) (add-one i) ∙ ap codes_u (take-suc vs i d h) ∙ codes_u-more (take i vs) (get_or vs i d)
 
--- the code words of the first i values and the next one are no longer than those of the first n
-pub codes_u-part : (vs : List ℕ) (n i d : ℕ) → i < n → n ≤ length vs → length (codes_u (take i vs)) + length (code_u (get_or vs i d)) ≤ length (codes_u (take n vs))
+-- the code words of the first i values and the next one are no longer than those of all
+pub codes_u-part : (vs : List ℕ) (i d : ℕ) → i < length vs → length (codes_u (take i vs)) + length (code_u (get_or vs i d)) ≤ length (codes_u vs)
 unfolding codes_u
-codes_u-part vs zero i d h l = absurd (omega arith)
-codes_u-part [] (suc n) i d h l = absurd (omega arith)
-codes_u-part (v ∷ vs) (suc n) zero d h l = rw (length-append (code_u v) (codes_u (take n vs))) (omega arith)
-codes_u-part (v ∷ vs) (suc n) (suc i) d h l =
-    rw (length-append (code_u v) (codes_u (take n vs)), length-append (code_u v) (codes_u (take i vs))) (omega (arith, codes_u-part vs n i d (omega arith) (omega arith)))
+codes_u-part [] i d h = absurd (omega arith)
+codes_u-part (v ∷ vs) zero d h = rw (length-append (code_u v) (codes_u vs)) (omega arith)
+codes_u-part (v ∷ vs) (suc i) d h =
+    rw (length-append (code_u v) (codes_u vs), length-append (code_u v) (codes_u (take i vs))) (omega (arith, codes_u-part vs i d (omega arith)))
+
+-- the same of the first n of them
+pub codes_u-part_to : (vs : List ℕ) (n i d : ℕ) → i < n → n ≤ length vs → length (codes_u (take i vs)) + length (code_u (get_or vs i d)) ≤ length (codes_u (take n vs))
+unfolding codes_u
+codes_u-part_to vs zero i d h l = absurd (omega arith)
+codes_u-part_to [] (suc n) i d h l = absurd (omega arith)
+codes_u-part_to (v ∷ vs) (suc n) zero d h l = rw (length-append (code_u v) (codes_u (take n vs))) (omega arith)
+codes_u-part_to (v ∷ vs) (suc n) (suc i) d h l =
+    rw (length-append (code_u v) (codes_u (take n vs)), length-append (code_u v) (codes_u (take i vs))) (omega (arith, codes_u-part_to vs n i d (omega arith) (omega arith)))
 
 -- ---- a flag and its number
 pub flagged_on : (f : Bool) (v : ℕ) → f ≡ true → flagged f v ≡ f ∷ code_u v
@@ -99,23 +106,20 @@ unfolding extension_of
 extension_some s h = rw (le-leb 3 (major_version s) h)
 
 -- ---- what is carried of the matrix
-pub carried_some : (c : Carried) → c.carried ≡ true → matrix_bits (carried_in c) ≡ c.carried ∷ codes_u (lent_in c)
+pub carried_some : (c : Carried) (n : ℕ) → c.carried ≡ Some n → matrix_bits (carried_in c) ≡ true ∷ codes_u (take n c.values)
 unfolding carried_in
-carried_some c e = rw e
+carried_some c n e = rw e
 
-pub carried_none : (c : Carried) → c.carried ≡ false → matrix_bits (carried_in c) ≡ c.carried ∷ []
+pub carried_none : (c : Carried) → c.carried ≡ None → matrix_bits (carried_in c) ≡ false ∷ []
 unfolding carried_in
 carried_none c e = rw e
 
 pub carried_is : {s : Settings} {c : Carried} → Carries s c → carried_in c ≡ carried_matrix s (lent_in c)
 unfolding carried_in carried_matrix
-carried_is h = rw h.carried
+carried_is h = rw (← h.carried)
 
 pub carries_places : {s : Settings} {c : Carried} → Carries s c → InPlaces c
-carries_places {s} {c} h =
-    let vs = matrix_values s (lent_in c) in
-    let n : ℕ = matrix_places - length vs in
-    (h.few, omega (arith, ap length h.values, length-append vs (replicate n 0), length-replicate {A = ℕ} n 0))
+carries_places h = h.few
 
 pub matrix-pos : (c : Option (List ℕ)) → 1 ≤ length (matrix_bits c)
 matrix-pos none = omega arith
@@ -164,6 +168,11 @@ room_rest a b r p = room_after (length b) r p (omega (arith, length-append a b))
 -- ---- the header
 abbrev pub start : BitWriter
 start = start_at 0
+
+pub is_start : {w : BitWriter} → (w.at ≡ 0) × ((w.pending ≡ 0) × (w.pending_bits ≡ 0)) → w ≡ start
+is_start {w} h =
+    let e : ◌≡◌ {A = BitWriter} (record { at = w.at; pending = w.pending; pending_bits = w.pending_bits }) start = rw (h.0, h.1.0, h.1.1) refl in
+    e
 
 pub start_room : (o : List ℕ) (k : ℕ) → k ≤ 8 * length o → Room o start k
 start_room o k h = record { sound = start_sound 0; room = omega arith }

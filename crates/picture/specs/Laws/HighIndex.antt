@@ -4,10 +4,11 @@ use Rattle.std.specs.Prelude.{◌≡◌, refl, List, ℕ, zero, suc, ◌+◌, �
 use Rattle.std.proofs.Math.Path.{sym, ap, subst}
 use Rattle.std.proofs.Common.{ap₂, ◌∙◌, div-mul-le_self, zero-mul, arith, lt-ltb, le-ltb, length-append}
 use Rattle.std.proofs.Math.Bool.{false}
-use Rattle.std.proofs.Math.Nat.{div-eq_of_lt}
+use Rattle.std.proofs.Math.Nat.{div-eq_of_lt, div-eq_of_lt-le}
 use Rattle.std.proofs.lemmas.Bool.{lt-leb}
+use Rattle.std.proofs.lemmas.Nat.{div-add-mod'}
 use Rattle.std.proofs.Math.ListN.{length}
-use Rattle.laws.specs.Ceiling.{ceiling}
+use Rattle.laws.specs.Ceiling.{ceiling, rounded_up}
 use Rattle.unit.specs.declared.PictureKind.TheVariants.{HighQuality}
 use Rattle.unit.specs.declared.RateControl.{RateControl}
 use Rattle.unit.specs.declared.RateControl.TheVariants.{Lossless, FixedQuantIndex, PictureBytes}
@@ -29,7 +30,9 @@ use Rattle.picture.specs.declared.high.size.Needs.{Needs}
 use Rattle.picture.specs.declared.slices.tally.Trimmed.{Trimmed}
 use Rattle.picture.specs.declared.high.packed.Packed.{Packed}
 use Rattle.picture.specs.declared.high.choice.Choice.{Choice}
-use Rattle.picture.specs.declared.high.size.Terms.{Terms}
+use Rattle.picture.specs.declared.high.plan.Terms.{Terms}
+use Rattle.picture.specs.declared.high.plan.Plan.{Plan}
+use Rattle.picture.specs.Code.Strip.{Small}
 use Rattle.picture.specs.Code.Packed.{packed}
 use Rattle.picture.specs.Laws.Unpacked.{packed_few}
 use Rattle.picture.specs.Code.Layout.{band_count, grid_in, band_size, start_of, strip_of, run_numbers}
@@ -129,26 +132,13 @@ needs_chosen z q h = record {
   few = (omega (arith, h.bits.0), (omega (arith, h.bits.1.0), omega (arith, h.bits.1.1)));
 }
 
-pub needs_by_lem : (a b d y c1 c2 : ℕ) → (y ≡ ceiling a 8) × (y ≤ 2 ^ 30) → (c1 ≡ ceiling b 8) × (c1 ≤ 2 ^ 30) → (c2 ≡ ceiling d 8) × (c2 ≤ 2 ^ 30)
-    → (◌≡◌ {A = Needs} (record { y = y; c1 = c1; c2 = c2 }) (needs_by a b d)) × ((y ≤ 2 ^ 30) × ((c1 ≤ 2 ^ 30) × (c2 ≤ 2 ^ 30)))
-needs_by_lem a b d y c1 c2 hy h1 h2 = (
-  ap (λ (y : ℕ). record { y = y; c1 = c1; c2 = c2 }) hy.0 ∙ ap₂ (λ (c1 c2 : ℕ). record { y = ceiling a 8; c1 = c1; c2 = c2 }) h1.0 h2.0,
-  (hy.1, (h1.1, h2.1)),
-)
-
 -- ---- sizes
-pub ceiling_near : (n c : ℕ) → n ≤ 2 ^ 30 → c ≤ 2 ^ 24 → ceiling n c * c ≤ 2 ^ 31
-ceiling_near n c h l = omega (arith, div-mul-le_self (n + (c - 1)) c)
-
-pub size_is : (z : Needs) (p c y c1 c2 : ℕ) → p ≤ 255 → (y ≡ ceiling z.y c) × (y * c ≤ 2 ^ 31) → (c1 ≡ ceiling z.c1 c) × (c1 * c ≤ 2 ^ 31)
-    → (c2 ≡ ceiling z.c2 c) × (c2 * c ≤ 2 ^ 31)
-    → let r = 4 + p + (y * c + c1 * c + c2 * c) in (r ≡ slice_size_by p c z.y z.c1 z.c2) × (r ≤ 2 ^ 34)
-size_is z p c y c1 c2 h a b d = (
-  ap (λ (y : ℕ). 4 + p + (y * c + c1 * c + c2 * c)) a.0
-      ∙ ap (λ (c1 : ℕ). 4 + p + (ceiling z.y c * c + c1 * c + c2 * c)) b.0
-      ∙ ap (λ (c2 : ℕ). 4 + p + (ceiling z.y c * c + ceiling z.c1 c * c + c2 * c)) d.0,
-  omega (arith, a.1, b.1, d.1),
-)
+-- the least multiple of c from n on, as the machine has it
+pub rounded_is : (n c r : ℕ) → 1 ≤ c → n ≤ r → r < n + c → r % c ≡ 0 → r ≡ rounded_up c n
+rounded_is n c r h a b m =
+    let e = div-add-mod' r c in
+    let k : ceiling n c ≡ r / c = div-eq_of_lt-le c (omega (arith, e, m, b)) (omega (arith, e, m, a)) in
+    omega (arith, e, m, ap (λ (k : ℕ). k * c) k)
 
 -- 0 bytes take 0 scalers
 ceiling-none : (c : ℕ) → 1 ≤ c → ceiling 0 c * c ≡ 0
@@ -181,6 +171,10 @@ module _ (n d k : ℕ) where
   share_plain h = rw (le-ltb k (n % d) h) (omega arith)
 
 -- ---- the index
+-- the slices of a plan whose coefficients stand in w can be planned
+pub plan_ready : (d : Plan) {w : List ℤ} → Small d.picture.front d.picture.end w → PlanIn d.picture d.terms w
+plan_ready d h = record { arranged = d.arranged; plain = d.plain; small = h; terms = d.fits }
+
 -- where slices can be planned each of them can be read
 pub plan_slice : {p : Picture} {t : Terms} {w : List ℤ} → PlanIn p t w → (k q : ℕ) → k < slices_in p → q ≤ 255 → SliceIn p w k q
 plan_slice h k q l m = record { arranged = h.arranged; small = h.small; slice = l; index = m }
@@ -229,3 +223,24 @@ index_stands w p t x k e f =
     by Lossless h = refl
     by (FixedQuantIndex q) h = refl
     by (PictureBytes b) h = no_truth h
+
+-- ---- further laws
+pub needs_by_lem : (a b d y c1 c2 : ℕ) → (y ≡ ceiling a 8) × (y ≤ 2 ^ 30) → (c1 ≡ ceiling b 8) × (c1 ≤ 2 ^ 30) → (c2 ≡ ceiling d 8) × (c2 ≤ 2 ^ 30)
+    → (◌≡◌ {A = Needs} (record { y = y; c1 = c1; c2 = c2 }) (needs_by a b d)) × ((y ≤ 2 ^ 30) × ((c1 ≤ 2 ^ 30) × (c2 ≤ 2 ^ 30)))
+needs_by_lem a b d y c1 c2 hy h1 h2 = (
+  ap (λ (y : ℕ). record { y = y; c1 = c1; c2 = c2 }) hy.0 ∙ ap₂ (λ (c1 c2 : ℕ). record { y = ceiling a 8; c1 = c1; c2 = c2 }) h1.0 h2.0,
+  (hy.1, (h1.1, h2.1)),
+)
+
+pub ceiling_near : (n c : ℕ) → n ≤ 2 ^ 30 → c ≤ 2 ^ 24 → ceiling n c * c ≤ 2 ^ 31
+ceiling_near n c h l = omega (arith, div-mul-le_self (n + (c - 1)) c)
+
+pub size_is : (z : Needs) (p c y c1 c2 : ℕ) → p ≤ 255 → (y ≡ ceiling z.y c) × (y * c ≤ 2 ^ 31) → (c1 ≡ ceiling z.c1 c) × (c1 * c ≤ 2 ^ 31)
+    → (c2 ≡ ceiling z.c2 c) × (c2 * c ≤ 2 ^ 31)
+    → let r = 4 + p + (y * c + c1 * c + c2 * c) in (r ≡ slice_size_by p c z.y z.c1 z.c2) × (r ≤ 2 ^ 34)
+size_is z p c y c1 c2 h a b d = (
+  ap (λ (y : ℕ). 4 + p + (y * c + c1 * c + c2 * c)) a.0
+      ∙ ap (λ (c1 : ℕ). 4 + p + (ceiling z.y c * c + c1 * c + c2 * c)) b.0
+      ∙ ap (λ (c2 : ℕ). 4 + p + (ceiling z.y c * c + ceiling z.c1 c * c + c2 * c)) d.0,
+  omega (arith, a.1, b.1, d.1),
+)

@@ -1,6 +1,6 @@
 -- High quality: the slices that the code makes of the work slice are the unit's, and so are its scaler, its length and
 -- its bytes.
-use Rattle.std.specs.Prelude.{◌≡◌, refl, false, ℤ, length, drop}
+use Rattle.std.specs.Prelude.{◌≡◌, refl, false, ℤ, length, drop, Ok, Err}
 use Rattle.std.proofs.Math.Path.{sym, ap, ap₂, fun_ext}
 use Rattle.std.proofs.Common.{◌∙◌, subst, arith}
 use mathlib.Core.List.{List, ◌++◌, flatten}
@@ -13,7 +13,8 @@ use Rattle.wavelet.specs.Planes.{Band}
 use Rattle.unit.specs.declared.Settings.{Settings}
 use Rattle.unit.specs.declared.PictureKind.{PictureKind}
 use Rattle.unit.specs.declared.PictureKind.TheVariants.{HighQuality}
-use Rattle.unit.specs.declared.Answer.TheVariants.{Accepted, Refused}
+use Rattle.refusals.specs.declared.Refusal.{Refusal}
+use Rattle.refusals.specs.Number.{number}
 use Rattle.unit.specs.Limits.{unit_limit, lowest_index}
 use Rattle.unit.specs.Three.{Three}
 use Rattle.unit.specs.Sizes.{luma_size}
@@ -37,7 +38,7 @@ use Rattle.unit.proofs.Laws.Valid.{target_few}
 use Rattle.unit.proofs.Laws.Soundness.{three, coefficients-within}
 use Rattle.picture.specs.declared.slices.layout.Component.{Component}
 use Rattle.picture.specs.declared.slices.layout.Picture.{Picture}
-use Rattle.picture.specs.declared.high.size.Terms.{Terms}
+use Rattle.picture.specs.declared.high.plan.Terms.{Terms}
 use Rattle.picture.specs.declared.coder.plan.Settled.{Settled}
 use Rattle.picture.specs.Laws.Number.{Bands, numbers_high}
 use Rattle.picture.specs.Code.Analysed.{Holds, is_low, layout_of, picture_of, Called, Analysed}
@@ -157,14 +158,14 @@ module _ {w : List ℤ} {p : Picture} {s : Settings} {m : List ℕ} (k : Coding 
   refusal_is : coding_refusal (length out) r.end ≡ coding_refusal (length out) (length_of s (code_plan w p s m r.scaler))
   refusal_is = ap (coding_refusal (length out)) (length_is w p s m r z)
 
-  pub high_refused : (n : ℕ) → n ≡ coding_refusal (length out) r.end → (n ≡ 0 → ⊥) → CodesAny s m w out out (Refused n)
-  high_refused n e h = any_plan out (codes_refused s (code_plan w p s m r.scaler) out n (e ∙ refusal_is) h)
+  pub high_refused : (f : Refusal) → number f ≡ coding_refusal (length out) r.end → CodesAny s m w out out (Err f)
+  high_refused f e = any_plan out (codes_refused s (code_plan w p s m r.scaler) out f (e ∙ refusal_is))
 
   -- n is the length as the answer has it
   pub high_written : coding_refusal (length out) r.end ≡ 0 → (t : Terms) (n at end cut : ℕ) (o o' : List ℕ) → t ≡ terms_of s m r.scaler → n ≡ r.end
       → at ≡ overhead (major_version s) (high_parameters s m r.scaler) → o ≡ to_bytes (head_bits s n (high_parameters s m r.scaler)) ++ drop at out
       → Lays o at (high_runs w p t (slices_in p)) o' end → cut ≡ 0
-      → CodesAny s m w out o' (Accepted (record { written = n; cut_slices = cut; slice_size_scaler = r.scaler }))
+      → CodesAny s m w out o' (Ok (record { written = n; cut_slices = cut; slice_size_scaler = r.scaler }))
   high_written e t n at end cut o o' et en ea eo l ec =
       let c = r.scaler in
       let f : n ≡ length_of s (code_plan w p s m c) = en ∙ length_is w p s m r z in

@@ -29,7 +29,7 @@ use Rattle.unit.specs.Unit.{major_version, high_parameters, target_of}
 use Rattle.picture.specs.declared.slices.layout.Picture.{Picture}
 use Rattle.picture.specs.declared.high.size.Needs.{Needs}
 use Rattle.picture.specs.declared.high.choice.Choice.{Choice}
-use Rattle.picture.specs.declared.high.size.Terms.{Terms}
+use Rattle.picture.specs.declared.high.plan.Terms.{Terms}
 use Rattle.picture.specs.declared.coder.slice_coder.SliceCoder.{SliceCoder}
 use Rattle.picture.specs.Code.Packed.{packed}
 use Rattle.picture.specs.Code.Picture.{slices_in, numbers_in}
@@ -68,20 +68,6 @@ pub words_are : (z : ℕ → Three (List ℤ)) (q : ℕ) → words_of (choice_by
 words_are z q =
     sym (length-append (packed 0 (z q).y) (packed 0 (z q).c1 ++ packed 0 (z q).c2)
     ∙ ap (λ (k : ℕ). length (packed 0 (z q).y) + k) (length-append (packed 0 (z q).c1) (packed 0 (z q).c2)))
-
--- as the code puts it together, by the needs n of choice c
-pub planned_is : (t : Terms) (c : Choice) (b : SliceCoder) (n : Needs) (size most words : ℕ) → n ≡ needs_by c.y.bits c.c1.bits c.c2.bits
-    → size ≡ slice_size_by t.prefix t.scaler n.y n.c1 n.c2
-    → size ≤ 2 ^ 34 → most ≡ max (max n.y (max n.c1 n.c2)) b.largest → words ≡ words_of c
-    → (◌≡◌ {A = SliceCoder} (record { at = b.at + size; cut_slices = b.cut_slices; largest = most; index = c.index; words = b.words + words }) (planned_by t c b))
-    × (b.at + size ≤ b.at + 2 ^ 34)
-planned_is t c b n size most words e d l m k = (
-  ap (λ (k : ℕ). record { at = b.at + size; cut_slices = b.cut_slices; largest = most; index = c.index; words = b.words + k }) k
-      ∙ ap₂ (λ (s m : ℕ). record { at = b.at + s; cut_slices = b.cut_slices; largest = m; index = c.index; words = b.words + words_of c })
-      (d ∙ ap (λ (n : Needs). slice_size_by t.prefix t.scaler n.y n.c1 n.c2) e)
-      (m ∙ ap (λ (n : Needs). max (max n.y (max n.c1 n.c2)) b.largest) e),
-  omega (arith, l),
-)
 
 -- slice k, planned by its choice
 pub slice_planned : (w : List ℤ) (p : Picture) (t : Terms) (k : ℕ) (c : Choice) (b r : SliceCoder) → 1 ≤ t.scaler → FewBits c → c ≡ choice_in w p t k
@@ -282,3 +268,18 @@ target_fixed r q e = sym (ap is_target e)
 pub target_bytes : (r : RateControl) (b : ℕ) → r ≡ PictureBytes b → true ≡ is_target r
 unfolding is_target
 target_bytes r b e = sym (ap is_target e)
+
+-- ---- further laws
+-- as the code puts it together, by the needs n of choice c
+pub planned_is : (t : Terms) (c : Choice) (b : SliceCoder) (n : Needs) (size most words : ℕ) → n ≡ needs_by c.y.bits c.c1.bits c.c2.bits
+    → size ≡ slice_size_by t.prefix t.scaler n.y n.c1 n.c2
+    → size ≤ 2 ^ 34 → most ≡ max (max n.y (max n.c1 n.c2)) b.largest → words ≡ words_of c
+    → (◌≡◌ {A = SliceCoder} (record { at = b.at + size; cut_slices = b.cut_slices; largest = most; index = c.index; words = b.words + words }) (planned_by t c b))
+    × (b.at + size ≤ b.at + 2 ^ 34)
+planned_is t c b n size most words e d l m k = (
+  ap (λ (k : ℕ). record { at = b.at + size; cut_slices = b.cut_slices; largest = most; index = c.index; words = b.words + k }) k
+      ∙ ap₂ (λ (s m : ℕ). record { at = b.at + s; cut_slices = b.cut_slices; largest = m; index = c.index; words = b.words + words_of c })
+      (d ∙ ap (λ (n : Needs). slice_size_by t.prefix t.scaler n.y n.c1 n.c2) e)
+      (m ∙ ap (λ (n : Needs). max (max n.y (max n.c1 n.c2)) b.largest) e),
+  omega (arith, l),
+)

@@ -17,7 +17,7 @@ use Rattle.codewords.specs.Bytes.{to_bytes}
 use Rattle.codewords.specs.Laws.Byte.{length-to_bytes}
 use Rattle.codewords.specs.CodeWord.{codes}
 use Rattle.codewords.specs.Code.Writer.{Sound, Room, Wrote, Flushes}
-use Rattle.codewords.specs.Laws.Writer.{start_at, start_sound, wrote_then, room_after, flush_lays}
+use Rattle.codewords.specs.Laws.Writer.{wrote_then, room_after, flush_lays}
 use Rattle.codewords.specs.declared.writer.BitWriter.{BitWriter}
 use Rattle.unit.specs.Three.{Three}
 use Rattle.unit.specs.Trim.{trimmed, bits_of, trimmed_cost}
@@ -25,7 +25,7 @@ use Rattle.unit.specs.HighQuality.{scalers_of, component_bits, high_bits}
 use Rattle.unit.proofs.Laws.HighQuality.{cost_held, length_component, length_high}
 use Rattle.picture.specs.declared.slices.layout.Picture.{Picture}
 use Rattle.picture.specs.declared.high.choice.Choice.{Choice}
-use Rattle.picture.specs.declared.high.size.Terms.{Terms}
+use Rattle.picture.specs.declared.high.plan.Terms.{Terms}
 use Rattle.picture.specs.Laws.Head.{room_less, room_first, room_rest}
 use Rattle.picture.specs.Code.Packed.{packed, unpacked, words_at}
 use Rattle.picture.specs.Laws.Unpacked.{Below, unpacked-run, trimmed_again, component_trimmed, run_below}
@@ -56,10 +56,6 @@ module _ {c : ℕ} {xs : List ℤ} {b n : ℕ} (h : Counted c xs b n) where
 
   scalers_are : n ≡ scalers_of c xs
   scalers_are = h.scalers ∙ ap (λ (b : ℕ). ceiling (ceiling b 8) c) bits_are
-
-  -- the scalers hold the numbers
-  pub kept_held : b ≤ 8 * (n * c)
-  kept_held = rw (bits_are, scalers_are) (cost_held c xs h.some)
 
   -- a component's bits as the code puts them together
   component_parts : component_bits c xs ≡ lit 8 n ++ (codes xs ++ one_bits (fill_of c n b))
@@ -103,50 +99,28 @@ pub prefix_turn : {o o' o'' : List ℕ} {w w' w'' : BitWriter} (i : ℕ) → Sou
     → Wrote o w (zero_bits (8 * (i + 1))) o'' w''
 prefix_turn i s a b = rw (prefix_more i) (wrote_then s a b)
 
--- room for the next prefix byte
-pub prefix_next : {o o' : List ℕ} {w w' : BitWriter} (n i : ℕ) → i < n → Room o w (8 * n) → Wrote o w (zero_bits (8 * i)) o' w' → Room o' w' 8
-prefix_next n i h r a = room_after 8 r a (omega (arith, length-replicate (8 * i) false))
-
--- all n prefix bytes
-pub prefix_all : {o o' : List ℕ} {w w' : BitWriter} (i n : ℕ) → i ≡ n → Wrote o w (zero_bits (8 * i)) o' w' → Wrote o w (zero_bits (8 * n)) o' w'
-prefix_all i n e a = rw e at a
-
--- ---- the three components
-module _ (c : ℕ) (z : Three (List ℤ)) {o : List ℕ} {s : BitWriter} (room : Room o s (length (three_bits c z))) where
-  pub y_room : Room o s (length (component_bits c z.y))
-  y_room = room_first (component_bits c z.y) (component_bits c z.c1 ++ component_bits c z.c2) room
-
-  module _ {o₁ : List ℕ} {s₁ : BitWriter} (a : Wrote o s (component_bits c z.y) o₁ s₁) where
-    colour_room : Room o₁ s₁ (length (component_bits c z.c1 ++ component_bits c z.c2))
-    colour_room = room_rest (component_bits c z.y) (component_bits c z.c1 ++ component_bits c z.c2) room a
-
-    pub c1_room : Room o₁ s₁ (length (component_bits c z.c1))
-    c1_room = room_first (component_bits c z.c1) (component_bits c z.c2) colour_room
-
-    module _ {o₂ : List ℕ} {s₂ : BitWriter} (b : Wrote o₁ s₁ (component_bits c z.c1) o₂ s₂) where
-      pub c2_room : Room o₂ s₂ (length (component_bits c z.c2))
-      c2_room = room_rest (component_bits c z.c1) (component_bits c z.c2) colour_room b
-
-      pub three_wrote : {o₃ : List ℕ} {s₃ : BitWriter} → Wrote o₂ s₂ (component_bits c z.c2) o₃ s₃ → Wrote o s (three_bits c z) o₃ s₃
-      three_wrote d = wrote_then room.sound a (wrote_then a.sound b d)
-
 -- ---- a slice
 high_parts : (p c q : ℕ) (z : Three (List ℤ)) → high_bits p c q z ≡ zero_bits (8 * p) ++ (lit 8 q ++ three_bits c z)
 unfolding high_bits
 high_parts p c q z = refl
 
--- prefix p, scaler c, index q and numbers z, from place at on
-module _ (p c q : ℕ) (z : Three (List ℤ)) {o : List ℕ} (at : ℕ) (some : 1 ≤ c) (fits : at + length (to_bytes (high_bits p c q z)) ≤ length o) where
-  slice_room : Room o (start_at at) (length (zero_bits (8 * p) ++ (lit 8 q ++ three_bits c z)))
+-- a new writer has no bit pending
+new_sound : (w : BitWriter) → (w.pending ≡ 0) × (w.pending_bits ≡ 0) → Sound w
+new_sound w new = record { part = omega arith; small = rw (new.0, new.1) (omega arith) }
+
+-- prefix p, scaler c, index q and numbers z, from place at on by a new writer
+module _ (p c q : ℕ) (z : Three (List ℤ)) {o : List ℕ} (at : ℕ) {w : BitWriter} (new : (w.at ≡ at) × ((w.pending ≡ 0) × (w.pending_bits ≡ 0))) (some : 1 ≤ c)
+    (fits : at + length (to_bytes (high_bits p c q z)) ≤ length o) where
+  slice_room : Room o w (length (zero_bits (8 * p) ++ (lit 8 q ++ three_bits c z)))
   slice_room =
       let bits : Bits = high_bits p c q z in
-      let all : Room o (start_at at) (length bits) = record { sound = start_sound at; room = omega (arith, length-to_bytes bits, length_high p c q z some) } in
+      let all : Room o w (length bits) = record { sound = new_sound w new.1; room = omega (arith, length-to_bytes bits, length_high p c q z some) } in
       rw (high_parts p c q z) at all
 
-  pub prefix_room : Room o (start_at at) (8 * p)
+  pub prefix_room : Room o w (8 * p)
   prefix_room = rw (length-replicate (8 * p) false) at (room_first (zero_bits (8 * p)) (lit 8 q ++ three_bits c z) slice_room)
 
-  module _ {o₁ : List ℕ} {w₁ : BitWriter} (a : Wrote o (start_at at) (zero_bits (8 * p)) o₁ w₁) where
+  module _ {o₁ : List ℕ} {w₁ : BitWriter} (a : Wrote o w (zero_bits (8 * p)) o₁ w₁) where
     index-behind : Room o₁ w₁ (length (lit 8 q ++ three_bits c z))
     index-behind = room_rest (zero_bits (8 * p)) (lit 8 q ++ three_bits c z) slice_room a
 
@@ -163,8 +137,8 @@ module _ (p c q : ℕ) (z : Three (List ℤ)) {o : List ℕ} (at : ℕ) (some : 
 
         pub slice_laid : {o₄ : List ℕ} {w₄ : BitWriter} → Flushes o₃ w₃ o₄ w₄ → Lays o at (to_bytes (high_bits p c q z)) o₄ w₄.at
         slice_laid f =
-            let s = start_sound at in
-            rw (high_parts p c q z) (flush_lays s (wrote_then s a (wrote_then a.sound b d)) f refl)
+            let s = new_sound w new.1 in
+            rw (high_parts p c q z) (rw new.0 at (flush_lays s (wrote_then s a (wrote_then a.sound b d)) f new.1.1))
 
 -- ---- a slice as planned
 -- words that stand one behind the other
@@ -301,3 +275,35 @@ module _ (w : List ℤ) (p : Picture) (t : Terms) where
 
     pub slices_all : (n : ℕ) → k ≡ n → Lays o at (high_runs w p t n) o' r
     slices_all n e = rw e at a
+
+-- ---- further laws
+-- the scalers hold the numbers
+pub kept_held : {c : ℕ} {xs : List ℤ} {b n : ℕ} → Counted c xs b n → b ≤ 8 * (n * c)
+kept_held {c} {xs} h = rw (bits_are h, scalers_are h) (cost_held c xs h.some)
+
+-- room for the next prefix byte
+pub prefix_next : {o o' : List ℕ} {w w' : BitWriter} (n i : ℕ) → i < n → Room o w (8 * n) → Wrote o w (zero_bits (8 * i)) o' w' → Room o' w' 8
+prefix_next n i h r a = room_after 8 r a (omega (arith, length-replicate (8 * i) false))
+
+-- all n prefix bytes
+pub prefix_all : {o o' : List ℕ} {w w' : BitWriter} (i n : ℕ) → i ≡ n → Wrote o w (zero_bits (8 * i)) o' w' → Wrote o w (zero_bits (8 * n)) o' w'
+prefix_all i n e a = rw e at a
+
+-- the three components
+module _ (c : ℕ) (z : Three (List ℤ)) {o : List ℕ} {s : BitWriter} (room : Room o s (length (three_bits c z))) where
+  pub y_room : Room o s (length (component_bits c z.y))
+  y_room = room_first (component_bits c z.y) (component_bits c z.c1 ++ component_bits c z.c2) room
+
+  module _ {o₁ : List ℕ} {s₁ : BitWriter} (a : Wrote o s (component_bits c z.y) o₁ s₁) where
+    colour_room : Room o₁ s₁ (length (component_bits c z.c1 ++ component_bits c z.c2))
+    colour_room = room_rest (component_bits c z.y) (component_bits c z.c1 ++ component_bits c z.c2) room a
+
+    pub c1_room : Room o₁ s₁ (length (component_bits c z.c1))
+    c1_room = room_first (component_bits c z.c1) (component_bits c z.c2) colour_room
+
+    module _ {o₂ : List ℕ} {s₂ : BitWriter} (b : Wrote o₁ s₁ (component_bits c z.c1) o₂ s₂) where
+      pub c2_room : Room o₂ s₂ (length (component_bits c z.c2))
+      c2_room = room_rest (component_bits c z.c1) (component_bits c z.c2) colour_room b
+
+      pub three_wrote : {o₃ : List ℕ} {s₃ : BitWriter} → Wrote o₂ s₂ (component_bits c z.c2) o₃ s₃ → Wrote o s (three_bits c z) o₃ s₃
+      three_wrote d = wrote_then room.sound a (wrote_then a.sound b d)

@@ -1,6 +1,6 @@
 -- Laws of layouts: the bands of a component follow one another within its padded area, a slice's strips lie within, and
 -- its numbers band by band.
-use Rattle.std.specs.Prelude.{◌≡◌, Bool, true, false, cond, ◌&&◌, eqb, leb, ℤ, length, get_or}
+use Rattle.std.specs.Prelude.{◌≡◌, Some, None, Option, unwrap_or, Bool, true, false, cond, ◌&&◌, eqb, leb, ℤ, length, get_or}
 use Rattle.std.proofs.Math.Path.{refl, sym, ap, ap₂}
 use Rattle.std.proofs.Common.{◌∙◌, pow-suc, div-one, div-le_self, div-lt_iff_lt-mul, mod-lt, add-one, length-append}
 use Rattle.std.proofs.Math.Bool.{and-false}
@@ -14,12 +14,14 @@ use Rattle.laws.specs.Code.Chunks.{chunks}
 use Rattle.quantiser.specs.Quant.{quant_factor, quant_offset, band_index}
 use Rattle.codewords.specs.Code.Writer.{Sound, Room}
 use Rattle.unit.specs.Limits.{area_limit}
+use Rattle.wavelet.specs.RowCall.{row_limit}
 use Rattle.unit.specs.Sizes.{Size, area}
 use Rattle.unit.specs.Slices.{bound, slice_count, part_size}
 use Rattle.unit.proofs.Laws.Subband.{half, quarter}
 use Rattle.unit.proofs.Laws.Slice.{bound_rises, bound-most, part_size-most}
 use Rattle.unit.proofs.Laws.Trim.{small_append}
 use Rattle.unit.proofs.Laws.Trim as trim
+use Rattle.picture.specs.declared.slices.strip.Origin.{Origin}
 use Rattle.picture.specs.declared.slices.strip.Strip.{Strip}
 use Rattle.picture.specs.declared.slices.cost.Cost.{Cost}
 use Rattle.picture.specs.declared.low.put.Put.{Put}
@@ -29,14 +31,16 @@ use Rattle.picture.specs.declared.slices.layout.Window.{Window}
 use Rattle.picture.specs.declared.slices.tally.Tally.{Tally}
 use Rattle.picture.specs.Code.Strip.{strip_numbers, Within, Lies, PlainLies}
 use Rattle.picture.specs.Laws.Strip.{rows_small, rows-length}
-use Rattle.picture.specs.Code.Cost.{add1, add_all, no_cost, Countable}
-use Rattle.picture.specs.Laws.Added.{added_none, added-append}
+use Rattle.picture.specs.Code.Cost.{add1, added, add_all, no_cost, Counted, Countable}
+use Rattle.picture.specs.Laws.Added.{added_none, added-append, added-start, added-turn}
+use Rattle.picture.specs.Code.Counter.{Counts, tally_counts}
+use Rattle.picture.specs.Laws.Counter.{counted_fewer, counted_after}
 use Rattle.picture.specs.Laws.Cost.{countable_after}
 use Rattle.picture.specs.Code.Tally.{tally1, tally_all, no_tally, Addable}
-use Rattle.picture.specs.Laws.Tally.{addable_after, tally_of_lem, TallyOf}
+use Rattle.picture.specs.Laws.Tally.{tally_of_lem, TallyOf}
 use Rattle.picture.specs.Code.Put.{RoomFor, Puts}
 use Rattle.picture.specs.Laws.Put.{puts_none, puts_same, puts_then, room_same, part_room}
-use Rattle.picture.specs.Code.Layout.{level_of, band_count, grid_in, band_size, start_of, window_of, strip_of, run_numbers, rest_numbers, LayoutIn, WindowIn, StripIn, RunIn, RunLies}
+use Rattle.picture.specs.Code.Layout.{level_of, band_count, grid_in, band_size, start_of, window_of, origin_of, strip_of, run_numbers, rest_numbers, LayoutIn, WindowIn, StripIn, RunIn, RunLies}
 
 -- ---- levels
 pub level_low : (k n : ℕ) → n ≤ k → level_of k n ≡ n
@@ -153,6 +157,9 @@ module _ (l : Layout) (c : Component) where
       let f : cut (l.depth - l.depth) (l.depth - l.depth) ≡ c.width * c.height = ap₂ cut d d ∙ ap₂ ◌*◌ (div-one c.width) (div-one c.height) in
       omega (arith, start-next n, start_rises m (suc n), ap (start_of l c) e, deep_start l.depth (omega arith), f)
 
+  pub first_most : start_of l c 1 ≤ c.width * c.height
+  first_most = omega (arith, start_first, start-next 0, band-fits 0 (omega arith))
+
   -- level 0 has at most as many numbers as its component
   pub first_fits : (band_size l c 0).height * (band_size l c 0).width ≤ c.width * c.height
   first_fits = omega (arith, band-fits 0 (omega arith), mul_comm (band_size l c 0).width (band_size l c 0).height)
@@ -166,6 +173,11 @@ module _ {l : Layout} {k : ℕ} (i : LayoutIn l) (h : k < slice_count (grid_in l
   column-of = mod-lt k i.across.0
 
 -- ---- strips
+-- where the second's part of a subband stands, where there is a second
+origin_is : (pair : Bool) (second : Component) (start : ℕ) (o : Origin) → cond pair (Some (origin_of second start)) None ≡ Some o → origin_of second start ≡ o
+origin_is true second start o e = ap (λ (m : Option Origin). unwrap_or m (origin_of second start)) e
+origin_is false second start o e = ap (λ (m : Option Origin). unwrap_or m (origin_of second start)) e
+
 module _ {l : Layout} {c second : Component} {a e k q : ℕ} {w : List ℤ} (h : RunIn l c second a e k q w) where
   pub run_lies : RunLies l c second k q w
   run_lies = record { front = a; end = e; holds = h }
@@ -176,17 +188,18 @@ module _ {l : Layout} {c second : Component} {a e k q : ℕ} {w : List ℤ} (h :
       let z = band_size l c n in
       let f = band-fits l c n b in
       let m = mul_comm z.width z.height in
+      let start : ℕ = start_of l c n in
       record {
         rows = bound_rises l.down z.height (omega arith);
         columns = bound_rises l.across z.width (omega arith);
         wide = bound-most l.across z.width (suc (k % l.across)) (column-of h.layout h.slice);
         high = bound-most l.down z.height (suc (k / l.across)) (row_of h.layout h.slice);
         rebuilt = omega (arith, f, m, h.rebuilt);
-        rebuilt2 = omega (arith, f, m, h.rebuilt2);
+        rebuilt2 = λ o i. omega (arith, f, m, h.rebuilt2, ap (λ (o : Origin). o.rebuilt) (origin_is pair second start o i));
         behind = omega (arith, h.coefs);
-        behind2 = omega (arith, h.coefs2);
+        behind2 = λ o i. omega (arith, h.coefs2, ap (λ (o : Origin). o.coefs) (origin_is pair second start o i));
         coefs = omega (arith, f, m, h.coefs);
-        coefs2 = omega (arith, f, m, h.coefs2);
+        coefs2 = λ o i. omega (arith, f, m, h.coefs2, ap (λ (o : Origin). o.coefs) (origin_is pair second start o i));
         factor = refl;
         offset = refl;
         index = omega (arith, h.index);
@@ -271,6 +284,12 @@ pub window_is : (l : Layout) (c : Component) (n k : ℕ) (z : Size) (t b x y : �
 unfolding window_of
 window_is l c n k z t b x y ez et eb ex ey = rw (et, eb, ex, ey, ez, add-one (k / l.across), add-one (k % l.across))
 
+-- the sides of a slice's band and the slice's row and column are small
+pub window_small : {l : Layout} {c : Component} {n k : ℕ} {z : Size} → WindowIn l c n k → z ≡ band_size l c n
+    → ((z.height ≤ row_limit) × (k / l.across < l.down)) × ((z.width ≤ row_limit) × (k % l.across < l.across))
+window_small {l} {c} {n} h e =
+    ((rw e (omega (arith, band-low l c n, h.first.height)), row_of h.layout h.slice), (rw e (omega (arith, band_narrow l c n, h.first.width)), column-of h.layout h.slice))
+
 same_third : (i j : ℕ) → i ≡ suc j → (i % 3 ≡ 0 → ⊥) → j / 3 ≡ i / 3
 same_third i j e d = omega (arith, d)
 
@@ -303,8 +322,7 @@ pub strip_by : (l : Layout) (c second : Component) (pair : Bool) (n start k q : 
     → record {
       coefs = c.coefs + start;
       rebuilt = c.rebuilt;
-      coefs2 = second.coefs + start;
-      rebuilt2 = second.rebuilt;
+      second = cond pair (Some (origin_of second start)) None;
       width = v.width;
       height = v.height;
       top = v.top;
@@ -315,7 +333,6 @@ pub strip_by : (l : Layout) (c second : Component) (pair : Bool) (n start k q : 
       factor = f;
       offset = o;
       predicted = p;
-      pair = pair;
     } ≡ strip_of l c second pair n start k q
 unfolding strip_of window_of
 strip_by l c second pair n start k q v i f o p ev ei ef eo ep = rw (ep, ef, eo, ev, ei)
@@ -434,56 +451,80 @@ module _ (w : List ℤ) (l : Layout) (c second : Component) (pair : Bool) (k q :
   rest_small zero = tt
   rest_small (suc n) = small_append (rest_numbers w l c second pair k q n) (band_numbers w l c second pair k q (suc n)) (rest_small n) (rows_small w (band_strip l c second pair k q (suc n)) _ _)
 
-  rest_length : (n : ℕ) → length (rest_numbers w l c second pair k q n) ≤ 2 * start_of l c (suc n)
-  rest_length n =
-      omega (arith, ap length (run-first n), length-append (strip_numbers w first_strip) (rest_numbers w l c second pair k q n), run_length w l c second pair k q (suc n))
+  rest_length : (n : ℕ) → length (rest_numbers w l c second pair k q n) + 2 * start_of l c 1 ≤ 2 * start_of l c (suc n)
+  rest_length zero = omega (arith, ap length rest_none)
+  rest_length (suc n) =
+      omega (arith, ap length (rest_next n), length-append (rest_numbers w l c second pair k q n) (band_numbers w l c second pair k q (suc n)), rest_length n, band-length w l c second pair k q (suc n), part_size-most (grid_in l) (band_size l c (suc n)) k, start-next l c (suc n))
+
+  pub first_length : length (strip_numbers w first_strip) ≤ 2 * start_of l c 1
+  first_length =
+      let xs = strip_numbers w first_strip in
+      omega (arith, ap length (run-first 0), length-append xs (rest_numbers w l c second pair k q 0), run_length w l c second pair k q 1)
+
+  -- the first subband and the others are all
+  pub added_whole : {A : Type 0} (step : A → ℤ → A) (t f u : A) → f ≡ added step t (strip_numbers w first_strip)
+      → u ≡ added step f (rest_numbers w l c second pair k q (band_count l - 1)) → u ≡ added step t (run_numbers w l c second pair k q (band_count l))
+  added_whole {A} step t f u e d =
+      d ∙ ap (λ (f : A). added step f (rest_numbers w l c second pair k q (band_count l - 1))) e
+      ∙ sym (added-append step t (strip_numbers w first_strip) (rest_numbers w l c second pair k q (band_count l - 1))) ∙ ap (added step t) (sym run_rest)
 
   -- the tally of the subbands so far
   pub first_addable : {a e : ℕ} → RunIn l c second a e k q w → c.width * c.height ≤ area_limit → (t : Tally) → t ≡ tally_all no_tally (strip_numbers w first_strip)
       → Addable t (2 * (c.width * c.height))
   first_addable h m t e =
       let xs = strip_numbers w first_strip in
-      rw e (addable_after no_tally xs (4 * (c.width * c.height)) (2 * (c.width * c.height)) (record { bits = omega arith; count = omega (arith, m) })
+      rw e (counted_after tally_counts no_tally xs (4 * (c.width * c.height)) (2 * (c.width * c.height)) (record { bits = omega arith; count = omega (arith, m) })
       (rows_small w first_strip _ _)
-      (omega (arith, ap length (run-first 0), length-append xs (rest_numbers w l c second pair k q 0), run_length w l c second pair k q 1, start_first l c, start-next l c 0, band-fits l c 0 (omega arith))))
+      (omega (arith, first_length, first_most l c)))
 
   pub tally_whole : (t f : Tally) → f ≡ tally_all no_tally (strip_numbers w first_strip) → t ≡ tally_all f (rest_numbers w l c second pair k q (band_count l - 1))
       → TallyOf (run_numbers w l c second pair k q (band_count l)) t
   tally_whole t f e d =
-      tally_of_lem (run_numbers w l c second pair k q (band_count l)) t
-      (d ∙ ap (λ (f : Tally). tally_all f (rest_numbers w l c second pair k q (band_count l - 1))) e
-      ∙ sym (added-append tally1 no_tally (strip_numbers w first_strip) (rest_numbers w l c second pair k q (band_count l - 1))) ∙ ap (tally_all no_tally) (sym run_rest))
+      tally_of_lem (run_numbers w l c second pair k q (band_count l)) t (added_whole tally1 no_tally f t e d)
+
+  module _ {A : Type 0} (step : A → ℤ → A) where
+    pub rest-added-none : (t : A) → t ≡ added step t (rest_numbers w l c second pair k q (1 - 1))
+    rest-added-none t = added-start step t (rest_numbers w l c second pair k q) 1 rest_none
+
+    pub rest-added-turn : (t r u : A) (s : Strip) (n : ℕ) → 1 ≤ n → s ≡ band_strip l c second pair k q n → r ≡ added step t (rest_numbers w l c second pair k q (n - 1))
+        → u ≡ added step r (strip_numbers w s) → u ≡ added step t (rest_numbers w l c second pair k q (n + 1 - 1))
+    rest-added-turn t r u s n h e d f =
+        let bands = band_numbers w l c second pair k q in
+        let rest = rest_numbers w l c second pair k q in
+        added-turn step t r u rest bands 1 n h (λ m. let i : suc m ≡ 1 + m = omega arith in rest_next m ∙ ap (λ (i : ℕ). rest m ++ bands i) i) d
+        (f ∙ ap (λ (s : Strip). added step r (strip_numbers w s)) e)
 
   pub tally_none : (t : Tally) → t ≡ tally_all t (rest_numbers w l c second pair k q (1 - 1))
-  tally_none t = let e : 1 - 1 ≡ 0 = omega arith in sym (ap (λ (n : ℕ). tally_all t (rest_numbers w l c second pair k q n)) e ∙ ap (tally_all t) rest_none ∙ added_none tally1 t)
+  tally_none = rest-added-none tally1
 
   pub tally_turn : (t r u : Tally) (s : Strip) (n : ℕ) → 1 ≤ n → s ≡ band_strip l c second pair k q n → r ≡ tally_all t (rest_numbers w l c second pair k q (n - 1))
       → u ≡ tally_all r (strip_numbers w s) → u ≡ tally_all t (rest_numbers w l c second pair k q (n + 1 - 1))
-  tally_turn t r u s zero h e d f = absurd (omega arith)
-  tally_turn t r u s (suc n) h e d f =
-      let i : suc n - 1 ≡ n = omega arith in
-      let j : suc n + 1 - 1 ≡ suc n = omega arith in
-      f ∙ ap₂ (λ (r : Tally) (s : Strip). tally_all r (strip_numbers w s)) (d ∙ ap (λ (m : ℕ). tally_all t (rest_numbers w l c second pair k q m)) i) e
-      ∙ sym (added-append tally1 t (rest_numbers w l c second pair k q n) (band_numbers w l c second pair k q (suc n)))
-      ∙ ap (tally_all t) (sym (rest_next n)) ∙ ap (λ (m : ℕ). tally_all t (rest_numbers w l c second pair k q m)) (sym j)
+  tally_turn = rest-added-turn tally1
 
   module _ {a e : ℕ} (h : RunIn l c second a e k q w) (s : Strip) (n : ℕ) (b : n < band_count l) where
     -- what the next band asks
+    pub rest_ready : {A : Type 0} {step : A → ℤ → A} {bits count : A → ℕ} → Counts step bits count → (t r : A) → 1 ≤ n → s ≡ band_strip l c second pair k q n
+        → r ≡ added step t (rest_numbers w l c second pair k q (n - 1))
+        → Counted (bits t) (count t) (2 * (c.width * c.height - start_of l c 1))
+        → Lies w s × ((s.predicted ≡ false) × Counted (bits r) (count r) (2 * ((s.bottom - s.top) * (s.right - s.left))))
+    unfolding strip_of
+    rest_ready i t r g d f u =
+        let m : suc (n - 1) ≡ n = omega arith in
+        rw (f, d) (
+          strip_lies h pair n b,
+          (
+            ap (λ (b : Bool). l.predicted && b) (ne_eqb n 0 (omega arith)) ∙ and-false l.predicted,
+            counted_after i t (rest_numbers w l c second pair k q (n - 1)) _ _ u (rest_small (n - 1))
+                (omega (arith, rest_length (n - 1), ap (start_of l c) m, part_size-most (grid_in l) (band_size l c n) k, band-fits l c n b)),
+          ),
+        )
+
     pub tally_ready : (t r : Tally) → 1 ≤ n → s ≡ band_strip l c second pair k q n → r ≡ tally_all t (rest_numbers w l c second pair k q (n - 1))
         → Addable t (2 * (c.width * c.height))
         → PlainLies w s × Addable r (2 * ((s.bottom - s.top) * (s.right - s.left)))
-    unfolding strip_of
     tally_ready t r g d f u =
-        let m : suc (n - 1) ≡ n = omega arith in
-        rw (f, d) (
-          record {
-            front = a;
-            end = e;
-            holds = record { small = h.small; within = strip_within h pair n b; plain = ap (λ (b : Bool). l.predicted && b) (ne_eqb n 0 (omega arith)) ∙ and-false l.predicted };
-          },
-          addable_after t (rest_numbers w l c second pair k q (n - 1)) _ _ u (rest_small (n - 1))
-              (omega (arith, rest_length (n - 1), ap (start_of l c) m, part_size-most (grid_in l) (band_size l c n) k, band-fits l c n b)),
-        )
+        let d2 = rest_ready tally_counts t r g d f (counted_fewer u (omega arith)) in
+        (record { front = a; end = e; holds = record { small = h.small; within = rw d (strip_within h pair n b); plain = d2.1.0 } }, d2.1.1)
 
 -- the strip of level 0
 pub first-within : {l : Layout} {c second : Component} {a e k q : ℕ} {w : List ℤ} → RunIn l c second a e k q w → (pair : Bool) (s : Strip) → s ≡ strip_of l c second pair 0 0 k q → Within a e s
@@ -492,6 +533,11 @@ first-within h pair s e = rw e (strip_within h pair 0 (omega arith))
 
 pub first_lies : {l : Layout} {c second : Component} {a e k q : ℕ} {w : List ℤ} → RunIn l c second a e k q w → (pair : Bool) (s : Strip) → s ≡ strip_of l c second pair 0 0 k q → Lies w s
 first_lies h pair s e = record { front = _; end = _; holds = (h.small, first-within h pair s e) }
+
+-- the first strip has no more numbers than its subband
+pub first_part : (l : Layout) (c second : Component) (pair : Bool) (k q : ℕ) (s : Strip) → s ≡ strip_of l c second pair 0 0 k q → (s.bottom - s.top) * (s.right - s.left) ≤ start_of l c 1
+unfolding start_of strip_of
+first_part l c second pair k q s e = rw e (omega (arith, part_size-most (grid_in l) (band_size l c 0) k))
 
 -- the numbers of the first strip can be counted
 pub first_ready : (w : List ℤ) (l : Layout) (c second : Component) (pair : Bool) (k q : ℕ) {a e : ℕ} → RunIn l c second a e k q w → (s : Strip)

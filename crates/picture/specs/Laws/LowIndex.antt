@@ -4,16 +4,16 @@ use Rattle.std.specs.Prelude.{◌≡◌, refl, false, List, ℤ}
 use Rattle.std.proofs.Common.{ap, ◌∙◌, add-one, arith}
 use Prim.Native.Nat.{ℕ, suc, ◌+◌, ◌*◌, ◌-◌, ◌/◌, ◌^◌, ◌≤◌}
 use Rattle.std.proofs.Math.Nat.{suc-mul, mul-le-mul_left, mul-one, add-mul-div_right}
-use Rattle.unit.specs.Limits.{area_limit}
 use Rattle.unit.proofs.Laws.Slice.{div_rises}
 use Rattle.unit.proofs.Laws.Intlog2.{intlog2-least, intlog2-most}
+use Rattle.unit.specs.Limits.{area_limit}
+use Rattle.picture.specs.Code.Cost.{no_cost, Countable}
 use Rattle.unit.specs.LowDelay.{slice_bytes, length_bits}
 use Rattle.unit.proofs.Laws.LowDelay.{bytes_some}
 use Rattle.picture.specs.declared.slices.layout.Component.{Component}
 use Rattle.picture.specs.declared.slices.layout.Picture.{Picture}
 use Rattle.picture.specs.Code.Strip.{rebuilt_strip}
 use Rattle.picture.specs.Laws.Strip.{rows_keep}
-use Rattle.picture.specs.Code.Cost.{no_cost, Countable}
 use Rattle.picture.specs.Code.Layout.{RunIn, RunLies}
 use Rattle.picture.specs.Laws.Layout.{run_lies, first-within}
 use Rattle.picture.specs.Code.Picture.{SliceIn}
@@ -22,9 +22,6 @@ use Rattle.picture.specs.Code.Low.{strip0, rebuilt_in}
 
 -- ---- bytes
 module _ (n d k : ℕ) where
-  pub bytes_rise : k * n / d ≤ (k + 1) * n / d
-  bytes_rise = rw (add-one k) (div_rises d (omega (arith, suc-mul k n)))
-
   -- a slice has at most all of them
   bytes_most : 1 ≤ d → slice_bytes n d k ≤ n
   unfolding slice_bytes
@@ -65,7 +62,7 @@ slice_rebuilt c s h e = record {
   index = s.index;
 }
 
--- ---- costs
+-- ---- further laws
 none_countable : (room n : ℕ) → n ≤ area_limit → Countable (no_cost room) (2 * n)
 none_countable room n h = record { bits = omega arith; count = omega arith }
 
@@ -76,3 +73,6 @@ luma_ready {p = p} room s = (run_lies (run_y s), none_countable room (p.y.width 
 pub colour_ready : {p : Picture} {w : List ℤ} {k q : ℕ} (room : ℕ) → SliceIn p w k q
     → RunLies p.layout p.c1 p.c2 k q w × Countable (no_cost room) (2 * (p.c1.width * p.c1.height))
 colour_ready {p = p} room s = (run_lies (run_pair s), none_countable room (p.c1.width * p.c1.height) s.arranged.c1.area)
+
+pub bytes_rise : (n d k : ℕ) → k * n / d ≤ (k + 1) * n / d
+bytes_rise n d k = rw (add-one k) (div_rises d (omega (arith, suc-mul k n)))

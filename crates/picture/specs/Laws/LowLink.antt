@@ -1,5 +1,5 @@
 -- The code's low-delay slices are the unit's: rebuilt planes, numbers, indices, bytes and cuts, slice by slice.
-use Rattle.std.specs.Prelude.{◌≡◌, refl, Bool, true, false, not, ℤ, pos, get_or, drop}
+use Rattle.std.specs.Prelude.{◌≡◌, refl, Bool, true, false, not, ℤ, pos, get_or, drop, Ok, Err}
 use Rattle.std.proofs.Math.Path.{sym, ap, ap₂, fun_ext, subst}
 use Rattle.std.proofs.Common.{◌∙◌, mul-pos, arith}
 use Rattle.std.proofs.Math.Bool.{cond}
@@ -32,7 +32,8 @@ use Rattle.unit.specs.declared.Settings.{Settings}
 use Rattle.unit.specs.declared.PictureKind.{PictureKind}
 use Rattle.unit.specs.declared.PictureKind.TheVariants.{LowDelay}
 use Rattle.unit.specs.declared.Coded.{Coded}
-use Rattle.unit.specs.declared.Answer.TheVariants.{Accepted, Refused}
+use Rattle.refusals.specs.declared.Refusal.{Refusal}
+use Rattle.refusals.specs.Number.{number}
 use Rattle.unit.specs.Parameters.{low_delay, Parameters, overhead}
 use Rattle.unit.specs.Matrix.{matrix_values}
 use Rattle.unit.specs.Coefficients.{coefficients_of}
@@ -414,13 +415,13 @@ module _ {s : Settings} {m : List ℕ} {p : Picture} {w : List ℤ} {n d l : ℕ
   low_ready = rw (h.coding.picture, h.numerator) (low_in h.coding.called h.coding.same w h.coding.small)
 
   -- coding refuses the unit
-  pub low_refused : (out : List ℕ) (r : ℕ) → r ≡ coding_refusal (length out) l → (r ≡ 0 → ⊥) → CodesAny s m w out out (Refused r)
-  low_refused out r e h = record { codes = λ pl an. codes_refused s (plan_of s m pl) out r (e ∙ same-refusal out pl) h }
+  pub low_refused : (out : List ℕ) (r : Refusal) → number r ≡ coding_refusal (length out) l → CodesAny s m w out out (Err r)
+  low_refused out r e = record { codes = λ pl an. codes_refused s (plan_of s m pl) out r (e ∙ same-refusal out pl) }
 
   -- the head at the output's start, and the slices behind it
   pub low_written : (out o o' : List ℕ) (at r c : ℕ) → coding_refusal (length out) l ≡ 0 → at ≡ overhead (major_version s) (parameters_by s m (low_delay n d))
       → o ≡ to_bytes (head_bits s l (parameters_by s m (low_delay n d))) ++ drop at out → Lays o at (low_runs p n w (slices_in p)) o' r → c ≡ cuts_in p n w (slices_in p)
-      → CodesAny s m w out o' (Accepted (record { written = l; cut_slices = c; slice_size_scaler = s.slice_size_scaler }))
+      → CodesAny s m w out o' (Ok (record { written = l; cut_slices = c; slice_size_scaler = s.slice_size_scaler }))
   low_written out o o' at r c e ea eo lays ec = record {
     codes = λ pl an.
         let et = same-parameters ∙ parameters_are called low pl in

@@ -71,13 +71,7 @@ joined_is xs ys t r h e = rw e (by (trimmed ys) refl)
         ∙ ap₂ (λ (m n : ℕ). record { count = m; bits = n }) (sym (length-append xs (z ∷ zs))) (sym (bits-append xs (z ∷ zs)))
         ∙ ap (λ (zs : List ℤ). record { count = length zs; bits = bits_of zs }) (sym f)
 
--- the joined run as the code makes it
-pub joined-none : (t : Tally) (r : Trimmed) → r.count ≡ 0 → trimmed_by t ≡ joined_of t r
-joined-none t r h = rw (eq-eqb r.count 0 h)
-
-pub joined-some : (t : Tally) (r : Trimmed) → (r.count ≡ 0 → ⊥) → record { count = t.count + r.count; bits = t.bits + r.bits } ≡ joined_of t r
-joined-some t r h = rw (ne_eqb r.count 0 h)
-
+-- its bits
 pub joined_few : (t : Tally) (r z : Trimmed) → Joins t r → z ≡ joined_of t r → z.bits ≤ 2 ^ 48
 joined_few t r z h e = rw e (by (eqb r.count 0))
   where
@@ -256,3 +250,11 @@ module _ {v : List ℤ} {p : Picture} {k q : ℕ} {f : First} {low high : Rest} 
       → (s || t) ≡ true → false ≡ low_fits_in w p room k q
   never_either true t d g o = never h a w e room (sym d)
   never_either false t d g o = never h b w e room (sym g ∙ o)
+
+-- ---- further laws
+-- the joined run, by whether the run behind has numbers
+pub joined-none : (t : Tally) (r : Trimmed) → r.count ≡ 0 → trimmed_by t ≡ joined_of t r
+joined-none t r h = rw (eq-eqb r.count 0 h)
+
+pub joined-some : (t : Tally) (r : Trimmed) → (r.count ≡ 0 → ⊥) → record { count = t.count + r.count; bits = t.bits + r.bits } ≡ joined_of t r
+joined-some t r h = rw (ne_eqb r.count 0 h)

@@ -13,13 +13,13 @@ use Rattle.laws.specs.Laws.Rows.{total-more}
 use Rattle.laws.specs.Code.Laid.{Lays}
 use Rattle.laws.specs.Laws.Laid.{lays_start, lays_on}
 use Rattle.laws.specs.Code.Chunks.{chunks}
-use Rattle.codewords.specs.Bit.{Bits, lit, one_bits}
+use Rattle.codewords.specs.Bit.{Bits, val, lit, one_bits}
 use Rattle.codewords.specs.Laws.Bit.{length-lit}
 use Rattle.codewords.specs.Bytes.{to_bytes}
 use Rattle.codewords.specs.Laws.Byte.{length-to_bytes}
 use Rattle.codewords.specs.CodeWord.{codes}
-use Rattle.codewords.specs.Code.Writer.{Room, Wrote, Flushes}
-use Rattle.codewords.specs.Laws.Writer.{start_at, start_sound, wrote_then, room_after, flush_lays}
+use Rattle.codewords.specs.Code.Writer.{Sound, Room, Wrote, Flushes}
+use Rattle.codewords.specs.Laws.Writer.{wrote_then, room_after, flush_lays}
 use Rattle.codewords.specs.declared.writer.BitWriter.{BitWriter}
 use Rattle.unit.specs.declared.PictureKind.TheVariants.{LowDelay}
 use Rattle.unit.specs.Limits.{lowest_index, last_index}
@@ -82,7 +82,7 @@ module _ (room : ℕ) (ys cs : List ℤ) where
   -- a slice that does not fit
   pub kept-cut : (y : Cost) (l : Trimmed) (c : Cost) (r : Trimmed) → y ≡ add_all (no_cost room) ys → room < trimmed_cost ys + trimmed_cost cs
       → Shorter y l → c ≡ add_all (no_cost (room - l.bits)) cs → Shorter c r
-      → KeptOf room ys cs (record { luma = l.count; luma_bits = l.bits; colour = r.count; colour_bits = r.bits; cut = 1 })
+      → KeptOf room ys cs (record { luma = l; colour = r; cut = true })
   kept-cut y l c r e h s d t =
       let k = runs-cut h in
       let a = cut-bits room ys y e l s in
@@ -101,7 +101,7 @@ module _ (room : ℕ) (ys cs : List ℤ) where
 
   -- a slice that fits
   pub kept_whole : (y c : Trimmed) → y ≡ trimmed_of ys → c ≡ trimmed_of cs → y.bits + c.bits ≤ room
-      → KeptOf room ys cs (record { luma = y.count; luma_bits = y.bits; colour = c.count; colour_bits = c.bits; cut = 0 })
+      → KeptOf room ys cs (record { luma = y; colour = c; cut = false })
   unfolding trimmed_cost
   kept_whole y c e d h =
       let a = ap (λ (t : Trimmed). t.bits) e in
@@ -120,12 +120,17 @@ module _ (room : ℕ) (ys cs : List ℤ) where
   not-whole y c e d h = omega (arith, ap (λ (t : Trimmed). t.bits) e, ap (λ (t : Trimmed). t.bits) d)
 
 -- ---- the parts of a slice
--- four parts of n bytes in all, written one after the other
-module _ {o : List ℕ} (i n : ℕ) (a b c d : Bits) (long : length (a ++ (b ++ (c ++ d))) ≡ 8 * n) (fits : i + n ≤ length o) where
-  room_all : Room o (start_at i) (length (a ++ (b ++ (c ++ d))))
-  room_all = record { sound = start_sound i; room = omega arith }
+-- a new writer has no bit pending
+new_sound : (w : BitWriter) → (w.pending ≡ 0) × (w.pending_bits ≡ 0) → Sound w
+new_sound w new = record { part = omega arith; small = rw (new.0, new.1) (omega arith) }
 
-  module _ {o₁ : List ℕ} {w₁ : BitWriter} (p : Wrote o (start_at i) a o₁ w₁) where
+-- four parts of n bytes in all, written one after the other from place i on by a new writer
+module _ {o : List ℕ} (i n : ℕ) {w : BitWriter} (new : (w.at ≡ i) × ((w.pending ≡ 0) × (w.pending_bits ≡ 0))) (a b c d : Bits) (long : length (a ++ (b ++ (c ++ d))) ≡ 8 * n)
+    (fits : i + n ≤ length o) where
+  room_all : Room o w (length (a ++ (b ++ (c ++ d))))
+  room_all = record { sound = new_sound w new.1; room = omega arith }
+
+  module _ {o₁ : List ℕ} {w₁ : BitWriter} (p : Wrote o w a o₁ w₁) where
     rest₁ : Room o₁ w₁ (length (b ++ (c ++ d)))
     rest₁ = room_rest a (b ++ (c ++ d)) room_all p
 
@@ -144,7 +149,9 @@ module _ {o : List ℕ} (i n : ℕ) (a b c d : Bits) (long : length (a ++ (b ++ 
         fourth_room = room_rest c d rest₂ r
 
         pub parts_laid : {o₄ o₅ : List ℕ} {w₄ w₅ : BitWriter} → Wrote o₃ w₃ d o₄ w₄ → Flushes o₄ w₄ o₅ w₅ → Lays o i (to_bytes (a ++ (b ++ (c ++ d)))) o₅ w₅.at
-        parts_laid s f = flush_lays (start_sound i) (wrote_then (start_sound i) p (wrote_then p.sound q (wrote_then q.sound r s))) f refl
+        parts_laid s f =
+            let t = new_sound w new.1 in
+            rw new.0 at (flush_lays t (wrote_then t p (wrote_then p.sound q (wrote_then q.sound r s))) f new.1.1)
 
 parts_of_lem : (n q m room : ℕ) (ys cs : List ℤ) (a b : ℕ) → m ≡ length_bits n → room ≡ room_of n → a ≡ bits_of ys → b ≡ bits_of cs
     → lit 7 q ++ (lit m a ++ ((codes ys ++ codes cs) ++ one_bits (room - a - b))) ≡ low_bits n q ys cs
@@ -164,70 +171,66 @@ module _ (v : List ℤ) (p : Picture) (n k q : ℕ) where
 
   -- a slice's parts as the code writes them
   pub slice_parts : (room m : ℕ) (r : code.Kept) → room ≡ room_of n → m ≡ length_bits n → KeptOf room (luma_in v p k q) (colour_in v p k q) r
-      → lit 7 q ++ (lit m r.luma_bits ++ (run_bits v p k q r ++ one_bits (room - r.luma_bits - r.colour_bits))) ≡ low_bits_by v p n k q
+      → lit 7 q ++ (lit m r.luma.bits ++ (run_bits v p k q r ++ one_bits (room - r.luma.bits - r.colour.bits))) ≡ low_bits_by v p n k q
   unfolding low_bits_by
   slice_parts room m r er em h =
       let ys = luma_in v p k q in
       let cs = colour_in v p k q in
       let g : KeptOf (room_of n) ys cs r = rw er at h in
       let u = kept_runs (room_of n) ys cs in
-      ap₂ (λ (x z : List ℤ). lit 7 q ++ (lit m r.luma_bits ++ ((codes x ++ codes z) ++ one_bits (room - r.luma_bits - r.colour_bits))))
+      ap₂ (λ (x z : List ℤ). lit 7 q ++ (lit m r.luma.bits ++ ((codes x ++ codes z) ++ one_bits (room - r.luma.bits - r.colour.bits))))
       (sym g.luma) (sym g.colour)
-      ∙ parts_of_lem n q m room u.luma u.colour r.luma_bits r.colour_bits em er g.luma-bits g.colour-bits
+      ∙ parts_of_lem n q m room u.luma u.colour r.luma.bits r.colour.bits em er g.luma-bits g.colour-bits
 
 -- ---- whether a slice is cut
 bit_small : (b : Bool) → cond b 0 1 ≤ 1
 bit_small true = omega arith
 bit_small false = omega arith
 
-module _ (v : List ℤ) (p : Picture) (n k q : ℕ) where
-  cut_small : low_cut_by v p n k q ≤ 1
-  unfolding low_cut_by
-  cut_small = bit_small (leb (trimmed_cost (luma_in v p k q) + trimmed_cost (colour_in v p k q)) (room_of n))
-
-  cut_is : (room cut : ℕ) → room ≡ room_of n → cut ≡ cut_by room (luma_in v p k q) (colour_in v p k q) → cut ≡ low_cut_by v p n k q
-  unfolding low_cut_by
-  cut_is room cut er e = e ∙ ap (λ (x : ℕ). cut_by x (luma_in v p k q) (colour_in v p k q)) er
+cut_small : (v : List ℤ) (p : Picture) (n k q : ℕ) → low_cut_by v p n k q ≤ 1
+unfolding low_cut_by
+cut_small v p n k q = bit_small (leb (trimmed_cost (luma_in v p k q) + trimmed_cost (colour_in v p k q)) (room_of n))
 
 -- a slice that is written part by part
 module _
-    (o : List ℕ) (i : ℕ) (v : List ℤ) (p : Picture) (n k q room m : ℕ) (r : code.Kept)
+    (o : List ℕ) (i : ℕ) {w : BitWriter} (new : (w.at ≡ i) × ((w.pending ≡ 0) × (w.pending_bits ≡ 0))) (v : List ℤ) (p : Picture) (n k q room m : ℕ) (r : code.Kept)
     (er : room ≡ room_of n) (em : m ≡ length_bits n) (h : KeptOf room (luma_in v p k q) (colour_in v p k q) r)
     (some : 1 ≤ n) (fits : i + n ≤ length o) where
   abbrev left : ℕ
-  left = room - r.luma_bits - r.colour_bits
+  left = room - r.luma.bits - r.colour.bits
 
-  long : length (lit 7 q ++ (lit m r.luma_bits ++ (run_bits v p k q r ++ one_bits left))) ≡ 8 * n
+  long : length (lit 7 q ++ (lit m r.luma.bits ++ (run_bits v p k q r ++ one_bits left))) ≡ 8 * n
   long = ap length (slice_parts v p n k q room m r er em h) ∙ slice_long v p n k q some
 
-  slice_cut : (r.cut ≡ low_cut_by v p n k q) × (r.cut ≤ 1)
-  slice_cut = let e = cut_is v p n k q room r.cut er h.cut in (e, omega (arith, cut_small v p n k q))
+  slice_cut : val r.cut ≡ low_cut_by v p n k q
+  unfolding low_cut_by
+  slice_cut = h.cut ∙ ap (λ (x : ℕ). cut_by x (luma_in v p k q) (colour_in v p k q)) er
 
-  module _ {o₁ : List ℕ} {w₁ : BitWriter} (a : Wrote o (start_at i) (lit 7 q) o₁ w₁) where
+  module _ {o₁ : List ℕ} {w₁ : BitWriter} (a : Wrote o w (lit 7 q) o₁ w₁) where
     pub length_room : Room o₁ w₁ m
     length_room =
-        rw (length-lit m r.luma_bits) at
-        (second_room i n (lit 7 q) (lit m r.luma_bits) (run_bits v p k q r) (one_bits left) long fits a)
+        rw (length-lit m r.luma.bits) at
+        (second_room i n new (lit 7 q) (lit m r.luma.bits) (run_bits v p k q r) (one_bits left) long fits a)
 
-    module _ {o₂ : List ℕ} {w₂ : BitWriter} (b : Wrote o₁ w₁ (lit m r.luma_bits) o₂ w₂) where
+    module _ {o₂ : List ℕ} {w₂ : BitWriter} (b : Wrote o₁ w₁ (lit m r.luma.bits) o₂ w₂) where
       pub runs_room : Room o₂ w₂ (length (run_bits v p k q r))
-      runs_room = third_room i n (lit 7 q) (lit m r.luma_bits) (run_bits v p k q r) (one_bits left) long fits a b
+      runs_room = third_room i n new (lit 7 q) (lit m r.luma.bits) (run_bits v p k q r) (one_bits left) long fits a b
 
       module _ {o₃ : List ℕ} {w₃ : BitWriter} (c : Wrote o₂ w₂ (run_bits v p k q r) o₃ w₃) where
         pub ones_room : Room o₃ w₃ left
         ones_room =
             rw (length-replicate left true) at
-            (fourth_room i n (lit 7 q) (lit m r.luma_bits) (run_bits v p k q r) (one_bits left) long fits a b c)
+            (fourth_room i n new (lit 7 q) (lit m r.luma.bits) (run_bits v p k q r) (one_bits left) long fits a b c)
 
         module _ {o₄ : List ℕ} {w₄ : BitWriter} (d : Wrote o₃ w₃ (one_bits left) o₄ w₄) where
           pub flush_room : Room o₄ w₄ 0
           flush_room = room_after 0 ones_room d (omega (arith, length-replicate left true))
 
           -- the slice is laid, and it is known whether it is cut
-          pub slice_laid : {o₅ : List ℕ} {w₅ : BitWriter} → Flushes o₄ w₄ o₅ w₅ → Lays o i (to_bytes (low_bits_by v p n k q)) o₅ w₅.at × ((r.cut ≡ low_cut_by v p n k q) × (r.cut ≤ 1))
+          pub slice_laid : {o₅ : List ℕ} {w₅ : BitWriter} → Flushes o₄ w₄ o₅ w₅ → Lays o i (to_bytes (low_bits_by v p n k q)) o₅ w₅.at × (val r.cut ≡ low_cut_by v p n k q)
           slice_laid f = (
             rw (← slice_parts v p n k q room m r er em h)
-                (parts_laid i n (lit 7 q) (lit m r.luma_bits) (run_bits v p k q r) (one_bits left) long fits a b c d f),
+                (parts_laid i n new (lit 7 q) (lit m r.luma.bits) (run_bits v p k q r) (one_bits left) long fits a b c d f),
             slice_cut,
           )
 

@@ -30,11 +30,12 @@ use Rattle.unit.specs.Quantised.{size_of, numbers_from, numbers_hq, number_at, r
 use Rattle.unit.specs.LowDelay.{alternated}
 use Rattle.unit.proofs.Laws.Slice.{bound_rises, bound-most}
 use Rattle.picture.specs.Laws.Layout.{level_low, first_fits, run-chunks}
+use Rattle.picture.specs.declared.slices.strip.Origin.{Origin}
 use Rattle.picture.specs.declared.slices.strip.Strip.{Strip}
 use Rattle.picture.specs.declared.slices.layout.Component.{Component}
 use Rattle.picture.specs.declared.slices.layout.Layout.{Layout}
 use Rattle.picture.specs.Code.Strip.{plane_from, number_in, strip_numbers, rebuilt_strip, Inside}
-use Rattle.picture.specs.Code.Layout.{level_of, band_count, grid_in, band_size, start_of, strip_of, run_numbers, RunIn}
+use Rattle.picture.specs.Code.Layout.{level_of, band_count, grid_in, band_size, start_of, origin_of, strip_of, run_numbers, RunIn}
 use Rattle.picture.specs.Laws.Strip.{prediction_no}
 use Rattle.picture.specs.Laws.Region.{firsts, seconds, region_cong, strip_part, strip_pair, alternated-append, Apart, rebuilt-outside, Predicted, rebuilt_is, strip_predicted}
 use Rattle.picture.specs.Code.Analysed.{Holds}
@@ -237,21 +238,25 @@ module _ (w : List ℤ) (l : Layout) (c second d e : Component) (k q : ℕ) (wid
   abbrev both : ℕ → Strip
   both n = strip_of l c second true n (start_of l c n) k q
 
-  strip_both : (n : ℕ) → strip_numbers w (both n) ≡ alternated (window (firsts w (both n)) n) (window (seconds w (both n)) n)
+  -- where the second stands
+  abbrev other : ℕ → Origin
+  other n = origin_of second (start_of l c n)
+
+  strip_both : (n : ℕ) → strip_numbers w (both n) ≡ alternated (window (firsts w (both n)) n) (window (seconds w (both n) (other n)) n)
   unfolding strip_of
-  strip_both n = strip_pair w (both n) refl
+  strip_both n = strip_pair w (both n) (other n) refl
 
   strip_first : (n : ℕ) → strip_numbers w (strip_of l c d false n (start_of l c n) k q) ≡ window (firsts w (both n)) n
   unfolding strip_of
   strip_first n = strip_part w (strip_of l c d false n (start_of l c n) k q) refl
 
-  strip_second : (n : ℕ) → strip_numbers w (strip_of l second e false n (start_of l second n) k q) ≡ window (seconds w (both n)) n
+  strip_second : (n : ℕ) → strip_numbers w (strip_of l second e false n (start_of l second n) k q) ≡ window (seconds w (both n) (other n)) n
   unfolding strip_of
   strip_second n = rw (same_start n) (strip_part w (strip_of l second e false n (start_of l c n) k q) refl ∙ rw (same_size n))
 
   strips_length : (n : ℕ) → length (strip_numbers w (strip_of l c d false n (start_of l c n) k q)) ≡ length (strip_numbers w (strip_of l second e false n (start_of l second n) k q))
   strips_length n =
-      ap length (strip_first n) ∙ length-region (firsts w (both n)) _ _ _ _ ∙ sym (length-region (seconds w (both n)) _ _ _ _) ∙ sym (ap length (strip_second n))
+      ap length (strip_first n) ∙ length-region (firsts w (both n)) _ _ _ _ ∙ sym (length-region (seconds w (both n) (other n)) _ _ _ _) ∙ sym (ap length (strip_second n))
 
   runs-length : (n : ℕ) → length (run_numbers w l c d false k q n) ≡ length (run_numbers w l second e false k q n)
   unfolding run_numbers

@@ -1,6 +1,6 @@
--- Laws of a slice whose three runs are packed one behind the other: room for each, the choice, and the words.
+-- Laws of a slice whose three runs are packed one behind the other: room for the colours, the choice, and the words.
 use Rattle.std.specs.Prelude.{◌≡◌, false, ℕ, ◌+◌, ◌-◌, ◌≤◌, ℤ}
-use Rattle.std.proofs.Math.Path.{ap}
+use Rattle.std.proofs.Math.Path.{refl, ap}
 use Rattle.std.proofs.Common.{ap₂, ◌∙◌, arith}
 use mathlib.Core.List.{List, ◌++◌}
 use Rattle.std.proofs.Math.ListN.{length}
@@ -19,7 +19,7 @@ use Rattle.picture.specs.Code.Packed.{packed, packed_bits, PackRunIn, Packs}
 use Rattle.picture.specs.Laws.Packed.{laid-behind, run_alike, packing_at, run_packable, packs_small}
 use Rattle.picture.specs.Laws.Counts.{run_count}
 use Rattle.picture.specs.Laws.Unpacked.{packed-cost, run_below}
-use Rattle.picture.specs.Code.Picture.{run_of, numbers_in, SliceIn}
+use Rattle.picture.specs.Code.Picture.{run_in, run_of, numbers_in, SliceIn}
 use Rattle.picture.specs.Laws.Picture.{run_y, run_c1, run_c2}
 use Rattle.picture.specs.Code.Choice.{packed_of, choice_by, slice_words, slice_number_count}
 use Rattle.picture.specs.Laws.HighIndex.{choice_is}
@@ -32,9 +32,6 @@ module _ {w v : List ℤ} {i : ℕ} {r : Packing} {xs : List ℤ} (h : Packs w (
     where
       zero_bits_lem : 0 + packed_bits 0 xs ≡ packed_bits 0 xs
       zero_bits_lem = omega arith
-
-  pub run-after : i ≤ r.at
-  run-after = omega (arith, h.at)
 
 -- packing a run leaves the work slice small
 run-kept : (p : Picture) (k q : ℕ) {w v : List ℤ} {r : Packing} (c : Component) (i : ℕ) → RunIn p.layout c c p.front p.end k q w → p.layout.predicted ≡ false
@@ -52,8 +49,8 @@ module _ (p : Picture) (k q from : ℕ) {w : List ℤ} (s : SliceIn p w k q) (pl
   run-same v same c h = run_alike p.front p.end w v (λ i a b. same i a) p.layout c c false k q q w h plain
 
   -- luma's run can be packed
-  pub y_ready : PackRunIn p.layout p.y from k q w
-  y_ready = record { front = p.front; end = p.end; holds = (run_y s, (plain, omega (arith, room))) }
+  pub y_ready : PackRunIn (run_in p p.y k q) from w
+  y_ready = (refl, record { front = p.front; end = p.end; holds = (run_y s, (plain, omega (arith, room))) })
 
   module _ {v₁ : List ℤ} {r₁ : Packing} (a : Packs w (packing_at from) (run_of w p p.y k q) v₁ r₁) where
     same₁ : (i : ℕ) → p.front ≤ i → at v₁ i ≡ at w i
@@ -68,8 +65,8 @@ module _ (p : Picture) (k q from : ℕ) {w : List ℤ} (s : SliceIn p w k q) (pl
     room₁ = omega (arith, room, a.at, run_words w p p.y k q)
 
     -- the first colour's run can be packed
-    pub c1_ready : PackRunIn p.layout p.c1 r₁.at k q v₁
-    c1_ready = record { front = p.front; end = p.end; holds = (run_c1 slice₁, (plain, room₁)) }
+    pub c1_ready : PackRunIn (run_in p p.c1 k q) r₁.at v₁
+    c1_ready = (refl, record { front = p.front; end = p.end; holds = (run_c1 slice₁, (plain, room₁)) })
 
     module _ {v₂ : List ℤ} {r₂ : Packing} (b : Packs v₁ (packing_at r₁.at) (run_of v₁ p p.c1 k q) v₂ r₂) where
       same₂ : (i : ℕ) → p.front ≤ i → at v₂ i ≡ at w i
@@ -85,8 +82,8 @@ module _ (p : Picture) (k q from : ℕ) {w : List ℤ} (s : SliceIn p w k q) (pl
       room₂ = omega (arith, room, a.at, b.at, run_words w p p.y k q, run_words v₁ p p.c1 k q)
 
       -- the second colour's run can be packed
-      pub c2_ready : PackRunIn p.layout p.c2 r₂.at k q v₂
-      c2_ready = record { front = p.front; end = p.end; holds = (run_c2 slice₂, (plain, room₂)) }
+      pub c2_ready : PackRunIn (run_in p p.c2 k q) r₂.at v₂
+      c2_ready = (refl, record { front = p.front; end = p.end; holds = (run_c2 slice₂, (plain, room₂)) })
 
       module _ {v₃ : List ℤ} {r₃ : Packing} (d : Packs v₂ (packing_at r₂.at) (run_of v₂ p p.c2 k q) v₃ r₃) where
         first : run_of v₁ p p.c1 k q ≡ run_of w p p.c1 k q
@@ -118,3 +115,7 @@ module _ (p : Picture) (k q from : ℕ) {w : List ℤ} (s : SliceIn p w k q) (pl
             let n : r₂.at ≡ r₁.at + length c1 = b.at ∙ ap (λ (xs : List ℤ). r₁.at + length (packed 0 xs)) first in
             e₃ ∙ ap (λ (v : List ℤ). laid v r₂.at c2) e₂ ∙ laid_then v₁ r₁.at r₂.at c1 c2 n
             ∙ ap (λ (v : List ℤ). laid v r₁.at (c1 ++ c2)) e₁ ∙ laid_then w from r₁.at y (c1 ++ c2) a.at
+
+-- ---- further laws
+pub run-after : {w v : List ℤ} {i : ℕ} {r : Packing} {xs : List ℤ} → Packs w (packing_at i) xs v r → i ≤ r.at
+run-after h = omega (arith, h.at)

@@ -1,9 +1,9 @@
 -- Laws of packed runs: runs one after the other, how much they take, what stands behind the words and stays, and the
 -- numbers of lists that agree where the coefficients stand.
-use Rattle.std.specs.Prelude.{◌≡◌, refl, Bool, true, ◌&&◌, ℤ, pos, negsuc, nat_abs, ◌+ℤ◌, length, set}
+use Rattle.std.specs.Prelude.{◌≡◌, Some, None, Option, refl, Bool, true, ◌&&◌, ℤ, pos, negsuc, nat_abs, ◌+ℤ◌, length, set}
 use Rattle.std.proofs.Math.Path.{sym, ap, ap₂}
 use Rattle.std.proofs.Common.{◌∙◌, suc-mul, mul-le-mul_right, length-append, length-set, get_or-set_other, SFits, to_z, of_z, to_z-of_z}
-use Rattle.std.proofs.Math.Bool.{false, cond}
+use Rattle.std.proofs.Math.Bool.{false}
 use mathlib.Core.List.{List, [], ◌∷◌, ◌++◌, append_assoc}
 use Prim.Native.Nat.{ℕ, zero, suc, ◌+◌, ◌*◌, ◌-◌, ◌^◌, ◌≤◌, ◌<◌}
 use native.Mathlib.Omega.{arith}
@@ -24,6 +24,7 @@ use Rattle.unit.proofs.Laws.Test.{no_truth}
 use Rattle.unit.specs.Trim.{is_zero, bits_of}
 use Rattle.unit.proofs.Laws.Trim.{bits_most}
 use Rattle.unit.proofs.Laws.Trim as trim
+use Rattle.picture.specs.declared.slices.strip.Origin.{Origin}
 use Rattle.picture.specs.declared.slices.strip.Strip.{Strip}
 use Rattle.picture.specs.declared.slices.layout.Component.{Component}
 use Rattle.picture.specs.declared.slices.layout.Layout.{Layout}
@@ -165,10 +166,6 @@ unfolding laid
 laid-behind w i [] k h = refl
 laid-behind w i (v ∷ vs) k h = laid-behind (set w i v) (suc i) vs k (omega arith) ∙ get_or-set_other w i k v (pos 0) (λ e. omega arith)
 
--- where k numbers can be packed, fewer can
-pub packable_less : {a b k m : ℕ} {t : Packing} → a ≤ b → m ≤ k → Packable a t k → Packable b t m
-packable_less h l p = record { room = omega (arith, p.room); zeros = omega (arith, p.zeros); bits = omega (arith, p.bits) }
-
 module _ {a k : ℕ} {w v : List ℤ} {t r : Packing} {xs : List ℤ} (h : Packable a t k) (p : Packs w t xs v r) where
   -- there is room for m numbers behind xs
   pub packable_after : (m : ℕ) → trim.Small xs → length xs + m ≤ k → Packable a r m
@@ -186,9 +183,6 @@ module _ {a k : ℕ} {w v : List ℤ} {t r : Packing} {xs : List ℤ} (h : Packa
   pub packs_behind : length xs ≤ k → (i : ℕ) → a ≤ i → at v i ≡ at w i
   packs_behind l i b =
       ap (λ (v : List ℤ). at v i) p.work ∙ laid-behind w t.at (packed t.zeros xs) i (omega (arith, packs_before l, p.at))
-
-pub packs_length : {w v : List ℤ} {t r : Packing} {xs : List ℤ} → Packs w t xs v r → length v ≡ length w
-packs_length {w} {v} {t} {r} {xs} p = ap length p.work ∙ length-laid w t.at (packed t.zeros xs)
 
 -- ---- words are small
 abbrev Near : List ℤ → Type 0
@@ -223,9 +217,9 @@ pub record Between (a n : ℕ) (s : Strip) : Type 0 where
   pub wide : s.right ≤ s.width
   pub high : s.bottom ≤ s.height
   pub behind : a ≤ s.coefs
-  pub behind2 : a ≤ s.coefs2
+  pub behind2 : (o : Origin) → s.second ≡ Some o → a ≤ o.coefs
   pub coefs : s.coefs + s.height * s.width ≤ n
-  pub coefs2 : s.coefs2 + s.height * s.width ≤ n
+  pub coefs2 : (o : Origin) → s.second ≡ Some o → o.coefs + s.height * s.width ≤ n
   pub plain : s.predicted ≡ false
 
 pub between : {a n : ℕ} {s : Strip} → Within a n s → s.predicted ≡ false → Between a n s
@@ -245,7 +239,14 @@ module _ (a n : ℕ) (w v : List ℤ) (same : (i : ℕ) → a ≤ i → i < n �
   place_alike s y x b hy hx =
       ap₂ (λ (z : ℤ) (r : List ℤ). z ∷ r)
       (number_alike s s.coefs s.rebuilt y x b.behind b.coefs b.plain hy hx)
-      (ap (λ (z : ℤ). cond s.pair (z ∷ []) []) (number_alike s s.coefs2 s.rebuilt2 y x b.behind2 b.coefs2 b.plain hy hx))
+      (by s.second refl)
+    where
+      of : (w : List ℤ) → Option Origin → List ℤ
+      of w t = elim t [ Some o ↦ number_in w s o.coefs o.rebuilt y x ∷ [] | None ↦ [] ]
+
+      by : (t : Option Origin) → s.second ≡ t → of v t ≡ of w t
+      by (Some o) e = ap (λ (z : ℤ). z ∷ []) (number_alike s o.coefs o.rebuilt y x (b.behind2 o e) (b.coefs2 o e) b.plain hy hx)
+      by None e = refl
 
   pub row_alike : (s : Strip) (y : ℕ) → Between a n s → y < s.height
       → row_numbers v s y s.left (s.right - s.left) ≡ row_numbers w s y s.left (s.right - s.left)
@@ -288,11 +289,6 @@ module _ (a n : ℕ) (w v : List ℤ) (same : (i : ℕ) → a ≤ i → i < n �
 -- a number by the bits that the machine tests
 pub zero_bits_lem : (z : ℤ) → SFits w64 z → of_z w64 z ≡ 0 → is_zero z ≡ true
 zero_bits_lem z f e = ap is_zero (sym (to_z-of_z {w = w64} {z = z} f) ∙ ap (to_z w64) e)
-
-pub some_bits : (z : ℤ) → (of_z w64 z ≡ 0 → ⊥) → is_zero z ≡ false
-some_bits (pos zero) h = absurd (h refl)
-some_bits (pos (suc n)) h = refl
-some_bits (negsuc n) h = refl
 
 module _ {a n : ℕ} {w : List ℤ} {s : Strip} (h : Single a n w s) (y x : ℕ) where
   -- the one number of a place
@@ -428,3 +424,17 @@ module _ (w : List ℤ) (l : Layout) (c : Component) (k q : ℕ) where
           let m = packs_behind p f (omega (arith, band_room n b)) in
           packs_same (run-turn w l c c false k q n)
           (packs_then f (packs_same (ap (strip_numbers v) d ∙ strip_alike a e w v (λ j o z. m j o) (band_strip l c c false k q n) (between i.plain.within i.plain.plain)) x))
+
+-- ---- further laws
+-- where k numbers can be packed, fewer can
+pub packable_less : {a b k m : ℕ} {t : Packing} → a ≤ b → m ≤ k → Packable a t k → Packable b t m
+packable_less h l p = record { room = omega (arith, p.room); zeros = omega (arith, p.zeros); bits = omega (arith, p.bits) }
+
+pub packs_length : {w v : List ℤ} {t r : Packing} {xs : List ℤ} → Packs w t xs v r → length v ≡ length w
+packs_length {w} {v} {t} {r} {xs} p = ap length p.work ∙ length-laid w t.at (packed t.zeros xs)
+
+-- a number whose bits are not 0
+pub some_bits : (z : ℤ) → (of_z w64 z ≡ 0 → ⊥) → is_zero z ≡ false
+some_bits (pos zero) h = absurd (h refl)
+some_bits (pos (suc n)) h = refl
+some_bits (negsuc n) h = refl

@@ -1,13 +1,15 @@
 -- Laws of written runs: nothing, one number, one run after another, and what is left of the room.
-use Rattle.std.specs.Prelude.{◌≡◌, refl, ℤ, pos, nat_abs, length, take}
+use Rattle.std.specs.Prelude.{◌≡◌, refl, false, ℤ, pos, nat_abs, length, take}
 use Rattle.std.proofs.Math.Path.{sym, ap}
-use Rattle.std.proofs.Common.{◌∙◌, length-append}
+use Rattle.std.proofs.Common.{◌∙◌, length-append, to_z, of_z, to_z-of_z}
 use mathlib.Core.List.{List, [], ◌∷◌, ◌++◌, append_assoc, append-nil}
-use Prim.Native.Nat.{ℕ, zero, suc, ◌+◌, ◌-◌, ◌≤◌, ◌<◌}
+use Prim.Native.Nat.{ℕ, zero, suc, ◌+◌, ◌-◌, ◌^◌, ◌≤◌, ◌<◌}
 use native.Mathlib.Omega.{arith}
 use Rattle.std.specs.Int.Signed.{lt_z}
 use Rattle.std.proofs.Math.Seq.{take-nil}
+use Rattle.std.specs.Int.{w64}
 use Rattle.laws.specs.Code.Chunks.{chunks}
+use Rattle.laws.specs.Laws.Machine.{fit}
 use Rattle.codewords.specs.CodeWord.{code_s, code_m, codes}
 use Rattle.codewords.specs.Laws.Code.{codes-one, codes-append}
 use Rattle.codewords.specs.Code.Writer.{Sound, Room, Wrote}
@@ -16,6 +18,9 @@ use Rattle.codewords.specs.declared.writer.BitWriter.{BitWriter}
 use Rattle.quantiser.specs.Quant.{forward_by}
 use Rattle.quantiser.specs.Laws.Sign.{forward-code}
 use Rattle.picture.specs.declared.low.put.Put.{Put}
+use Rattle.picture.specs.declared.slices.strip.Strip.{Strip}
+use Rattle.picture.specs.Code.Strip.{plane_from, number_in}
+use Rattle.picture.specs.Laws.Tally.{plain_number}
 use Rattle.picture.specs.Code.Put.{RoomFor, Puts}
 
 -- ---- the code words of the first n
@@ -43,6 +48,17 @@ none_kept n = ap codes (take-nil n)
 zero-kept : (n : ℕ) (xs : List ℤ) → n ≡ 0 → codes (take n xs) ≡ []
 unfolding codes
 zero-kept n xs e = ap (λ (k : ℕ). codes (take k xs)) e
+
+-- the code word of the number of a place that is not predicted, by its size and the sign of its coefficient c
+pub plain_word : (l : List ℤ) (s : Strip) (coefs base y x m : ℕ) (c : ℤ) → s.predicted ≡ false → nat_abs c < 2 ^ 63 → c ≡ plane_from l coefs s.width y x
+    → m ≡ nat_abs (forward_by s.factor (to_z w64 (of_z w64 c))) → code_m m (lt_z (to_z w64 (of_z w64 c)) (pos 0)) ≡ code_s (number_in l s coefs base y x)
+plain_word l s coefs base y x m c p r e h =
+    let d = to_z w64 (of_z w64 c) in
+    let f : d ≡ plane_from l coefs s.width y x = to_z-of_z {w = w64} (fit c r) ∙ e in
+    ap (λ (k : ℕ). code_m k (lt_z d (pos 0))) h
+    ∙ sym (forward-code s.factor d)
+    ∙ ap (λ (z : ℤ). code_s (forward_by s.factor z)) f
+    ∙ ap code_s (plain_number l s coefs base y x p)
 
 -- the code word by the size of the number and the sign of the coefficient x, as the code reads c
 pub forward_word : (f m : ℕ) (c x : ℤ) → x ≡ c → m ≡ nat_abs (forward_by f x) → code_m m (lt_z x (pos 0)) ≡ code_s (forward_by f c)
@@ -108,6 +124,28 @@ module _ (F : ℕ → List ℤ) where
   unfolding chunks
   part-turn from x h s a b = let e : x + 1 - from ≡ suc (x - from) = omega arith in rw e (puts_then s a b)
 
-  pub parts_none : {o : List ℕ} {p : Put} {n : ℕ} (x : ℕ) → Room o p.writer n → Puts o p (chunks F (x - x)) o p
+  pub part-none : {o : List ℕ} {p : Put} {n : ℕ} (x : ℕ) → Room o p.writer n → Puts o p (chunks F (x - x)) o p
   unfolding chunks
-  parts_none x r = let e : x - x ≡ 0 = omega arith in rw e (puts_none r)
+  part-none x r = let e : x - x ≡ 0 = omega arith in rw e (puts_none r)
+
+-- the parts from one place on: G x is that of x
+module _ (G : ℕ → List ℤ) (from : ℕ) where
+  -- those before x
+  abbrev pub parts : ℕ → List ℤ
+  parts x = chunks (λ k. G (from + k)) (x - from)
+
+  pub parts_none : {o : List ℕ} {p : Put} {n : ℕ} → Room o p.writer n → Puts o p (parts from) o p
+  unfolding chunks
+  parts_none r = let e : from - from ≡ 0 = omega arith in rw e (puts_none r)
+
+  pub turn_room : {o o' : List ℕ} {p p' : Put} (x end : ℕ) → from ≤ x → x < end → RoomFor o p (parts end) → Puts o p (parts x) o' p' → RoomFor o' p' (G x)
+  turn_room {p' = p'} x end h b r a =
+      let e : from + (x - from) ≡ x = omega arith in
+      room_same p' (G (from + (x - from))) (G x) (ap G e) (part_room (λ k. G (from + k)) (end - from) (x - from) (omega arith) r a)
+
+  pub parts-turn : {o o' o'' : List ℕ} {p p' p'' : Put} (x : ℕ) → from ≤ x → Sound p.writer → Puts o p (parts x) o' p' → Puts o' p' (G x) o'' p'' → Puts o p (parts (x + 1)) o'' p''
+  unfolding chunks
+  parts-turn x h s a b =
+      let e : x + 1 - from ≡ suc (x - from) = omega arith in
+      let d : from + (x - from) ≡ x = omega arith in
+      rw (e, d) (puts_then s a b)

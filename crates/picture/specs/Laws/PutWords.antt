@@ -1,6 +1,6 @@
 -- Laws of written words: the bits of one, one more behind others, and room for it.
-use Rattle.std.specs.Prelude.{◌≡◌, refl, true, false, List, [], ◌∷◌, ◌++◌, ℕ, zero, suc, ◌+◌, ◌-◌, ◌≤◌, ◌<◌, T, ℤ, pos, negsuc, ◌-ℤ◌, length, take, drop, replicate}
-use Rattle.std.proofs.Common.{sym, ap, ap₂, ◌∙◌, subst, append-nil, arith, add-one, leb-true, leb-false, length-append, length-drop, take-suc, take-add, get_or-drop}
+use Rattle.std.specs.Prelude.{◌≡◌, refl, true, false, List, [], ◌∷◌, ◌++◌, ℕ, zero, suc, ◌+◌, ◌-◌, ◌≤◌, ◌<◌, T, ℤ, pos, negsuc, ◌-ℤ◌, length, take, drop, get_or, replicate}
+use Rattle.std.proofs.Common.{sym, ap, ap₂, ◌∙◌, subst, append-nil, arith, add-one, leb-true, leb-false, length-append, length-drop, length-take, take-suc, take-add, get_or-take, get_or-drop}
 use Rattle.std.specs.Int.Signed.{le_z}
 use Rattle.std.proofs.lemmas.List.{length-replicate}
 use Rattle.laws.specs.Laws.Integer.{up, var, ◌⊟◌, by_parts}
@@ -78,6 +78,13 @@ pub words_none : {o : List ℕ} {w : BitWriter} {n : ℕ} (l : List ℤ) (i : �
 unfolding unpacked
 words_none l i r = rw codes-none (wrote_none r)
 
+-- n words as a range, and the k-th of them
+pub words_many : (l : List ℤ) (i n : ℕ) → i + n ≤ length l → length (take (i + n - i) (drop i l)) ≡ n
+words_many l i n h = omega (arith, length-take (i + n - i) (drop i l), length-drop i l)
+
+pub word_at : (l : List ℤ) (i n k : ℕ) → k < n → get_or (take (i + n - i) (drop i l)) k (pos 0) ≡ at l (i + k)
+word_at l i n k h = get_or-take (i + n - i) (drop i l) k (pos 0) (omega arith) ∙ get_or-drop i l k (pos 0)
+
 -- room for the next word
 pub word_room : {o o' : List ℕ} {w w' : BitWriter} (l : List ℤ) (i n k : ℕ) → k < n → i + n ≤ length l → Room o w (bits_of (unpacked (words_at l i n)))
     → Wrote o w (codes (unpacked (words_at l i k))) o' w' → Room o' w' (bits_of (word_numbers (at l (i + k))))
@@ -89,6 +96,7 @@ pub word_turn : {o o' o'' : List ℕ} {w w' w'' : BitWriter} (l : List ℤ) (i k
     → Wrote o' w' (codes (word_numbers (at l (i + k)))) o'' w'' → Wrote o w (codes (unpacked (words_at l i (k + 1)))) o'' w''
 word_turn l i k h s p q = rw (one_more l i k h) (wrote_then s p q)
 
+-- ---- further laws
 pub words_all : {o o' : List ℕ} {w w' : BitWriter} (l : List ℤ) (i k n : ℕ) → k ≡ n → Wrote o w (codes (unpacked (words_at l i k))) o' w'
     → Wrote o w (codes (unpacked (words_at l i n))) o' w'
 words_all l i k n e p = rw e at p

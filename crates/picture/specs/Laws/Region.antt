@@ -1,6 +1,6 @@
 -- Laws of a strip: its numbers are a region of a plane, those of the two colours together alternate, and what is
 -- rebuilt in the work slice is the unit's rebuilt plane.
-use Rattle.std.specs.Prelude.{◌≡◌, Bool, cond, ℤ, pos, ◌+ℤ◌, ◌-ℤ◌, length, set}
+use Rattle.std.specs.Prelude.{◌≡◌, Bool, cond, Some, None, ℤ, pos, ◌+ℤ◌, ◌-ℤ◌, length, set}
 use Rattle.std.proofs.Math.Path.{refl, sym, ap, ap₂}
 use Rattle.std.proofs.Common.{◌∙◌, suc-mul, zero-mul, length-set, get_or-set_same, get_or-set_other}
 use Rattle.std.proofs.Math.Bool.{true, false}
@@ -23,6 +23,7 @@ use Rattle.unit.specs.LowDelay.{alternated}
 use Rattle.unit.proofs.Laws.Test.{no_truth}
 use Rattle.unit.proofs.Laws.Scan.{Neighbours, neighbours, predict-same, scan_unique}
 use Rattle.unit.proofs.Laws.Place.{inside→within, within→inside}
+use Rattle.picture.specs.declared.slices.strip.Origin.{Origin}
 use Rattle.picture.specs.declared.slices.strip.Strip.{Strip}
 use Rattle.picture.specs.Code.Strip.{plane_from, prediction_in, number_in, place_numbers, row_numbers, rows_numbers, strip_numbers, value_in, rebuilt_row, rebuilt_rows, rebuilt_strip, Inside}
 use Rattle.picture.specs.Laws.Strip.{prediction_yes}
@@ -66,14 +67,14 @@ region_cong f g t b l r e =
 
 -- ---- one component
 module _ (w : List ℤ) (s : Strip) where
-  -- the first component's numbers, and the second's
+  -- the first component's numbers, and those of a component that stands at o
   abbrev pub firsts : Plane
   firsts y x = number_in w s s.coefs s.rebuilt y x
 
-  abbrev pub seconds : Plane
-  seconds y x = number_in w s s.coefs2 s.rebuilt2 y x
+  abbrev pub seconds : Origin → Plane
+  seconds o y x = number_in w s o.coefs o.rebuilt y x
 
-  module _ (one : s.pair ≡ false) where
+  module _ (one : s.second ≡ None) where
     place-one : (y x : ℕ) → place_numbers w s y x ≡ firsts y x ∷ []
     unfolding place_numbers
     place-one y x = rw one
@@ -99,38 +100,38 @@ alternated-append [] (v ∷ vs) xs ys e = absurd (omega arith)
 alternated-append (u ∷ us) [] xs ys e = absurd (omega arith)
 alternated-append (u ∷ us) (v ∷ vs) xs ys e = ap (λ (r : List ℤ). u ∷ v ∷ r) (alternated-append us vs xs ys (omega arith))
 
-module _ (w : List ℤ) (s : Strip) (two : s.pair ≡ true) where
-  place-two : (y x : ℕ) → place_numbers w s y x ≡ alternated (firsts w s y x ∷ []) (seconds w s y x ∷ [])
+module _ (w : List ℤ) (s : Strip) (o : Origin) (two : s.second ≡ Some o) where
+  place-two : (y x : ℕ) → place_numbers w s y x ≡ alternated (firsts w s y x ∷ []) (seconds w s o y x ∷ [])
   unfolding place_numbers alternated
   place-two y x = rw two
 
-  row-two : (y x n : ℕ) → row_numbers w s y x n ≡ alternated (span (firsts w s y) x n) (span (seconds w s y) x n)
+  row-two : (y x n : ℕ) → row_numbers w s y x n ≡ alternated (span (firsts w s y) x n) (span (seconds w s o y) x n)
   unfolding row_numbers
   row-two y x zero = unfold alternated in refl
   row-two y x (suc n) =
       let f = firsts w s y in
-      let g = seconds w s y in
+      let g = seconds w s o y in
       ap₂ ◌++◌ (row-two y x n) (place-two y (x + n))
       ∙ sym (alternated-append (span f x n) (span g x n) (f (x + n) ∷ []) (g (x + n) ∷ []) (length-span f x n ∙ sym (length-span g x n)))
       ∙ ap₂ alternated (sym (span-suc f x n)) (sym (span-suc g x n))
 
   rows-two : (y n : ℕ) → let c = s.right - s.left in
-      rows_numbers w s y n ≡ alternated (area (firsts w s) y s.left n c) (area (seconds w s) y s.left n c)
+      rows_numbers w s y n ≡ alternated (area (firsts w s) y s.left n c) (area (seconds w s o) y s.left n c)
   unfolding rows_numbers area
   rows-two y zero = unfold alternated in refl
   rows-two y (suc n) =
       let f = firsts w s in
-      let g = seconds w s in
+      let g = seconds w s o in
       let l = s.left in
       let c : ℕ = s.right - s.left in
       ap₂ ◌++◌ (rows-two y n) (row-two (y + n) l c)
       ∙ sym (alternated-append (area f y l n c) (area g y l n c) (span (f (y + n)) l c) (span (g (y + n)) l c) (length-area f y l n c ∙ sym (length-area g y l n c)))
 
   pub strip_pair : strip_numbers w s
-      ≡ alternated (region (firsts w s) s.top s.bottom s.left s.right) (region (seconds w s) s.top s.bottom s.left s.right)
+      ≡ alternated (region (firsts w s) s.top s.bottom s.left s.right) (region (seconds w s o) s.top s.bottom s.left s.right)
   strip_pair =
       rows-two s.top (s.bottom - s.top)
-      ∙ ap₂ alternated (sym (region-area (firsts w s) s.top s.bottom s.left s.right)) (sym (region-area (seconds w s) s.top s.bottom s.left s.right))
+      ∙ ap₂ alternated (sym (region-area (firsts w s) s.top s.bottom s.left s.right)) (sym (region-area (seconds w s o) s.top s.bottom s.left s.right))
 
 -- ---- rebuilt values
 -- the neighbours of a place come before it
@@ -344,7 +345,7 @@ module _ (g : Grid) (b : Band) (i k : ℕ) (s : Strip) (of : Predicted g b i k s
             ∙ old.same y x hy hx
 
     -- where the work slice has the rebuilt plane n, the strip's numbers are made against its predictions
-    pub strip_predicted : (n : Plane) → s.pair ≡ false → s.bottom ≤ s.height → s.right ≤ s.width
+    pub strip_predicted : (n : Plane) → s.second ≡ None → s.bottom ≤ s.height → s.right ≤ s.width
         → Agree b.high b.wide (plane_from l s.rebuilt s.width) n
         → strip_numbers l s ≡ region (λ y x. number_at i (b.plane y x) (predict n y x)) s.top s.bottom s.left s.right
     strip_predicted n one high wide same =

@@ -1,6 +1,6 @@
 -- A high-quality slice that fits its share at an index fits at every larger one: its numbers are as many and none is
 -- larger. So it is with the numbers of low delay behind level 0.
-use Rattle.std.specs.Prelude.{◌≡◌, Bool, cond, List, [], ◌∷◌, ◌++◌, ℤ, pos, negsuc, length, get_or}
+use Rattle.std.specs.Prelude.{◌≡◌, Some, None, Bool, cond, List, [], ◌∷◌, ◌++◌, ℤ, pos, negsuc, length, get_or}
 use Rattle.std.proofs.Math.Bool.{true, false}
 use Prim.Native.Nat.{ℕ, zero, suc, ◌+◌, ◌*◌, ◌-◌, ◌≤◌, ◌<◌}
 use Rattle.std.proofs.Common.{le_trans, le-div_iff_mul-le, div-mul-le_self, mul-le-mul_right, arith, leb-true, le-leb}
@@ -21,7 +21,7 @@ use Rattle.picture.specs.declared.slices.layout.Picture.{Picture}
 use Rattle.picture.specs.Code.Strip.{residual_in, number_in, second_number, place_numbers, row_numbers}
 use Rattle.picture.specs.Laws.Strip.{places, rows, row-chunks, rows-chunks}
 use Rattle.picture.specs.Laws.Tally.{bits-more, bits_none}
-use Rattle.picture.specs.Code.Layout.{band_count, start_of, strip_of, run_numbers, rest_numbers}
+use Rattle.picture.specs.Code.Layout.{band_count, start_of, origin_of, strip_of, run_numbers, rest_numbers}
 use Rattle.picture.specs.Laws.Layout.{band_strip, band_numbers, run-chunks}
 use Rattle.picture.specs.Code.Picture.{numbers_in}
 
@@ -110,11 +110,14 @@ module _ (w : List ℤ) (l : Layout) (c second : Component) (pair : Bool) (k i j
 
   second_falls : (n y x : ℕ) → Falls (second_number w (band_strip l c second pair k j n) y x) (second_number w (band_strip l c second pair k i n) y x)
   unfolding strip_of
-  second_falls n y x = by pair _ _ (number_falls n (second.coefs + start_of l c n) second.rebuilt y x)
+  second_falls n y x = by pair
     where
-      by : (t : Bool) (u v : ℤ) → nat_abs u ≤ nat_abs v → Falls (cond t (u ∷ []) []) (cond t (v ∷ []) [])
-      by true u v d = (d, tt)
-      by false u v d = tt
+      of : Bool → ℕ → List ℤ
+      of t i = elim (cond t (Some (origin_of second (start_of l c n))) None) [ Some o ↦ number_in w (band_strip l c second pair k i n) o.coefs o.rebuilt y x ∷ [] | None ↦ [] ]
+
+      by : (t : Bool) → Falls (of t j) (of t i)
+      by true = (number_falls n (second.coefs + start_of l c n) second.rebuilt y x, tt)
+      by false = tt
 
   place_falls : (n y x : ℕ) → Falls (place_numbers w (band_strip l c second pair k j n) y x) (place_numbers w (band_strip l c second pair k i n) y x)
   unfolding place_numbers strip_of

@@ -1,4 +1,4 @@
--- Laws of the search for the least index that fits: its start, a turn, and its end.
+-- Laws of the search for the least index that fits: what it keeps, its start, a turn, and its end.
 use Rattle.std.specs.Prelude.{◌≡◌, Bool, true, false, ℕ, ◌+◌, ◌-◌, ◌≤◌, ◌<◌}
 use Rattle.std.proofs.Common.{sym, ap, ◌∙◌, arith, le_antisymm}
 use Rattle.unit.specs.Elect.{elect}
@@ -15,6 +15,12 @@ pub record Searches (f : ℕ → Bool) (first last : ℕ) (r : Range) : Type 0 w
   pub below : first < r.lo → f (r.lo - 1) ≡ false
   pub fit : r.hi < last → f r.hi ≡ true
 
+pub search_end : (f : ℕ → Bool) (first last : ℕ) (r : Range) → Searches f first last r → r.hi ≤ r.lo → ((i j : ℕ) → i ≤ j → j ≤ last → f i ≡ true → f j ≡ true) → r.hi ≡ elect first last f
+search_end f first last r v h rises =
+    let e : r.lo ≡ r.hi = le_antisymm v.order h in
+    sym (elect-least f first last r.hi rises (omega (arith, v.least, e)) v.most (λ l. ap (λ (n : ℕ). f (n - 1)) (sym e) ∙ v.below (omega (arith, e, l))) v.fit)
+
+-- ---- further laws
 module _ (f : ℕ → Bool) (first last : ℕ) where
   pub search_start : first ≤ last → Searches f first last (record { lo = first; hi = last })
   search_start h = record { least = omega arith; order = h; most = omega arith; below = λ h. absurd (omega arith); fit = λ h. absurd (omega arith) }
@@ -38,8 +44,3 @@ module _ (f : ℕ → Bool) (first last : ℕ) where
 
       pub search_less : n.hi - n.lo < r.hi - r.lo
       search_less = rw h (turn d e).1
-
-  pub search_end : (r : Range) → Searches f first last r → r.hi ≤ r.lo → ((i j : ℕ) → i ≤ j → j ≤ last → f i ≡ true → f j ≡ true) → r.hi ≡ elect first last f
-  search_end r v h rises =
-      let e : r.lo ≡ r.hi = le_antisymm v.order h in
-      sym (elect-least f first last r.hi rises (omega (arith, v.least, e)) v.most (λ l. ap (λ (n : ℕ). f (n - 1)) (sym e) ∙ v.below (omega (arith, e, l))) v.fit)

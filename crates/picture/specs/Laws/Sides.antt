@@ -1,13 +1,16 @@
--- Laws of intlog2 as a loop finds it, of padded sides and areas, and of a call's matrix in its places.
-use Rattle.std.specs.Prelude.{◌≡◌, Bool, true, false, ℕ, zero, suc, ◌+◌, ◌-◌, ◌*◌, ◌^◌, ◌≤◌, ◌<◌, length, get_or, take, drop, set, replicate}
+-- Laws of intlog2 by the next power of two, of padded sides and areas, and of a call's matrix in its places.
+use Rattle.std.specs.Prelude.{◌≡◌, Bool, true, false, Some, None, ℕ, zero, suc, ◌+◌, ◌-◌, ◌*◌, ◌/◌, ◌^◌, ◌≤◌, ◌<◌, max, length, get_or, take, drop, set, replicate}
+use Rattle.std.specs.Prelude as prelude
 use Rattle.std.proofs.Math.Path.{refl, sym}
-use Rattle.std.proofs.Common.{ap, ◌∙◌, subst, le_antisymm, le_trans, zero-add, mul-le-mul, add-one, arith, pow_mono, take_all, take_at}
+use Rattle.std.proofs.Common.{ap, ◌∙◌, subst, le_antisymm, le_trans, zero-add, mul-le-mul, add-one, arith, pow_mono, pow_pos, take_all, take_at}
 use Rattle.std.proofs.Math.Bool.{not}
 use mathlib.Core.List.{List, []}
 use Rattle.std.proofs.Math.Option
 use Rattle.std.proofs.Math.Option.{Option, none, some}
 use Rattle.std.proofs.Math.Decide.{dec_le}
 use Rattle.std.proofs.Math.Seq.{paste, paste-suc}
+use Rattle.std.proofs.Math.Nat.{pow-suc}
+use Rattle.std.specs.Int.{IsPowerOfTwo}
 use Rattle.quantiser.specs.AnnexD.{default_matrix}
 use Rattle.quantiser.specs.Code.Default as default
 use Rattle.quantiser.specs.Code.Default.{matrix_places, places, handed}
@@ -42,6 +45,28 @@ log_few n h = let l = (intlog2-least n).least 62 (omega arith) in omega arith
 
 pub log_is : (n m : ℕ) → n ≤ 2 ^ m → m ≤ intlog2 n → m ≡ intlog2 n
 log_is n m h l = le_antisymm l ((intlog2-least n).least m h)
+
+log_by : (n r : ℕ) → n ≤ 2 ^ r → 2 ^ r / 2 < max 1 n → r ≡ intlog2 n
+log_by n zero h u = log_is n 0 h (omega arith)
+log_by n (suc j) h u = log_is n (suc j) h (log_more n j (omega (arith, pow-suc 2 j, pow_pos j)))
+
+same_power : (k r : ℕ) → 2 ^ r ≤ 2 ^ k → 2 ^ k < 2 * 2 ^ r → k ≡ r
+same_power k r l g = le_antisymm (lower (dec_le k r)) (upper (dec_le r k))
+  where
+    lower : Dec (k ≤ r) → k ≤ r
+    lower (yes h) = h
+    lower (no h) = let p = pow_mono {i = suc r} {j = k} (omega arith) in absurd (omega (arith, pow-suc 2 r))
+
+    upper : Dec (r ≤ k) → r ≤ k
+    upper (yes h) = h
+    upper (no h) = let p = pow_mono {i = suc k} {j = r} (omega arith) in absurd (omega (arith, pow-suc 2 k, pow_pos k))
+
+-- the logarithm r of the power p of two that is next to n
+pub log_next : (n p r : ℕ) → IsPowerOfTwo p → n ≤ p → p / 2 < max 1 n → 2 ^ r ≤ p → p < 2 * 2 ^ r → r ≡ intlog2 n
+log_next n p r (k, e) h u l g =
+    let q = same_power k r (rw e at l) (rw e at g) in
+    let f : p ≡ 2 ^ r = rw q at e in
+    log_by n r (rw f at h) (rw f at u)
 
 -- ---- areas
 pub luma-within : (s : Settings) (z : Size) → z ≡ luma_size s → InFrame s z
@@ -107,7 +132,7 @@ fits_default s m n false (some vs) e f = tt
 
 module _ (s : Settings) (m xs : List ℕ) where
   pub custom_carried : s.custom_matrix ≡ true → length m ≤ matrix_places → MatrixFits s m s.custom_matrix (default_of s) → xs ≡ places m
-      → CarriedOf s m (record { values = xs; count = length m; carried = true })
+      → CarriedOf s m (record { values = xs; carried = Some (length m) })
   custom_carried e l f p =
       let t : take (length m) xs ≡ m = rw p (take_at m (replicate (matrix_places - length m) 0) (length m) refl) in
       record {
@@ -118,7 +143,7 @@ module _ (s : Settings) (m xs : List ℕ) where
       }
 
   pub default_carried : s.custom_matrix ≡ false → MatrixFits s m s.custom_matrix (default_of s) → xs ≡ places (Option.get_or (default_of s) [])
-      → CarriedOf s m (record { values = xs; count = 0; carried = false })
+      → CarriedOf s m (record { values = xs; carried = None })
   unfolding carried_matrix
   default_carried e f p = record {
     carries = record { carried = sym e; few = omega arith; values = p ∙ sym (ap places (by_default s [] e)) };
@@ -129,18 +154,29 @@ module _ (s : Settings) (m xs : List ℕ) where
 
 -- ---- the default
 module _ (w h d k : ℕ) where
-  pub default_missing : not (default.default_of w h d k).found ≡ is_none (default_matrix w h d k)
+  pub default_missing : not (prelude.is_some (default.default_of w h d k)) ≡ is_none (default_matrix w h d k)
   unfolding default.default_of
   default_missing = by (default_matrix w h d k)
     where
-      by : (o : Option (List ℕ)) → not (handed o).found ≡ is_none o
+      by : (o : Option (List ℕ)) → not (prelude.is_some (handed o)) ≡ is_none o
       by none = refl
       by (some vs) = refl
 
-  pub default_values : (default.default_of w h d k).values ≡ places (Option.get_or (default_matrix w h d k) [])
+  pub default_values : (vs : List ℕ) → default.default_of w h d k ≡ Some vs → vs ≡ places (Option.get_or (default_matrix w h d k) [])
   unfolding default.default_of
-  default_values = by (default_matrix w h d k)
+  default_values vs = by (default_matrix w h d k)
     where
-      by : (o : Option (List ℕ)) → (handed o).values ≡ places (Option.get_or o [])
-      by none = refl
-      by (some vs) = refl
+      by : (o : Option (List ℕ)) → handed o ≡ Some vs → vs ≡ places (Option.get_or o [])
+      by none e = no_truth (sym (ap prelude.is_some e))
+      by (some us) e = sym (ap (λ (o : prelude.Option (List ℕ)). prelude.unwrap_or o []) e)
+
+-- a call that is not refused with 10 finds its default
+pub default_found : (s : Settings) (m : List ℕ) → s.custom_matrix ≡ false → MatrixFits s m s.custom_matrix (default_of s)
+    → prelude.IsSome (default.default_of s.wavelet_index s.wavelet_index_ho s.dwt_depth s.dwt_depth_ho)
+unfolding default.default_of
+default_found s m = by s.custom_matrix (default_of s)
+  where
+    by : (b : Bool) (d : Option (List ℕ)) → b ≡ false → MatrixFits s m b d → prelude.IsSome (handed d)
+    by true d e f = no_truth e
+    by false none e f = absurd f
+    by false (some vs) e f = refl

@@ -1,6 +1,6 @@
 -- Laws of strips: predictions as the code reads them, what a place asks, how large its number and its rebuilt value
 -- are, and the numbers of a strip place by place.
-use Rattle.std.specs.Prelude.{◌≡◌, Bool, true, false, cond, ℤ, pos, nat_abs, ◌+ℤ◌, ◌-ℤ◌, length}
+use Rattle.std.specs.Prelude.{◌≡◌, Some, None, Option, Bool, true, false, cond, ℤ, pos, nat_abs, ◌+ℤ◌, ◌-ℤ◌, length}
 use Rattle.std.proofs.Math.Path.{refl, ap, ap₂}
 use Rattle.std.proofs.Common.{sym, ◌∙◌, mul-le-mul_right, get_or-set_same, get_or-set_other, to_z, of_z, to_z-of_z}
 use mathlib.Core.List.{List, [], ◌∷◌, ◌++◌}
@@ -21,6 +21,7 @@ use Rattle.unit.proofs.Laws.Scan.{neighbours, predict-most}
 use Rattle.unit.proofs.Laws.Rebuilt.{step-most}
 use Rattle.unit.proofs.Laws.Trim.{small_append}
 use Rattle.unit.proofs.Laws.Trim as trim
+use Rattle.picture.specs.declared.slices.strip.Origin.{Origin}
 use Rattle.picture.specs.declared.slices.strip.Strip.{Strip}
 use Rattle.picture.specs.Code.Strip.{plane_from, prediction_in, number_in, second_number, place_numbers, row_numbers, rows_numbers, value_in, rebuilt_row, rebuilt_rows, most, reach, Readable, Numbered, Small, Within, Inside}
 
@@ -115,8 +116,8 @@ module _ {a n : ℕ} {l : List ℤ} {s : Strip} {y x : ℕ} (m : Small a n l) (w
   pub numbered : Numbered l s s.coefs s.rebuilt y x
   numbered = numbered_by s.coefs s.rebuilt w.coefs (omega (arith, w.rebuilt, m.order))
 
-  pub numbered_second : Numbered l s s.coefs2 s.rebuilt2 y x
-  numbered_second = numbered_by s.coefs2 s.rebuilt2 w.coefs2 (omega (arith, w.rebuilt2, m.order))
+  pub numbered_second : (o : Origin) → s.second ≡ Some o → Numbered l s o.coefs o.rebuilt y x
+  numbered_second o e = numbered_by o.coefs o.rebuilt (w.coefs2 o e) (omega (arith, w.rebuilt2 o e, m.order))
 
   -- ---- sizes
   -- a rebuilt value stays within reach
@@ -171,10 +172,10 @@ module _ (l : List ℤ) (s : Strip) where
   rows-chunks y zero = refl
   rows-chunks y (suc n) = ap (λ (r : List ℤ). r ++ rows y n) (rows-chunks y n)
 
-  pub second_one : (y x : ℕ) (z : ℤ) → s.pair ≡ true → z ≡ number_in l s s.coefs2 s.rebuilt2 y x → second_number l s y x ≡ z ∷ []
-  second_one y x z t e = rw (t, e)
+  pub second_one : (o : Origin) (y x : ℕ) (z : ℤ) → s.second ≡ Some o → z ≡ number_in l s o.coefs o.rebuilt y x → second_number l s y x ≡ z ∷ []
+  second_one o y x z t e = rw (t, e)
 
-  pub second_none : (y x : ℕ) → s.pair ≡ false → second_number l s y x ≡ []
+  pub second_none : (y x : ℕ) → s.second ≡ None → second_number l s y x ≡ []
   second_none y x t = rw t
 
   pub place_is : (y x : ℕ) (z : ℤ) → z ≡ number_in l s s.coefs s.rebuilt y x → place_numbers l s y x ≡ (z ∷ []) ++ second_number l s y x
@@ -182,18 +183,18 @@ module _ (l : List ℤ) (s : Strip) where
   place_is y x z e = ap (λ (z : ℤ). z ∷ second_number l s y x) (sym e)
 
   second_small : (y x : ℕ) → trim.Small (second_number l s y x)
-  second_small y x = by s.pair
+  second_small y x = by s.second
     where
-      by : (t : Bool) → trim.Small (cond t (number_in l s s.coefs2 s.rebuilt2 y x ∷ []) [])
-      by true = (number_size l s s.coefs2 s.rebuilt2 y x, tt)
-      by false = tt
+      by : (t : Option Origin) → trim.Small (elim t [ Some o ↦ number_in l s o.coefs o.rebuilt y x ∷ [] | None ↦ [] ])
+      by (Some o) = (number_size l s o.coefs o.rebuilt y x, tt)
+      by None = tt
 
   second_length : (y x : ℕ) → length (second_number l s y x) ≤ 1
-  second_length y x = by s.pair
+  second_length y x = by s.second
     where
-      by : (t : Bool) → length (cond t (number_in l s s.coefs2 s.rebuilt2 y x ∷ []) []) ≤ 1
-      by true = omega arith
-      by false = omega arith
+      by : (t : Option Origin) → length {A = ℤ} (elim t [ Some o ↦ number_in l s o.coefs o.rebuilt y x ∷ [] | None ↦ [] ]) ≤ 1
+      by (Some o) = omega arith
+      by None = omega arith
 
   pub place_small : (y x : ℕ) → trim.Small (place_numbers l s y x)
   unfolding place_numbers

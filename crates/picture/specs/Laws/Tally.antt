@@ -1,20 +1,22 @@
 -- Laws of tallies: one number as the code adds it, what the tally of a run is, and the bits of a run without trailing
 -- zeros.
-use Rattle.std.specs.Prelude.{◌≡◌, refl, Bool, true, false, cond, List, [], ◌∷◌, ◌++◌, ℕ, zero, suc, ◌+◌, ◌-◌, ◌^◌, ◌≤◌, eqb, ℤ, pos, negsuc, nat_abs, ◌-ℤ◌, length}
+use Rattle.std.specs.Prelude.{◌≡◌, Some, refl, Bool, false, cond, List, [], ◌∷◌, ◌++◌, ℕ, zero, suc, ◌+◌, ◌-◌, ◌^◌, ◌≤◌, eqb, ℤ, pos, negsuc, nat_abs, ◌-ℤ◌, length}
 use Rattle.std.proofs.Common.{sym, ap, ap₂, ◌∙◌, arith, length-append}
 use Rattle.std.proofs.Math.IntN.{+ℤ_idr}
 use Rattle.codewords.specs.CodeWord.{code_s, codes}
 use Rattle.codewords.specs.Laws.Code.{length-code_s-zero}
 use Rattle.quantiser.specs.Quant.{forward_by}
 use Rattle.unit.specs.Trim.{trim_cons, trimmed, bits_of, trimmed_cost}
-use Rattle.unit.proofs.Laws.Trim.{length-trimmed, Small, bits_most}
+use Rattle.unit.proofs.Laws.Trim.{length-trimmed, Small}
+use Rattle.picture.specs.declared.slices.strip.Origin.{Origin}
 use Rattle.picture.specs.declared.slices.strip.Strip.{Strip}
 use Rattle.picture.specs.declared.slices.cost.Cost.{Cost}
 use Rattle.picture.specs.declared.slices.tally.Tally.{Tally}
 use Rattle.picture.specs.Code.Strip.{plane_from, number_in, second_number, place_numbers}
 use Rattle.picture.specs.Laws.Strip.{prediction_no, second_one, place_is}
 use Rattle.picture.specs.Code.Cost.{Counted, fitted, kept, add1, added, add_all, no_cost}
-use Rattle.picture.specs.Laws.Added.{added-one}
+use Rattle.picture.specs.Code.Counter.{tally_counts}
+use Rattle.picture.specs.Laws.Counter.{counted_fewer, counted_after, counted_one}
 use Rattle.picture.specs.Laws.Cost.{one_bit, cost-of}
 use Rattle.picture.specs.Code.Tally.{tally1, tally_len, tally_all, no_tally, tally_of, trimmed_of, trimmed_by, Addable}
 
@@ -30,29 +32,16 @@ tallied_len t z n r e d =
     d ∙ ap₂ (λ (b : Bool) (n : ℕ). record { bits = t.bits + n; count = t.count + 1; keep = cond b t.keep (t.count + 1) }) (one_bit z n e) e
 
 -- ---- what has been added up
-tallied_count : (t : Tally) (xs : List ℤ) → (tally_all t xs).count ≡ t.count + length xs
-unfolding added
-tallied_count t [] = omega arith
-tallied_count t (z ∷ xs) = tallied_count (tally1 t z) xs ∙ omega arith
-
-tallied_bits : (t : Tally) (xs : List ℤ) → (tally_all t xs).bits ≡ t.bits + bits_of xs
-unfolding added codes
-tallied_bits t [] = omega arith
-tallied_bits t (z ∷ xs) = tallied_bits (tally1 t z) xs ∙ omega (arith, length-append (code_s z) (codes xs))
-
 -- there is room for n numbers behind xs
 pub addable_after : (t : Tally) (xs : List ℤ) (m n : ℕ) → Addable t m → Small xs → length xs + n ≤ m → Addable (tally_all t xs) n
-addable_after t xs m n h s l =
-    let b = tallied_bits t xs in
-    let k = tallied_count t xs in
-    record { bits = omega (arith, bits_most xs s, h.bits); count = omega (arith, h.count) }
+addable_after = counted_after tally_counts
 
 -- where two numbers can be added, one can
 pub countable_less : {b m : ℕ} → Counted b m 2 → Counted b m 1
-countable_less h = record { bits = h.bits; count = omega (arith, h.count) }
+countable_less h = counted_fewer h (omega arith)
 
 pub addable_one : (t r : Tally) (z : ℤ) → Addable t 2 → nat_abs z ≤ 2 ^ 63 → r ≡ tally1 t z → Addable r 1
-addable_one t r z h s e = rw (e ∙ sym (added-one tally1 t z)) (addable_after t (z ∷ []) 2 1 h (s, tt) (omega arith))
+addable_one = counted_one tally_counts
 
 -- ---- the tally of a run
 pub tally_cost : (c : Cost) (xs : List ℤ) → tally_of (add_all c xs) ≡ tally_all (tally_of c) xs
@@ -112,8 +101,8 @@ plain_number l s coefs base y x e =
 
 -- the numbers of a place
 module _ (l : List ℤ) (s : Strip) (y x : ℕ) (e : s.predicted ≡ false) where
-  pub second_plain : s.pair ≡ true → second_number l s y x ≡ forward_by s.factor (plane_from l s.coefs2 s.width y x) ∷ []
-  second_plain t = second_one l s y x _ t (plain_number l s s.coefs2 s.rebuilt2 y x e)
+  pub second_plain : (o : Origin) → s.second ≡ Some o → second_number l s y x ≡ forward_by s.factor (plane_from l o.coefs s.width y x) ∷ []
+  second_plain o t = second_one l s o y x _ t (plain_number l s o.coefs o.rebuilt y x e)
 
   pub place_plain : place_numbers l s y x ≡ (forward_by s.factor (plane_from l s.coefs s.width y x) ∷ []) ++ second_number l s y x
   place_plain = place_is l s y x _ (plain_number l s s.coefs s.rebuilt y x e)

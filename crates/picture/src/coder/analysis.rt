@@ -1,50 +1,38 @@
 // The picture in its work slice, from samples to coefficients.
-ghost use Rattle.std.specs.Prelude.{◌≡◌, ◌+◌, ◌≤◌, ◌^◌, pos, length, replicate};
+ghost use Rattle.std.specs.Prelude.{◌≡◌, ◌+◌, ◌≤◌, ◌^◌, length};
 ghost use Rattle.unit.specs.Limits.{side_limit};
-ghost use Rattle.unit.specs.Sizes.{area, offset_of, intlog2};
-ghost use Rattle.picture.specs.Code.Sides.{size_in};
+ghost use Rattle.unit.specs.Sizes.{offset_of, intlog2};
 ghost use Rattle.unit.specs.Three.{planes};
-ghost use Rattle.picture.specs.Code.Matrix.{lent_in, Carries};
+ghost use Rattle.picture.specs.Code.Matrix.{lent_in};
 ghost use Rattle.picture.specs.Code.Analysed.{is_low, layout_of, picture_of, Called, Ready, Analysed};
 
-use crate::front::matrix::Carried;
-use crate::front::sizes::Sides;
+use crate::front::matrix::Call;
+use crate::front::sizes::{Sides, colour_size, intlog2, luma_size, padded_size};
 use crate::slices::layout::{Component, Layout, Picture};
 use unit::{PictureKind, Settings};
-use wavelet::component::Transform;
+use wavelet::component::{Transform, analyse_components};
 
 // Whether level 0 is predicted.
 fn is_low(kind: PictureKind) -> bool
     ensures { result ≡ is_low kind }
 {
-    match kind {
-        PictureKind::LowDelay => true,
-        PictureKind::HighQuality => false,
-    }
+    matches!(kind, PictureKind::LowDelay)
 }
 
 // The layout of a picture: what all slices share.
-fn layout_of(s: Settings, m: Carried) -> Layout
-    requires { Carries s m }
-    ensures { result ≡ layout_of s (lent_in m) }
+fn layout_of(call: Call) -> Layout
+    ensures { result ≡ layout_of call.settings (lent_in call.matrix) }
 {
-    let kind = s.kind;
-    let values = m.values;
+    let s = call.settings;
+    let values = call.matrix.values;
     Layout {
         depth_ho: s.dwt_depth_ho,
         depth: s.dwt_depth,
         across: s.slices_x,
         down: s.slices_y,
         values,
-        predicted: is_low(kind),
+        predicted: is_low(s.kind),
     }
-}
-
-// How many numbers a padded component has.
-fn count_of(z: Sides) -> usize
-    ensures { result ≡ area (size_in z) }
-{
-    z.width as usize * z.height as usize
 }
 
 // A component of padded sides z.
@@ -61,16 +49,17 @@ fn component_at(z: Sides, coefs: usize, rebuilt: usize) -> Component
 
 // Where a picture stands in the work slice: luma and the two colours one after the other, rebuilt planes as well as
 // coefficients.
-pub(crate) fn picture_of(s: Settings, m: Carried) -> Picture
-    requires { Carries s m × Called s (lent_in m) }
-    ensures { result ≡ picture_of s (lent_in m) }
+pub(crate) fn picture_of(call: Call) -> Picture
+    requires { Called call.settings (lent_in call.matrix) }
+    ensures { result ≡ picture_of call.settings (lent_in call.matrix) }
 {
-    let z = crate::front::sizes::padded_size(s, crate::front::sizes::luma_size(s));
-    let c = crate::front::sizes::padded_size(s, crate::front::sizes::colour_size(s));
-    let k = count_of(z);
-    let n = count_of(c);
+    let s = call.settings;
+    let z = padded_size(s, luma_size(s));
+    let c = padded_size(s, colour_size(s));
+    let k = z.area() as usize;
+    let n = c.area() as usize;
     let front = k + n + n;
-    let layout = layout_of(s, m);
+    let layout = layout_of(call);
     let y = component_at(z, front, 0);
     let c1 = component_at(c, front + k, k);
     let c2 = component_at(c, front + (k + n), k + n);
@@ -89,9 +78,8 @@ fn offset_of(excursion: u32) -> u16
     requires { (1 ≤ excursion) × (excursion ≤ side_limit) }
     ensures { (result ≡ offset_of (intlog2 (excursion + 1))) × (result ≤ 2 ^ 15) }
 {
-    let d = crate::front::sizes::intlog2(excursion as u64 + 1);
-    let one: u16 = 1;
-    one << (d - 1)
+    let d = intlog2(excursion as u64 + 1);
+    1u16 << (d - 1)
 }
 
 // A component of sides z, padded sides q and an excursion, as the layer below takes it.
@@ -109,32 +97,16 @@ fn component_of(z: Sides, q: Sides, excursion: u32) -> wavelet::component::Compo
     }
 }
 
-// Fills a slice of numbers with zeros.
-pub(crate) fn clear(a: &mut [i64])
-    ensures { a.new ≡ replicate (length a.old) (pos 0) }
-{
-    let n = a.len();
-    let mut i = 0;
-    while i < n {
-        a[i] = 0;
-        i += 1;
-    }
-}
-
 // The three components, padded and analysed behind a front of the sum of their areas, which is scratch and then
 // cleared.
 pub(crate) fn analyse(work: &mut [i64], s: Settings, y: &[u16], c1: &[u16], c2: &[u16])
     requires { Ready s (planes y.now c1.now c2.now) work.old }
     ensures { Analysed s (planes y.now c1.now c2.now) work.new × (length work.new ≡ length work.old) }
 {
-    let l = crate::front::sizes::luma_size(s);
-    let c = crate::front::sizes::colour_size(s);
-    let luma = component_of(l, crate::front::sizes::padded_size(s, l), s.luma_excursion);
-    let colour = component_of(
-        c,
-        crate::front::sizes::padded_size(s, c),
-        s.color_diff_excursion,
-    );
+    let l = luma_size(s);
+    let c = colour_size(s);
+    let luma = component_of(l, padded_size(s, l), s.luma_excursion);
+    let colour = component_of(c, padded_size(s, c), s.color_diff_excursion);
     let front = luma.pw * luma.ph + colour.pw * colour.ph + colour.pw * colour.ph;
     let t = Transform {
         k: s.dwt_depth_ho,
@@ -142,6 +114,6 @@ pub(crate) fn analyse(work: &mut [i64], s: Settings, y: &[u16], c1: &[u16], c2: 
         ih: s.wavelet_index_ho as usize,
         iv: s.wavelet_index as usize,
     };
-    wavelet::component::analyse_components(work, front, y, c1, c2, luma, colour, t);
-    clear(&mut work[0..front]);
+    analyse_components(work, front, y, c1, c2, luma, colour, t);
+    work[..front].fill(0);
 }

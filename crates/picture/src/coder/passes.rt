@@ -8,20 +8,21 @@ ghost use Rattle.picture.specs.Code.Notes.{Notes};
 ghost use Rattle.picture.specs.Code.Low.{low_runs, work_at, cuts_in, LowIn};
 
 use crate::coder::slice_coder::SliceCoder;
-use crate::high::size::Terms;
-use crate::slices::layout::Picture;
+use crate::high::plan::{Plan, Terms};
+use crate::slices::layout::{Picture, slice_count};
 
 // Plans all slices from place at on, packs their words and notes their choices.
 pub(crate) fn plan_slices(work: &mut [i64], p: Picture, t: Terms, at: usize) -> SliceCoder
     requires { PlanIn p t work.old × (at < 2 ^ 16) }
     ensures { PlansTo work.old p t at (slices_in p) result × Notes work.old p t (slices_in p) work.new }
 {
-    let slices = crate::slices::layout::slice_count(p);
+    let d = Plan {
+        picture: p,
+        terms: t,
+    };
     let mut c = SliceCoder::new(at);
-    let mut k = 0;
-    while k < slices {
-        c = c.plan_hq_slice(work, p, t, k);
-        k += 1;
+    for k in 0..slice_count(p) {
+        c = c.plan_hq_slice(work, d, k);
     }
     c
 }
@@ -31,12 +32,13 @@ pub(crate) fn plan_noted_slices(work: &mut [i64], p: Picture, t: Terms, at: usiz
     requires { PlanIn p t work.old × (Notes work.old p t (slices_in p) work.old × (at < 2 ^ 16)) }
     ensures { PlansTo work.old p t at (slices_in p) result × (work.new ≡ work.old) }
 {
-    let slices = crate::slices::layout::slice_count(p);
+    let d = Plan {
+        picture: p,
+        terms: t,
+    };
     let mut c = SliceCoder::new(at);
-    let mut k = 0;
-    while k < slices {
-        c = c.plan_noted_slice(work, p, t, k);
-        k += 1;
+    for k in 0..slice_count(p) {
+        c = c.plan_noted_slice(work, d, k);
     }
     c
 }
@@ -54,12 +56,13 @@ pub(crate) fn put_hq_slices(
     ensures { Lays out.old at (high_runs work.old p t (slices_in p)) out.new result.at × ((result.cut_slices ≡ 0)
         × (work.new ≡ work.old)) }
 {
-    let slices = crate::slices::layout::slice_count(p);
+    let d = Plan {
+        picture: p,
+        terms: t,
+    };
     let mut c = SliceCoder::new(at);
-    let mut k: u32 = 0;
-    while k < slices {
-        c = c.code_hq_slice(out, work, p, t, k);
-        k += 1;
+    for k in 0u32..slice_count(p) {
+        c = c.code_hq_slice(out, work, d, k);
     }
     c
 }
@@ -76,12 +79,9 @@ pub(crate) fn put_ld_slices(
     ensures { Lays out.old at (low_runs p n work.old (slices_in p)) out.new result.at
         × ((result.cut_slices ≡ cuts_in p n work.old (slices_in p)) × (work.new ≡ work_at p n work.old (slices_in p))) }
 {
-    let slices = crate::slices::layout::slice_count(p);
     let mut c = SliceCoder::new(at);
-    let mut k = 0;
-    while k < slices {
+    for k in 0..slice_count(p) {
         c = c.code_ld_slice(out, work, p, n, k);
-        k += 1;
     }
     c
 }

@@ -1,14 +1,14 @@
 // The choices of high-quality slices, noted in the work slice.
 ghost use Rattle.std.specs.Prelude.{◌≡◌, ◌+◌, ◌^◌, ◌<◌, pos, length, set};
 ghost use Rattle.laws.specs.Rows.{at};
+ghost use Rattle.picture.specs.Code.Strip.{Small};
 ghost use Rattle.picture.specs.Code.Picture.{slices_in};
-ghost use Rattle.picture.specs.Code.Choice.{choice_in, words_to, FewBits, PlanIn};
+ghost use Rattle.picture.specs.Code.Choice.{choice_in, words_to, FewBits};
 ghost use Rattle.picture.specs.Code.Notes.{note_run, note_in, RunAt, Notes};
 
 use crate::high::choice::Choice;
 use crate::high::packed::Packed;
-use crate::high::size::Terms;
-use crate::slices::layout::Picture;
+use crate::high::plan::Plan;
 
 // Notes a number at place i, where the work slice reaches so far.
 fn note(work: &mut [i64], i: usize, v: u64)
@@ -34,13 +34,10 @@ pub(crate) fn note_choice(work: &mut [i64], i: usize, c: Choice)
     requires { (i < 2 ^ 39) × FewBits c }
     ensures { work.new ≡ note_in work.old i c }
 {
-    let y = c.y;
-    let c1 = c.c1;
-    let c2 = c.c2;
     note(work, i, c.index as u64);
-    note_run(work, i + 1, y);
-    note_run(work, i + 3, c1);
-    note_run(work, i + 5, c2);
+    note_run(work, i + 1, c.y);
+    note_run(work, i + 3, c.c1);
+    note_run(work, i + 5, c.c2);
 }
 
 // The run that is noted from place i on.
@@ -48,20 +45,20 @@ fn noted_run(work: &[i64], i: usize) -> Packed
     requires { RunAt work.now i }
     ensures { (at work.now i ≡ pos result.words) × (at work.now (i + 1) ≡ pos result.bits) }
 {
-    let j = i + 1;
     Packed {
         words: work[i] as usize,
-        bits: work[j] as u64,
+        bits: work[i + 1] as u64,
     }
 }
 
 // The choice of slice k as it was noted, or where the work slice does not reach so far chosen anew; its words stand
 // from place from on.
-pub(crate) fn noted_choice(work: &mut [i64], p: Picture, t: Terms, k: u32, from: usize) -> Choice
-    requires { PlanIn p t work.old × ((k < slices_in p) × (Notes work.old p t (slices_in p) work.old × (from ≡ length (words_to work.old p t k)))) }
-    ensures { (result ≡ choice_in work.old p t k) × (work.new ≡ work.old) }
+pub(crate) fn noted_choice(work: &mut [i64], d: Plan, k: u32, from: usize) -> Choice
+    requires { Small d.picture.front d.picture.end work.old × ((k < slices_in d.picture)
+        × (Notes work.old d.picture d.terms (slices_in d.picture) work.old × (from ≡ length (words_to work.old d.picture d.terms k)))) }
+    ensures { (result ≡ choice_in work.old d.picture d.terms k) × (work.new ≡ work.old) }
 {
-    let i = p.end + 7 * k as usize;
+    let i = d.picture.end + 7 * k as usize;
     if i + 6 < work.len() {
         return Choice {
             index: work[i] as u32,
@@ -70,5 +67,5 @@ pub(crate) fn noted_choice(work: &mut [i64], p: Picture, t: Terms, k: u32, from:
             c2: noted_run(work, i + 5),
         };
     }
-    crate::high::choice::choice_of(work, p, t, k, 0, from)
+    crate::high::choice::choice_of(work, d, k, 0, from)
 }

@@ -2,9 +2,9 @@
 ghost use Rattle.std.specs.Prelude.{◌≡◌, ◌*◌, ◌^◌, ◌≤◌, max};
 ghost use Rattle.laws.specs.Ceiling.{ceiling};
 ghost use Rattle.unit.specs.HighQuality.{slice_size_by, share_of};
-ghost use Rattle.picture.specs.Code.Choice.{needs_by, TermsIn};
+ghost use Rattle.picture.specs.Code.Choice.{needs_by};
 
-use unit::RateControl;
+use crate::high::plan::Plan;
 
 // The bytes that the components of a slice need.
 #[derive(Clone, Copy)]
@@ -14,23 +14,12 @@ pub(crate) struct Needs {
     pub c2: u64,
 }
 
-// What all slices share: the rate, prefix bytes, the scaler, the bytes for all slices, and the index where elections
-// begin.
-#[derive(Clone, Copy)]
-pub(crate) struct Terms {
-    pub rate: RateControl,
-    pub prefix: u32,
-    pub scaler: u32,
-    pub bytes: u64,
-    pub lo: u32,
-}
-
 // How many bytes n bits need.
 pub(crate) fn need(n: u64) -> u64
     requires { n ≤ 2 ^ 33 }
     ensures { (result ≡ ceiling n 8) × (result ≤ 2 ^ 30) }
 {
-    (n + 7) / 8
+    n.div_ceil(8)
 }
 
 // The bytes that the components need, by their bits.
@@ -45,18 +34,11 @@ pub(crate) fn needs_of(y: u64, c1: u64, c2: u64) -> Needs
     }
 }
 
-// The larger one of two numbers.
-fn larger(a: u64, b: u64) -> u64
-    ensures { result ≡ max a b }
-{
-    if a <= b { b } else { a }
-}
-
 // The largest need, or n where this is larger.
 pub(crate) fn largest(z: Needs, n: u64) -> u64
     ensures { result ≡ max (max z.y (max z.c1 z.c2)) n }
 {
-    larger(larger(z.y, larger(z.c1, z.c2)), n)
+    z.y.max(z.c1.max(z.c2)).max(n)
 }
 
 // n over c, rounded up.
@@ -64,19 +46,19 @@ pub(crate) fn scalers(n: u64, c: u32) -> u64
     requires { (n ≤ 2 ^ 30) × ((1 ≤ c) × (c ≤ 2 ^ 24)) }
     ensures { (result ≡ ceiling n c) × (result * c ≤ 2 ^ 31) }
 {
-    (n + (c as u64 - 1)) / c as u64
+    n.div_ceil(c as u64)
 }
 
 // The bytes of a slice, by the needs of its components.
-pub(crate) fn slice_size(z: Needs, t: Terms) -> u64
-    requires { ((z.y ≤ 2 ^ 30) × ((z.c1 ≤ 2 ^ 30) × (z.c2 ≤ 2 ^ 30))) × TermsIn t }
-    ensures { (result ≡ slice_size_by t.prefix t.scaler z.y z.c1 z.c2) × (result ≤ 2 ^ 34) }
+pub(crate) fn slice_size(z: Needs, d: Plan) -> u64
+    requires { (z.y ≤ 2 ^ 30) × ((z.c1 ≤ 2 ^ 30) × (z.c2 ≤ 2 ^ 30)) }
+    ensures { (result ≡ slice_size_by d.terms.prefix d.terms.scaler z.y z.c1 z.c2) × (result ≤ 2 ^ 34) }
 {
-    let c = t.scaler as u64;
-    let y = scalers(z.y, t.scaler) * c;
-    let c1 = scalers(z.c1, t.scaler) * c;
-    let c2 = scalers(z.c2, t.scaler) * c;
-    4 + t.prefix as u64 + (y + c1 + c2)
+    let c = d.terms.scaler as u64;
+    let y = z.y.next_multiple_of(c);
+    let c1 = z.c1.next_multiple_of(c);
+    let c2 = z.c2.next_multiple_of(c);
+    4 + d.terms.prefix as u64 + (y + c1 + c2)
 }
 
 // Slice k's share of n bytes among d slices: the earlier ones are larger by at most one.

@@ -1,12 +1,11 @@
 // A low-delay slice's runs at two indices near a guess, from which its election begins.
-ghost use Rattle.std.specs.Prelude.{◌≡◌, ◌≤◌, ◌<◌, min};
+ghost use Rattle.std.specs.Prelude.{◌≡◌, ◌≤◌};
 ghost use Rattle.picture.specs.Code.Strip.{Small};
 ghost use Rattle.picture.specs.Code.Picture.{SliceIn};
 ghost use Rattle.picture.specs.Code.Low.{rebuilt_in, Tried};
-ghost use Rattle.picture.specs.Code.LowRest.{windows_of, Known};
+ghost use Rattle.picture.specs.Code.LowRest.{Known};
 
-use crate::low::trial::{Rest, Windows};
-use crate::slices::layout::Picture;
+use crate::low::trial::{Bracket, Rest, Slice};
 
 // Whether a slice fits at an index, and its runs there.
 #[derive(Clone, Copy)]
@@ -15,22 +14,15 @@ pub(crate) struct Probe {
     pub rest: Rest,
 }
 
-// A slice's runs at two indices, as in a trial.
-#[derive(Clone, Copy)]
-pub(crate) struct Bracket {
-    pub low: Rest,
-    pub high: Rest,
-}
-
-// Whether slice k takes at most room bits at index q, and its runs there. The rebuilt planes are left as this index
+// Whether slice s takes at most room bits at index q, and its runs there. The rebuilt planes are left as this index
 // makes them.
-fn probe_at(work: &mut [i64], p: Picture, room: u64, k: u32, q: u32, v: Windows) -> Probe
-    requires { SliceIn p work.old k q × (v ≡ windows_of p k) }
-    ensures { (work.new ≡ rebuilt_in work.old p k q) × (Small p.front p.end work.new × Known work.new p k result.rest) }
+fn probe_at(work: &mut [i64], s: Slice, room: u64, q: u32) -> Probe
+    requires { SliceIn s.picture work.old s.k q }
+    ensures { (work.new ≡ rebuilt_in work.old s.picture s.k q) × (Small s.picture.front s.picture.end work.new × Known work.new s.picture s.k result.rest) }
 {
-    crate::low::trial::rebuild_planes(work, p, k, q, v);
-    let f = crate::low::trial::first_tallies(work, p, k, q, v);
-    let rest = crate::low::trial::rest_of(work, p, k, q, v);
+    s.rebuild_planes(work, q);
+    let f = s.first_tallies(work, q);
+    let rest = s.rest_of(work, q);
     Probe {
         fits: crate::low::trial::bits_with(f, rest) <= room,
         rest,
@@ -43,73 +35,40 @@ fn moved(q: u32, step: u32, down: bool) -> u32
     ensures { result ≤ 127 }
 {
     if down {
-        if q < step { 0 } else { q - step }
-    } else if q + step < 127 {
-        q + step
+        q.saturating_sub(step)
     } else {
-        127
+        (q + step).min(127)
     }
 }
 
-// How many turns are left after one: one fewer where the search goes on (again), else 0.
-fn turns_left(left: u32, again: bool) -> u32
-    requires { 0 < left }
-    ensures { result < left }
-{
-    if again { left - 1 } else { 0 }
-}
+// How far each turn goes: the second as far as the first, since most slices are near their guess.
+const STEPS: [u32; 8] = [1, 1, 2, 4, 8, 16, 32, 64];
 
-// The step of the next turn: the second one is as wide as the first, since most slices are near their guess.
-fn widened(step: u32, left: u32) -> u32
-    requires { (1 ≤ step) × (step ≤ 256) }
-    ensures { (1 ≤ result) × (result ≤ 256) }
+// Runs at two indices near the guess g, in steps from there down where it fits and up where it does not, until that
+// changes, the end is reached or all turns are over. The election's index does not depend on them.
+pub(crate) fn bracket_at(work: &mut [i64], s: Slice, room: u64, g: u32) -> Bracket
+    requires { SliceIn s.picture work.old s.k 0 × (g ≤ 127) }
+    ensures { Tried s.picture s.k work.old work.new × (Known work.new s.picture s.k result.low × Known work.new s.picture s.k result.high) }
 {
-    if left < 7 {
-        crate::slices::search::wider(step)
-    } else {
-        step
-    }
-}
-
-// Runs at two indices near the guess g, in widening steps from there down where it fits and up where it does not, until
-// that changes, the end is reached or eight turns are over. The election's index does not depend on them.
-pub(crate) fn bracket_at(
-    work: &mut [i64],
-    p: Picture,
-    room: u64,
-    k: u32,
-    g: u32,
-    v: Windows,
-) -> Bracket
-    requires { SliceIn p work.old k 0 × ((g ≤ 127) × (v ≡ windows_of p k)) }
-    ensures { Tried p k work.old work.new × (Known work.new p k result.low × Known work.new p k result.high) }
-{
-    let start = probe_at(work, p, room, k, g, v);
+    let start = probe_at(work, s, room, g);
     let down = start.fits;
-    let mut low = start.rest;
-    let mut high = start.rest;
+    let mut b = Bracket {
+        low: start.rest,
+        high: start.rest,
+    };
     let mut q = g;
-    let mut step: u32 = 1;
-    let mut left: u32 = 8;
-    while left > 0 {
+    for step in STEPS {
         let next = moved(q, step, down);
-        let t = probe_at(work, p, room, k, next, v);
-        let rest = t.rest;
+        let t = probe_at(work, s, room, next);
         if t.fits {
-            high = rest;
+            b.high = t.rest;
         } else {
-            low = rest;
+            b.low = t.rest;
         }
-        left = turns_left(left, (t.fits == down) & (next != q));
-        step = widened(step, left);
+        if (t.fits != down) | (next == q) {
+            break;
+        }
         q = next;
     }
-    Bracket { low, high }
-}
-
-// The index where the bracket of a slice begins: that of the slice before, at most 127.
-pub(crate) fn guess(index: u32) -> u32
-    ensures { (result ≡ min index 127) × (result ≤ 127) }
-{
-    if index < 127 { index } else { 127 }
+    b
 }

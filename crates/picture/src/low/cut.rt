@@ -1,47 +1,20 @@
 // The runs of a low-delay slice that are written: cut where they do not fit.
-ghost use Rattle.std.specs.Prelude.{◌≡◌};
-ghost use Rattle.picture.specs.Code.Cost.{no_cost, add_all};
+ghost use Rattle.std.specs.Prelude.{◌≡◌, ◌+◌, ◌<◌};
+ghost use Rattle.unit.specs.Trim.{trimmed_cost};
 ghost use Rattle.picture.specs.Code.Picture.{SliceIn};
-ghost use Rattle.picture.specs.Code.Low.{luma_in, colour_in, KeptOf, Shorter, CutIn};
-ghost use Rattle.picture.specs.Code.LowRest.{windows_of, Known};
+ghost use Rattle.picture.specs.Code.Low.{luma_in, colour_in, KeptOf, Shorter};
+ghost use Rattle.picture.specs.Code.LowRest.{Known};
 
-use crate::low::trial::{Rest, Windows};
+use crate::low::trial::{Rest, Slice};
 use crate::slices::cost::Cost;
-use crate::slices::layout::Picture;
 use crate::slices::tally::Trimmed;
 
-// The runs that are written: how many numbers of luma and of the colours, and their bits; cut is 1 where a number that
-// is not 0 is left out, else 0.
+// The runs that are written, of luma and of the colours; cut is set where a number that is not 0 is left out.
 #[derive(Clone, Copy)]
 pub(crate) struct Kept {
-    pub luma: usize,
-    pub luma_bits: u64,
-    pub colour: usize,
-    pub colour_bits: u64,
-    pub cut: u32,
-}
-
-// What a slice's luma costs, with room for a run.
-fn luma_cost(work: &[i64], p: Picture, k: u32, q: u32, room: u64) -> Cost
-    requires { SliceIn p work.now k q }
-    ensures { result ≡ add_all (no_cost room) (luma_in work.now p k q) }
-{
-    let none = crate::slices::cost::no_cost(room);
-    let l = p.layout;
-    let y = p.y;
-    crate::slices::run::cost_run(work, l, y, y, false, k, q, none)
-}
-
-// What a slice's two colours cost, with room for a run.
-fn colour_cost(work: &[i64], p: Picture, k: u32, q: u32, room: u64) -> Cost
-    requires { SliceIn p work.now k q }
-    ensures { result ≡ add_all (no_cost room) (colour_in work.now p k q) }
-{
-    let none = crate::slices::cost::no_cost(room);
-    let l = p.layout;
-    let c1 = p.c1;
-    let c2 = p.c2;
-    crate::slices::run::cost_run(work, l, c1, c2, true, k, q, none)
+    pub luma: Trimmed,
+    pub colour: Trimmed,
+    pub cut: bool,
 }
 
 // The shorter one of the kept run and the longest run that fits.
@@ -61,52 +34,40 @@ fn shorter(c: Cost) -> Trimmed
     }
 }
 
-// The cut: the longest luma run that fits, then the longest colour run in the bits left.
-fn cut(work: &[i64], p: Picture, room: u64, k: u32, q: u32, y: Cost) -> Kept
-    requires { SliceIn p work.now k q × CutIn work.now p room k q y }
-    ensures { KeptOf room (luma_in work.now p k q) (colour_in work.now p k q) result }
+// The cut of a slice that does not fit: the longest luma run that fits, then the longest colour run in the bits left.
+fn cut(work: &[i64], s: Slice, room: u64, q: u32) -> Kept
+    requires { SliceIn s.picture work.now s.k q
+        × (room < trimmed_cost (luma_in work.now s.picture s.k q) + trimmed_cost (colour_in work.now s.picture s.k q)) }
+    ensures { KeptOf room (luma_in work.now s.picture s.k q) (colour_in work.now s.picture s.k q) result }
 {
-    let l = shorter(y);
-    let left = room - l.bits;
-    let c = shorter(colour_cost(work, p, k, q, left));
+    let p = s.picture;
+    let none = crate::slices::cost::no_cost(room);
+    let y = shorter(crate::slices::run::cost_run(work, p.run(p.y, s.k, q), none));
+    let none = crate::slices::cost::no_cost(room - y.bits);
+    let c = shorter(crate::slices::run::cost_run(work, p.colours(s.k, q), none));
     Kept {
-        luma: l.count,
-        luma_bits: l.bits,
-        colour: c.count,
-        colour_bits: c.bits,
-        cut: 1,
+        luma: y,
+        colour: c,
+        cut: true,
     }
 }
 
 // The runs that are written in room bits: all but trailing zeros where that fits, else a cut. The runs behind level 0
 // are r.
-pub(crate) fn kept_runs(
-    work: &[i64],
-    p: Picture,
-    room: u64,
-    k: u32,
-    q: u32,
-    v: Windows,
-    r: Rest,
-) -> Kept
-    requires { SliceIn p work.now k q × ((Known work.now p k r × (r.index ≡ q)) × (v ≡ windows_of p k)) }
-    ensures { KeptOf room (luma_in work.now p k q) (colour_in work.now p k q) result }
+pub(crate) fn kept_runs(work: &[i64], s: Slice, room: u64, q: u32, r: Rest) -> Kept
+    requires { SliceIn s.picture work.now s.k q × (Known work.now s.picture s.k r × (r.index ≡ q)) }
+    ensures { KeptOf room (luma_in work.now s.picture s.k q) (colour_in work.now s.picture s.k q) result }
 {
-    let f = crate::low::trial::first_tallies(work, p, k, q, v);
-    let luma = f.luma;
-    let luma_rest = r.luma;
-    let colour = f.colour;
-    let colour_rest = r.colour;
-    let y = crate::low::trial::joined(luma, luma_rest);
-    let c = crate::low::trial::joined(colour, colour_rest);
+    let f = s.first_tallies(work, q);
+    let y = crate::low::trial::joined(f.luma, r.luma);
+    let c = crate::low::trial::joined(f.colour, r.colour);
     if y.bits + c.bits <= room {
-        return Kept {
-            luma: y.count,
-            luma_bits: y.bits,
-            colour: c.count,
-            colour_bits: c.bits,
-            cut: 0,
-        };
+        Kept {
+            luma: y,
+            colour: c,
+            cut: false,
+        }
+    } else {
+        cut(work, s, room, q)
     }
-    cut(work, p, room, k, q, luma_cost(work, p, k, q, room))
 }

@@ -1,14 +1,14 @@
 // Whether a low-delay slice fits at an index: its candidate in the work slice, and the bits of its numbers.
-ghost use Rattle.std.specs.Prelude.{◌≡◌, ◌&&◌, ◌*◌, ◌-◌, ◌≤◌, ◌<◌, leb, ltb};
+ghost use Rattle.std.specs.Prelude.{◌≡◌, ◌&&◌, ◌*◌, ◌≤◌, ◌<◌, leb, ltb};
 ghost use Rattle.unit.specs.Limits.{area_limit};
 ghost use Rattle.picture.specs.Code.Strip.{Small};
-ghost use Rattle.picture.specs.Code.Layout.{band_count, window_of, rest_numbers, RunLies};
+ghost use Rattle.picture.specs.Code.Layout.{run_window, rest_of, Lying};
 ghost use Rattle.picture.specs.Code.Picture.{slices_in, SliceIn, Arranged};
 ghost use Rattle.picture.specs.Code.Tally.{trimmed_of};
 ghost use Rattle.picture.specs.Code.Low.{rebuilt_in, low_fits_in};
 ghost use Rattle.picture.specs.Code.LowRest.{windows_of, joined_of, bits_with, FirstOf, Known, Joins};
 
-use crate::slices::layout::{Component, Picture, Window};
+use crate::slices::layout::{Picture, Run, Window};
 use crate::slices::tally::{Tally, Trimmed};
 
 // What a slice has of level 0: of luma, and of each colour.
@@ -16,6 +16,15 @@ use crate::slices::tally::{Tally, Trimmed};
 pub(crate) struct Windows {
     pub luma: Window,
     pub colour: Window,
+}
+
+// Slice k of a picture, with what it has of level 0, worked out once for all trials.
+#[derive(Clone, Copy)]
+pub(crate) struct Slice {
+    pub picture: Picture,
+    pub k: u32,
+    pub windows: Windows,
+    ghost is: { windows ≡ windows_of picture k },
 }
 
 // The tallies of a slice's level-0 numbers, of luma and of the two colours.
@@ -33,101 +42,95 @@ pub(crate) struct Rest {
     pub colour: Trimmed,
 }
 
-// Whether a slice fits at an index, and its runs at two indices: as a rule low did not fit and high did. What is proved
-// needs no such rule, and no order.
+// A slice's runs at two indices: as a rule low did not fit and high did. What is proved needs no such rule, and no
+// order.
 #[derive(Clone, Copy)]
-pub(crate) struct Trial {
-    pub fits: bool,
+pub(crate) struct Bracket {
     pub low: Rest,
     pub high: Rest,
 }
 
-// What slice k has of level 0, worked out once for all trials.
-pub(crate) fn windows_of(p: Picture, k: u32) -> Windows
-    requires { Arranged p × (k < slices_in p) }
-    ensures { result ≡ windows_of p k }
-{
-    let l = p.layout;
-    let y = p.y;
-    let c1 = p.c1;
-    Windows {
-        luma: crate::slices::layout::window_at(l, y, 0, k),
-        colour: crate::slices::layout::window_at(l, c1, 0, k),
-    }
-}
-
-// Slice k's part of the three rebuilt planes, made at index q.
-pub(crate) fn rebuild_planes(work: &mut [i64], p: Picture, k: u32, q: u32, v: Windows)
-    requires { SliceIn p work.old k q × (v ≡ windows_of p k) }
-    ensures { (work.new ≡ rebuilt_in work.old p k q) × Small p.front p.end work.new }
-{
-    let l = p.layout;
-    let y = p.y;
-    let c1 = p.c1;
-    let c2 = p.c2;
-    let luma = v.luma;
-    let colour = v.colour;
-    crate::slices::run::rebuild_run(work, l, y, k, q, luma);
-    crate::slices::run::rebuild_run(work, l, c1, k, q, colour);
-    crate::slices::run::rebuild_run(work, l, c2, k, q, colour);
-}
-
-// The tallies of slice k's level-0 numbers at index q, where the planes are rebuilt.
-pub(crate) fn first_tallies(work: &[i64], p: Picture, k: u32, q: u32, v: Windows) -> First
-    requires { SliceIn p work.now k q × (v ≡ windows_of p k) }
-    ensures { FirstOf work.now p k q result }
-{
-    let l = p.layout;
-    let y = p.y;
-    let c1 = p.c1;
-    let c2 = p.c2;
-    let luma = v.luma;
-    let colour = v.colour;
-    First {
-        luma: crate::slices::run::first_tally(work, l, y, y, false, k, q, luma),
-        colour: crate::slices::run::first_tally(work, l, c1, c2, true, k, q, colour),
-    }
-}
-
-// A run of a component's subbands behind the first, without trailing zeros.
-fn rest_run(
-    work: &[i64],
-    p: Picture,
-    c: Component,
-    second: Component,
-    pair: bool,
-    k: u32,
-    q: u32,
-    v: Window,
-) -> Trimmed
-    requires { RunLies p.layout c second k q work.now × ((c.width * c.height ≤ area_limit) × (v ≡ window_of p.layout c 0 k)) }
-    ensures { result ≡ trimmed_of (rest_numbers work.now p.layout c second pair k q (band_count p.layout - 1)) }
+// A run of the subbands behind the first, without trailing zeros.
+fn rest_run(work: &[i64], r: Run, v: Window) -> Trimmed
+    requires { Lying r work.now × ((r.first.width * r.first.height ≤ area_limit) × (v ≡ run_window r 0)) }
+    ensures { result ≡ trimmed_of (rest_of work.now r) }
 {
     let none = Tally {
         bits: 0,
         count: 0,
         keep: 0,
     };
-    let l = p.layout;
-    let t = crate::slices::run::rest_tally(work, l, c, second, pair, k, q, v, none);
+    let t = crate::slices::run::rest_tally(work, r, v, none);
     crate::slices::tally::trimmed_of(t)
 }
 
-// Slice k's runs of the subbands behind the first at index q. No prediction is in them, so that they do not depend on
-// the rebuilt planes.
-pub(crate) fn rest_of(work: &[i64], p: Picture, k: u32, q: u32, v: Windows) -> Rest
-    requires { SliceIn p work.now k q × (v ≡ windows_of p k) }
-    ensures { Known work.now p k result × (result.index ≡ q) }
-{
-    let y = p.y;
-    let c1 = p.c1;
-    let c2 = p.c2;
-    let luma = v.luma;
-    let colour = v.colour;
-    Rest {
-        index: q,
-        luma: rest_run(work, p, y, y, false, k, q, luma),
-        colour: rest_run(work, p, c1, c2, true, k, q, colour),
+impl Slice {
+    // Slice k of picture p.
+    pub(crate) fn new(p: Picture, k: u32) -> Slice
+        requires { Arranged p × (k < slices_in p) }
+        ensures { (result.picture ≡ p) × (result.k ≡ k) }
+    {
+        Slice {
+            picture: p,
+            k,
+            windows: Windows {
+                luma: crate::slices::layout::window_at(p.layout, p.y, 0, k),
+                colour: crate::slices::layout::window_at(p.layout, p.c1, 0, k),
+            },
+        }
+    }
+
+    // Its part of the three rebuilt planes, made at index q.
+    pub(crate) fn rebuild_planes(self, work: &mut [i64], q: u32)
+        requires { SliceIn self.picture work.old self.k q }
+        ensures { (work.new ≡ rebuilt_in work.old self.picture self.k q) × Small self.picture.front self.picture.end work.new }
+    {
+        let p = self.picture;
+        crate::slices::run::rebuild_run(work, p.run(p.y, self.k, q), self.windows.luma);
+        crate::slices::run::rebuild_run(work, p.run(p.c1, self.k, q), self.windows.colour);
+        crate::slices::run::rebuild_run(work, p.run(p.c2, self.k, q), self.windows.colour);
+    }
+
+    // The tallies of its level-0 numbers at index q, where the planes are rebuilt.
+    pub(crate) fn first_tallies(self, work: &[i64], q: u32) -> First
+        requires { SliceIn self.picture work.now self.k q }
+        ensures { FirstOf work.now self.picture self.k q result }
+    {
+        let p = self.picture;
+        First {
+            luma: crate::slices::run::first_tally(work, p.run(p.y, self.k, q), self.windows.luma),
+            colour: crate::slices::run::first_tally(
+                work,
+                p.colours(self.k, q),
+                self.windows.colour,
+            ),
+        }
+    }
+
+    // Its runs of the subbands behind the first at index q. No prediction is in them, so that they do not depend on
+    // the rebuilt planes.
+    pub(crate) fn rest_of(self, work: &[i64], q: u32) -> Rest
+        requires { SliceIn self.picture work.now self.k q }
+        ensures { Known work.now self.picture self.k result × (result.index ≡ q) }
+    {
+        let p = self.picture;
+        Rest {
+            index: q,
+            luma: rest_run(work, p.run(p.y, self.k, q), self.windows.luma),
+            colour: rest_run(work, p.colours(self.k, q), self.windows.colour),
+        }
+    }
+
+    // Its runs at index q: the known ones r, where they are of this index.
+    pub(crate) fn rest_at(self, work: &[i64], q: u32, r: Rest) -> Rest
+        requires { SliceIn self.picture work.now self.k q × Known work.now self.picture self.k r }
+        ensures { Known work.now self.picture self.k result × (result.index ≡ q) }
+    {
+        if r.index == q {
+            r
+        } else {
+            self.rest_of(work, q)
+        }
     }
 }
 
@@ -151,13 +154,7 @@ pub(crate) fn bits_with(f: First, r: Rest) -> u64
     requires { Joins f.luma r.luma × Joins f.colour r.colour }
     ensures { result ≡ bits_with f r }
 {
-    let luma = f.luma;
-    let luma_rest = r.luma;
-    let colour = f.colour;
-    let colour_rest = r.colour;
-    let y = joined(luma, luma_rest);
-    let c = joined(colour, colour_rest);
-    y.bits + c.bits
+    joined(f.luma, r.luma).bits + joined(f.colour, r.colour).bits
 }
 
 // Whether a slice whose level-0 numbers at index q are tallied in f surely fits, since the other numbers at q take no
@@ -166,10 +163,7 @@ fn surely_fits(f: First, r: Rest, q: u32, room: u64) -> bool
     requires { Joins f.luma r.luma × Joins f.colour r.colour }
     ensures { result ≡ (leb r.index q && leb (bits_with f r) room) }
 {
-    if r.index > q {
-        return false;
-    }
-    bits_with(f, r) <= room
+    r.index <= q && bits_with(f, r) <= room
 }
 
 // Whether a slice whose level-0 numbers at index q are tallied in f surely does not fit, since the other numbers at q
@@ -178,67 +172,33 @@ fn never_fits(f: First, r: Rest, q: u32, room: u64) -> bool
     requires { Joins f.luma r.luma × Joins f.colour r.colour }
     ensures { result ≡ (leb q r.index && ltb room (bits_with f r)) }
 {
-    if q > r.index {
-        return false;
-    }
-    bits_with(f, r) > room
+    q <= r.index && bits_with(f, r) > room
 }
 
-// Whether slice k takes at most room bits at index q, where the runs of two indices are known; the runs at q take the
-// place of those on its side where they had to be worked out. The rebuilt planes are left as this index makes them.
-pub(crate) fn fits(
-    work: &mut [i64],
-    p: Picture,
-    room: u64,
-    k: u32,
-    q: u32,
-    v: Windows,
-    low: Rest,
-    high: Rest,
-) -> Trial
-    requires { SliceIn p work.old k q × ((Known work.old p k low × Known work.old p k high) × (v ≡ windows_of p k)) }
-    ensures { (result.fits ≡ low_fits_in work.old p room k q) × ((work.new ≡ rebuilt_in work.old p k q)
-        × (Small p.front p.end work.new × (Known work.new p k result.low × Known work.new p k result.high))) }
-{
-    rebuild_planes(work, p, k, q, v);
-    let f = first_tallies(work, p, k, q, v);
-    if surely_fits(f, low, q, room) | surely_fits(f, high, q, room) {
-        return Trial {
-            fits: true,
-            low,
-            high,
-        };
-    }
-    if never_fits(f, low, q, room) | never_fits(f, high, q, room) {
-        return Trial {
-            fits: false,
-            low,
-            high,
-        };
-    }
-    let r = rest_of(work, p, k, q, v);
-    if bits_with(f, r) <= room {
-        Trial {
-            fits: true,
-            low,
-            high: r,
+impl Bracket {
+    // Whether slice s takes at most room bits at index q. The runs at q take the place of those on its side where they
+    // had to be worked out. The rebuilt planes are left as this index makes them.
+    pub(crate) fn fits(&mut self, work: &mut [i64], s: Slice, room: u64, q: u32) -> bool
+        requires { SliceIn s.picture work.old s.k q × (Known work.old s.picture s.k self.old.low × Known work.old s.picture s.k self.old.high) }
+        ensures { (result ≡ low_fits_in work.old s.picture room s.k q) × ((work.new ≡ rebuilt_in work.old s.picture s.k q)
+            × (Small s.picture.front s.picture.end work.new
+            × (Known work.new s.picture s.k self.new.low × Known work.new s.picture s.k self.new.high))) }
+    {
+        s.rebuild_planes(work, q);
+        let f = s.first_tallies(work, q);
+        if surely_fits(f, self.low, q, room) | surely_fits(f, self.high, q, room) {
+            return true;
         }
-    } else {
-        Trial {
-            fits: false,
-            low: r,
-            high,
+        if never_fits(f, self.low, q, room) | never_fits(f, self.high, q, room) {
+            return false;
+        }
+        let r = s.rest_of(work, q);
+        if bits_with(f, r) <= room {
+            self.high = r;
+            true
+        } else {
+            self.low = r;
+            false
         }
     }
-}
-
-// Slice k's runs at index q: the known ones r, where they are of this index.
-pub(crate) fn rest_at(work: &[i64], p: Picture, k: u32, q: u32, v: Windows, r: Rest) -> Rest
-    requires { SliceIn p work.now k q × (Known work.now p k r × (v ≡ windows_of p k)) }
-    ensures { Known work.now p k result × (result.index ≡ q) }
-{
-    if r.index == q {
-        return r;
-    }
-    rest_of(work, p, k, q, v)
 }

@@ -1,18 +1,17 @@
 // Where the subbands of a component stand in the work slice, and what a slice has of each: subband_layout,
 // subband_width, subband_height, slice_bounds and slice_quantizers of transform.rs.
-ghost use Rattle.std.specs.Prelude.{◌≡◌, cond, ◌&&◌, ◌+◌, ◌*◌, ◌-◌, ◌/◌, ◌^◌, ◌≤◌, ◌<◌, eqb, leb};
-ghost use Rattle.quantiser.specs.Quant.{band_index};
+ghost use Rattle.std.specs.Prelude.{◌≡◌, cond, ◌+◌, ◌*◌, ◌-◌, ◌/◌, ◌^◌, ◌≤◌, ◌<◌, eqb, leb};
 ghost use Rattle.wavelet.specs.Depth.{deepest};
 ghost use Rattle.unit.specs.Limits.{slice_limit};
 ghost use Rattle.unit.specs.Slices.{bound};
 ghost use Rattle.picture.specs.Code.Sides.{size_in};
-ghost use Rattle.picture.specs.Code.Layout.{level_of, band_size, window_of, strip_of, LayoutIn, WindowIn, StripIn};
-ghost use Rattle.picture.specs.Code.Picture.{slices_in, Arranged};
+ghost use Rattle.picture.specs.Code.Layout.{level_of, band_count, band_size, second_of, window_of, run_window, run_strip, LayoutIn, WindowIn, StripIn};
+ghost use Rattle.picture.specs.Code.Picture.{slices_in, run_in, colours_in, Arranged};
 ghost use Rattle.wavelet.specs.RowCall.{row_limit};
 ghost use Rattle.quantiser.specs.Code.Default.{matrix_places};
 
 use crate::front::sizes::Sides;
-use crate::slices::strip::Strip;
+use crate::slices::strip::{Origin, Strip};
 
 // A component: where its coefficients begin, where its rebuilt level-0 plane begins, and its padded sides.
 #[derive(Clone, Copy)]
@@ -57,7 +56,57 @@ pub(crate) struct Picture {
     pub end: usize,
 }
 
+// A slice's numbers of a component, or of the two colours together, at an index: slice of the layout, and the first and,
+// if any, the second component.
+#[derive(Clone, Copy)]
+pub(crate) struct Run {
+    pub layout: Layout,
+    pub first: Component,
+    pub second: Option<Component>,
+    pub slice: u32,
+    pub index: u32,
+}
+
+impl Picture {
+    // Slice k's run of a component at index q.
+    pub(crate) fn run(self, c: Component, k: u32, q: u32) -> Run
+        ensures { result ≡ run_in self c k q }
+    {
+        Run {
+            layout: self.layout,
+            first: c,
+            second: None,
+            slice: k,
+            index: q,
+        }
+    }
+
+    // Slice k's run of the two colours together at index q.
+    pub(crate) fn colours(self, k: u32, q: u32) -> Run
+        ensures { result ≡ colours_in self k q }
+    {
+        Run {
+            layout: self.layout,
+            first: self.c1,
+            second: Some(self.c2),
+            slice: k,
+            index: q,
+        }
+    }
+}
+
+impl Layout {
+    // How many subbands there are.
+    pub(crate) fn band_count(&self) -> u32
+        requires { LayoutIn self.now }
+        ensures { result ≡ band_count self.now }
+    {
+        1 + self.depth_ho + 3 * self.depth
+    }
+}
+
 // The level of the n-th subband.
+#[tactic(auto, unfolding(crate::specs::Code::Layout::level_of))]
 fn level_of(depth_ho: u32, n: u32) -> u32
     requires { (depth_ho ≤ deepest) × (n < matrix_places) }
     ensures { result ≡ level_of depth_ho n }
@@ -95,7 +144,7 @@ fn subband_height(h: u32, depth_ho: u32, depth: u32, level: u32) -> u32
 
 // The sides of the n-th subband.
 fn band_size(l: Layout, c: Component, n: u32) -> Sides
-    requires { LayoutIn l × (n < 1 + l.depth_ho + 3 * l.depth) }
+    requires { LayoutIn l × (n < band_count l) }
     ensures { size_in result ≡ band_size l c n }
 {
     let level = level_of(l.depth_ho, n);
@@ -113,22 +162,8 @@ fn bound(n: u32, w: u32, i: u32) -> usize
     w as usize * i as usize / n as usize
 }
 
-// The index q less the matrix value v, not below 0.
-fn band_index(q: u32, v: u32) -> u32
-    requires { q ≤ 255 }
-    ensures { (result ≡ band_index q v) × (result ≤ 255) }
-{
-    if v < q { q - v } else { 0 }
-}
-
-// Whether the n-th subband is predicted: the first one is, where the layout asks for it.
-fn first_of(asked: bool, n: u32) -> bool
-    ensures { result ≡ (asked && eqb n 0) }
-{
-    if asked { n == 0 } else { false }
-}
-
 // What slice k has of the n-th subband.
+#[tactic(auto, unfolding(crate::specs::Code::Layout::window_of))]
 pub(crate) fn window_at(l: Layout, c: Component, n: u32, k: u32) -> Window
     requires { WindowIn l c n k }
     ensures { result ≡ window_of l c n k }
@@ -146,93 +181,60 @@ pub(crate) fn window_at(l: Layout, c: Component, n: u32, k: u32) -> Window
     }
 }
 
-// What slice k has of the n-th subband, by what it has of the subband before, v, or for the first one its own: the
-// subbands of a level are alike.
-pub(crate) fn next_window(l: Layout, c: Component, n: u32, k: u32, v: Window) -> Window
-    requires { WindowIn l c n k × (v ≡ window_of l c (n - 1) k) }
-    ensures { result ≡ window_of l c n k }
-{
-    let first = l.depth_ho;
-    if n > first {
-        if (n - first) % 3 != 1 {
-            return v;
+impl Run {
+    // What its slice has of the first subband.
+    pub(crate) fn first_window(&self) -> Window
+        requires { WindowIn self.now.layout self.now.first 0 self.now.slice }
+        ensures { result ≡ run_window self.now 0 }
+    {
+        window_at(self.layout, self.first, 0, self.slice)
+    }
+
+    // What its slice has of the n-th subband, by what it has of the subband before, v, or for the first one its own: the
+    // subbands of a level are alike.
+    pub(crate) fn next_window(&self, n: u32, v: Window) -> Window
+        requires { WindowIn self.now.layout self.now.first n self.now.slice × (v ≡ run_window self.now (n - 1)) }
+        ensures { result ≡ run_window self.now n }
+    {
+        let depth_ho = self.layout.depth_ho;
+        if n > depth_ho && (n - depth_ho) % 3 != 1 {
+            v
+        } else {
+            window_at(self.layout, self.first, n, self.slice)
         }
     }
-    window_at(l, c, n, k)
-}
 
-// The strip of the n-th subband at index q, of which slice k has the window v and whose coefficients begin start places
-// behind those of its component.
-pub(crate) fn strip_in(
-    l: Layout,
-    c: Component,
-    second: Component,
-    pair: bool,
-    n: u32,
-    start: usize,
-    k: u32,
-    q: u32,
-    v: Window,
-) -> Strip
-    requires { StripIn l c second n start k q × (v ≡ window_of l c n k) }
-    ensures { result ≡ strip_of l c second pair n start k q }
-{
-    let i = band_index(q, l.values[n as usize]);
-    let factor = quantiser::factors::factor_at(i);
-    Strip {
-        coefs: c.coefs + start,
-        rebuilt: c.rebuilt,
-        coefs2: second.coefs + start,
-        rebuilt2: second.rebuilt,
-        width: v.width,
-        height: v.height,
-        top: v.top,
-        bottom: v.bottom,
-        left: v.left,
-        right: v.right,
-        index: i,
-        factor,
-        offset: quantiser::factors::offset_by(i, factor),
-        predicted: first_of(l.predicted, n),
-        pair,
-    }
-}
-
-// The strip of the n-th subband at index q, with its window worked out too: for run::cost_run, which a cut uses.
-pub(crate) fn strip_at(
-    l: Layout,
-    c: Component,
-    second: Component,
-    pair: bool,
-    n: u32,
-    start: usize,
-    k: u32,
-    q: u32,
-) -> Strip
-    requires { StripIn l c second n start k q }
-    ensures { result ≡ strip_of l c second pair n start k q }
-{
-    let z = band_size(l, c, n);
-    let row = k / l.across;
-    let column = k % l.across;
-    let i = band_index(q, l.values[n as usize]);
-    let factor = quantiser::factors::factor_at(i);
-    Strip {
-        coefs: c.coefs + start,
-        rebuilt: c.rebuilt,
-        coefs2: second.coefs + start,
-        rebuilt2: second.rebuilt,
-        width: z.width as usize,
-        height: z.height as usize,
-        top: bound(l.down, z.height, row),
-        bottom: bound(l.down, z.height, row + 1),
-        left: bound(l.across, z.width, column),
-        right: bound(l.across, z.width, column + 1),
-        index: i,
-        factor,
-        offset: quantiser::factors::offset_by(i, factor),
-        predicted: first_of(l.predicted, n),
-        pair,
+    // The strip of the n-th subband, of which its slice has the window v and whose coefficients begin start places
+    // behind those of its component.
+    #[tactic(auto, unfolding(crate::specs::Code::Layout::strip_of, crate::specs::Code::Layout::window_of))]
+    pub(crate) fn strip_in(&self, n: u32, start: usize, v: Window) -> Strip
+        requires { StripIn self.now.layout self.now.first (second_of self.now) n start self.now.slice self.now.index × (v ≡ run_window self.now n) }
+        ensures { result ≡ run_strip self.now n start }
+    {
+        let second = match self.second {
+            Some(c) => Some(Origin {
+                coefs: c.coefs + start,
+                rebuilt: c.rebuilt,
+            }),
+            None => None,
+        };
+        let i = self.index.saturating_sub(self.layout.values[n as usize]);
+        let factor = quantiser::factors::factor_at(i);
+        Strip {
+            coefs: self.first.coefs + start,
+            rebuilt: self.first.rebuilt,
+            second,
+            width: v.width,
+            height: v.height,
+            top: v.top,
+            bottom: v.bottom,
+            left: v.left,
+            right: v.right,
+            index: i,
+            factor,
+            offset: quantiser::factors::offset_by(i, factor),
+            predicted: self.layout.predicted & (n == 0),
+        }
     }
 }
 
@@ -241,6 +243,5 @@ pub(crate) fn slice_count(p: Picture) -> u32
     requires { Arranged p }
     ensures { (result ≡ slices_in p) × (result ≤ slice_limit) }
 {
-    let l = p.layout;
-    l.down * l.across
+    p.layout.down * p.layout.across
 }

@@ -10,7 +10,8 @@ fn value_at(work: &[i64], s: Strip, y: usize, x: usize) -> i64
     ensures { (result ≡ value_in work.now s y x) × (nat_abs result ≤ reach) }
 {
     let p = crate::slices::strip::prediction(work, s, s.rebuilt, y, x);
-    let q = crate::slices::strip::number_at(work, s, s.coefs, s.rebuilt, y, x);
+    let c = crate::slices::strip::coefficient(work, s, s.coefs, y, x);
+    let q = quantiser::forward_by(c - p, s.factor);
     p + quantiser::inverse_by(q, s.factor, s.offset)
 }
 
@@ -28,10 +29,8 @@ fn rebuild_place(work: &mut [i64], s: Strip, y: usize, x: usize)
     ensures { work.new ≡ set work.old (s.rebuilt + (y * s.width + x)) (value_in work.old s y x) }
 {
     let v = value_at(work, s, y, x);
-    let from = s.rebuilt;
-    let w = s.width;
-    let to = from + s.height * w;
-    store(&mut work[from..to], y * w + x, v);
+    let to = s.rebuilt + s.height * s.width;
+    store(&mut work[s.rebuilt..to], y * s.width + x, v);
 }
 
 // Rebuilds a row of the strip.
@@ -39,10 +38,8 @@ fn rebuild_row(work: &mut [i64], s: Strip, y: usize)
     requires { Lies work.old s × ((s.top ≤ y) × (y < s.bottom)) }
     ensures { work.new ≡ rebuilt_row work.old s y s.left (s.right - s.left) }
 {
-    let mut x = s.left;
-    while x < s.right {
+    for x in s.left..s.right {
         rebuild_place(work, s, y, x);
-        x += 1;
     }
 }
 
@@ -51,9 +48,7 @@ pub(crate) fn rebuild_strip(work: &mut [i64], s: Strip)
     requires { Lies work.old s }
     ensures { work.new ≡ rebuilt_strip work.old s }
 {
-    let mut y = s.top;
-    while y < s.bottom {
+    for y in s.top..s.bottom {
         rebuild_row(work, s, y);
-        y += 1;
     }
 }

@@ -3,7 +3,7 @@ ghost use Rattle.std.specs.Prelude.{◌≡◌, ◌+◌, ◌*◌, ◌/◌, ◌≤
 ghost use Rattle.picture.specs.Code.Search.{half_of};
 
 // A range of indices.
-#[derive(Clone, Copy)]
+#[derive(Clone, Copy, PartialEq, Eq)]
 pub(crate) struct Range {
     pub lo: u32,
     pub hi: u32,
@@ -15,12 +15,9 @@ pub(crate) fn narrowed(r: Range, mid: u32, fits: bool) -> Range
     ensures { result ≡ half_of r mid fits }
 {
     if fits {
-        Range { lo: r.lo, hi: mid }
+        Range { hi: mid, ..r }
     } else {
-        Range {
-            lo: mid + 1,
-            hi: r.hi,
-        }
+        Range { lo: mid + 1, ..r }
     }
 }
 
@@ -29,13 +26,12 @@ pub(crate) fn wider(step: u32) -> u32
     requires { (1 ≤ step) × (step ≤ 256) }
     ensures { (result ≡ min (2 * step) 256) × ((1 ≤ result) × (result ≤ 256)) }
 {
-    if step < 128 { 2 * step } else { 256 }
+    (2 * step).min(256)
 }
 
 // The middle of a range, rounded down.
 pub(crate) fn middle(r: Range) -> u32
-    requires { (r.lo ≤ 255) × (r.hi ≤ 255) }
     ensures { result ≡ (r.lo + r.hi) / 2 }
 {
-    (r.lo + r.hi) / 2
+    r.lo.midpoint(r.hi)
 }

@@ -1,5 +1,5 @@
 -- Laws of the places of Annex D's matrices, which join the code's table to the definition's.
-use Rattle.std.specs.Prelude.{◌≡◌, true, take, drop, set}
+use Rattle.std.specs.Prelude.{◌≡◌, take, drop, set, Some}
 use Rattle.std.proofs.Math.Path.{refl, sym, ap}
 use Rattle.std.proofs.Common.{◌∙◌, zero-add, suc-add, add_assoc, le_of_suc-le-suc, not-suc-le-zero, add-one, arith, length-drop, take-append-drop, take_all, lt-ltb, le-ltb, eq-eqb, ne_eqb}
 use mathlib.Core.List.{List, [], ◌∷◌, ◌++◌, map, flatten}
@@ -219,7 +219,7 @@ module _ (w h d k t : ℕ) (table_is : get_elem? all_tables t ≡ table_of w h) 
     pub no_matrix_lem : 19 ≤ c → handed none ≡ default_of w h d k
     no_matrix_lem m = sym (by_place ∙ ap handed (get_elem?-out (flatten (table_at t)) c (omega (arith, count t l))))
 
-    pub is_matrix : c < 19 → (vs : List ℕ) → vs ≡ places (matrix_at t c) → record { found = true; values = vs } ≡ default_of w h d k
+    pub is_matrix : c < 19 → (vs : List ℕ) → vs ≡ places (matrix_at t c) → Some vs ≡ default_of w h d k
     unfolding matrix_at
     is_matrix m vs e = rw e (sym (by_place ∙ ap handed (get_elem?-in (flatten (table_at t)) c [] (omega (arith, count t l)))))
 

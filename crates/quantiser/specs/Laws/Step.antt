@@ -1,13 +1,14 @@
 -- What the code's steps rest on: a quotient by doubling, a product that is capped by a quotient, and the calls'
 -- answers.
-use Rattle.std.specs.Prelude.{◌≡◌, refl, ℕ, zero, suc, ◌+◌, ◌*◌, ◌-◌, ◌/◌, ◌%◌, ◌^◌, ◌≤◌, ◌<◌, ℤ, pos, negsuc, nat_abs}
+use Rattle.std.specs.Prelude.{◌≡◌, refl, ℕ, zero, suc, ◌+◌, ◌*◌, ◌-◌, ◌/◌, ◌%◌, ◌^◌, ◌≤◌, ◌<◌, ℤ, pos, negsuc, nat_abs, Result, Ok, Err}
 use Rattle.std.proofs.Common.{sym, ◌∙◌, div-add-mod', le-div_iff_mul-le, div-lt_iff_lt-mul, mul-le-mul_right, le_trans, div-le_self, arith, lt-ltb, le-ltb, SFits, to_z, of_z, to_z-of_z}
 use Rattle.std.proofs.Math.Nat.{div-le_of_le-mul}
 use Rattle.std.proofs.Math.Arith.{digits_div}
 use Rattle.std.specs.Int.Signed.{mag}
 use Rattle.std.specs.Int.{w64}
 use Rattle.quantiser.specs.declared.Quotient.{Quotient}
-use Rattle.quantiser.specs.declared.QuantAnswer.TheVariants.{Value, Refused}
+use Rattle.refusals.specs.declared.Refusal.{Refusal}
+use Rattle.refusals.specs.declared.Refusal.TheVariants.{Index}
 use Rattle.quantiser.specs.Standard.{signed}
 use Rattle.quantiser.specs.Quant.{cap, forward_by, inverse_by}
 use Rattle.quantiser.specs.Answer.{answer_of, Answered}
@@ -74,10 +75,10 @@ pub product_small : (a b : ℕ) → 0 < b → a ≤ (2 ^ 63 - 1) / b → a * b <
 product_small a b p h = let l = (le-div_iff_mul-le p).0 h in omega arith
 
 -- ---- the four calls
-pub refused : (i : ℕ) (z : ℤ) → 255 < i → Answered i z (Refused 6)
+pub refused : (i : ℕ) (z : ℤ) {r : Result ℤ Refusal} → r ≡ Err Index → 255 < i → Answered i z r
 unfolding answer_of
-refused i z h = let e = lt-ltb 255 i h in record { is = rw e refl; number = rw e refl; value = rw e refl }
+refused i z q h = let e = lt-ltb 255 i h in record { is = rw (q, e) refl; number = rw (q, e) refl; value = rw (q, e) refl }
 
-pub answered : (i : ℕ) (z y : ℤ) → i ≤ 255 → y ≡ z → Answered i z (Value y)
+pub answered : (i : ℕ) (z y : ℤ) → i ≤ 255 → y ≡ z → Answered i z (Ok y)
 unfolding answer_of
 answered i z y h q = let e = le-ltb 255 i h in record { is = rw (e, q) refl; number = rw e refl; value = rw (e, q) refl }

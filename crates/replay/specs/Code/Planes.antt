@@ -1,7 +1,7 @@
 -- What the transform of a case asks.
 use Rattle.std.specs.Prelude.{◌≡◌, ℕ, ◌*◌, ◌≤◌, List, ℤ, length}
-use Rattle.wavelet.specs.declared.component.Component.{Component}
-use Rattle.wavelet.specs.declared.component.Transform.{Transform}
+use Rattle.wavelet.specs.declared.shape.Component.{Component}
+use Rattle.wavelet.specs.declared.shape.Transform.{Transform}
 use Rattle.wavelet.specs.Code.Walk.{Deep}
 
 -- sides and depths of a case

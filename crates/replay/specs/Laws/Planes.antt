@@ -1,8 +1,8 @@
 -- What the transform of a case asks.
 use Rattle.std.specs.Prelude.{◌≡◌, ℕ, ◌+◌, ◌≤◌, ◌^◌, ◌-◌}
 use Rattle.std.proofs.Common.{mul-le-mul, div-mul-le_self, arith, pow_mono}
-use Rattle.wavelet.specs.declared.component.Component.{Component}
-use Rattle.wavelet.specs.declared.component.Transform.{Transform}
+use Rattle.wavelet.specs.declared.shape.Component.{Component}
+use Rattle.wavelet.specs.declared.shape.Transform.{Transform}
 use Rattle.wavelet.specs.Pad.{padded_side}
 use Rattle.wavelet.specs.Laws.Pad.{padded_sides}
 use Rattle.replay.specs.Code.Planes.{SmallSides, Full}

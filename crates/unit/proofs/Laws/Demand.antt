@@ -1,5 +1,5 @@
 -- Demand 3 holds of the unit of every accepted call, and what its count of cut slices says.
-use Rattle.std.specs.Prelude.{◌≡◌, ◌↔◌, Bool, true, false, List, [], ◌∷◌, map, ℤ, pos, ◌+ℤ◌, ltb, length, take, drop}
+use Rattle.std.specs.Prelude.{◌≡◌, ◌↔◌, Bool, true, false, List, [], ◌∷◌, map, ℤ, pos, ◌+ℤ◌, ltb, length, take, drop, Ok, Err}
 use Rattle.std.proofs.Math.Path.{refl, sym, ap}
 use Rattle.std.proofs.Common.{ap₂, ◌∙◌, arith, ltb-false}
 use Rattle.std.proofs.Math.Option
@@ -13,10 +13,9 @@ use Rattle.wavelet.specs.Planes.{Band, dwt, idwt}
 use Rattle.wavelet.specs.Pad.{padded}
 use Rattle.wavelet.specs.Laws.PlaneBound.{AllSmall}
 use Rattle.wavelet.specs.Laws.Theorems.{AllBelow, Exact, component_exact}
+use Rattle.refusals.specs.Laws.Number.{Named}
 use Rattle.unit.specs.declared.Settings.{Settings}
 use Rattle.unit.specs.declared.Coded.{Coded}
-use Rattle.unit.specs.declared.Answer.{Answer}
-use Rattle.unit.specs.declared.Answer.TheVariants.{Accepted, Refused}
 use Rattle.unit.specs.declared.PictureKind.{PictureKind}
 use Rattle.unit.specs.declared.PictureKind.TheVariants.{LowDelay, HighQuality}
 use Rattle.unit.specs.Limits.{unit_limit}
@@ -31,7 +30,7 @@ use Rattle.unit.specs.Quantised.{size_of}
 use Rattle.unit.specs.Plan.{Plan}
 use Rattle.unit.specs.Unit.{major_version, grid_of, parameters_by, plan_by, plan_of, length_of, unit_of}
 use Rattle.unit.specs.Cut.{cut_count}
-use Rattle.unit.specs.Outcome.{tells, length_in, coded_of, coding_rules, coding_refusal, coded_if, outcome_if, outcome_of}
+use Rattle.unit.specs.Outcome.{Answer, tells, length_in, coded_of, coding_rules, coding_refusal, coded_if, outcome_if, outcome_of}
 use Rattle.unit.specs.Reader.{Reading, grid_in, band_sizes_in, values_by, values_in, read_bands, read_samples_of, read_samples}
 use Rattle.unit.specs.Demand.{SameSlices, Follow, Undropped, AllZero, plan_index, NearBands, SameSamples, Demand3}
 use Rattle.unit.specs.Code.Valid.{Between, Valid}
@@ -46,7 +45,7 @@ use Rattle.unit.proofs.Laws.Intlog2.{offset_range}
 use Rattle.unit.proofs.Laws.Padded.{padded-wide, padded-high, padded_is}
 use Rattle.unit.proofs.Laws.Drop.{drops_of, cut-none}
 use Rattle.unit.proofs.Laws.Test.{no_truth, or-none}
-use Rattle.unit.proofs.Laws.Rules.{none_of}
+use Rattle.unit.proofs.Laws.Rules.{first_named, none_of}
 use Rattle.unit.proofs.Laws.Valid.{valid, sample_depths}
 
 -- a call's numbers as its types have them: samples of 16 bits, picture number and previous length of 32
@@ -230,6 +229,10 @@ pub coefficients_below : (s : Settings) (m : List ℕ) (p : Three (List ℕ)) (w
 coefficients_below s m p work t e = below s m p work (valid s m p work e) t
 
 -- ---- the outcome of a call
+-- the first of its rules that is broken has the number of a refusal
+pub coding_named : (len n : ℕ) → Named (coding_refusal len n)
+coding_named len n = first_named (coding_rules len n) (refl, tt)
+
 -- a unit that coding does not refuse fits the output, and its length 32 bits
 pub not-long : (len n : ℕ) → coding_refusal len n ≡ 0 → (n ≤ len) × (n ≤ unit_limit)
 not-long len n e =
@@ -237,15 +240,15 @@ not-long len n e =
     (ltb-false len n h.0, ltb-false unit_limit n h.1)
 
 abbrev pub is_accepted : Answer → Bool
-is_accepted (Accepted c) = true
-is_accepted (Refused n) = false
+is_accepted (Ok c) = true
+is_accepted (Err r) = false
 
 module _ (s : Settings) (m : List ℕ) (p : Three (List ℕ)) (out : List ℕ) (work : List ℤ) where
   abbrev n : ℕ
   n = length_of s (plan_of s m p)
 
   module _ (t : Typed s p) (c : Coded) where
-    coded_by_lem : (r : ℕ) → coding_refusal (length out) n ≡ r → refusal_of s m p work ≡ 0 → (coded_if s (plan_of s m p) out work r).answer ≡ Accepted c
+    coded_by_lem : (r : ℕ) → coding_refusal (length out) n ≡ r → refusal_of s m p work ≡ 0 → (coded_if s (plan_of s m p) out work r).answer ≡ Ok c
         → Demand3 s m p (take c.written (coded_if s (plan_of s m p) out work r).output)
     unfolding coded_of
     coded_by_lem zero e r a =
@@ -254,28 +257,28 @@ module _ (s : Settings) (m : List ℕ) (p : Three (List ℕ)) (out : List ℕ) (
         rw (← q, take_at (unit_of s (plan_of s m p)) (drop n out) n (length-unit s (plan_of s m p))) (demand s m p work t r long)
     coded_by_lem (suc k) e r a = no_truth (sym (ap is_accepted a))
 
-    outcome_by : (r : ℕ) → refusal_of s m p work ≡ r → (outcome_if s m p out work r).answer ≡ Accepted c
+    outcome_by : (r : ℕ) → refusal_of s m p work ≡ r → (outcome_if s m p out work r).answer ≡ Ok c
         → Demand3 s m p (take c.written (outcome_if s m p out work r).output)
     outcome_by zero e a = coded_by_lem (coding_refusal (length out) n) refl e a
     outcome_by (suc k) e a = no_truth (sym (ap is_accepted a))
 
     -- demand 3 holds of an accepted call, for the bytes of the output that its answer counts
-    pub accepted : (outcome_of s m p out work).answer ≡ Accepted c → Demand3 s m p (take c.written (outcome_of s m p out work).output)
+    pub accepted : (outcome_of s m p out work).answer ≡ Ok c → Demand3 s m p (take c.written (outcome_of s m p out work).output)
     unfolding outcome_of
     accepted a = outcome_by (refusal_of s m p work) refl a
 
   module _ (c : Coded) where
     -- the count that an accepted call gives
-    count_if : (r : ℕ) → (coded_if s (plan_of s m p) out work r).answer ≡ Accepted c → c.cut_slices ≡ cut_count (plan_of s m p)
+    count_if : (r : ℕ) → (coded_if s (plan_of s m p) out work r).answer ≡ Ok c → c.cut_slices ≡ cut_count (plan_of s m p)
     unfolding coded_of
     count_if zero a = sym (ap (λ (r : Answer). get_or (tells r) 2 0) a)
     count_if (suc k) a = no_truth (sym (ap is_accepted a))
 
-    count_by : (r : ℕ) → (outcome_if s m p out work r).answer ≡ Accepted c → c.cut_slices ≡ cut_count (plan_of s m p)
+    count_by : (r : ℕ) → (outcome_if s m p out work r).answer ≡ Ok c → c.cut_slices ≡ cut_count (plan_of s m p)
     count_by zero a = count_if (coding_refusal (length out) n) a
     count_by (suc k) a = no_truth (sym (ap is_accepted a))
 
     -- it is 0 just where no slice has dropped a number that is not 0
-    pub accepted_uncut : (outcome_of s m p out work).answer ≡ Accepted c → (c.cut_slices ≡ 0) ↔ Undropped (plan_of s m p)
+    pub accepted_uncut : (outcome_of s m p out work).answer ≡ Ok c → (c.cut_slices ≡ 0) ↔ Undropped (plan_of s m p)
     unfolding outcome_of
     accepted_uncut a = rw (count_by (refusal_of s m p work) a) (cut-none s m p)

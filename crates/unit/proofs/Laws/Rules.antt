@@ -1,6 +1,7 @@
 -- Laws of rules: the first broken one of two groups; none is broken.
 use Rattle.std.specs.Prelude.{◌≡◌, refl, ◌↔◌, Bool, true, false, cond, List, [], ◌∷◌, ◌++◌, ℕ, zero, suc}
 use Rattle.std.proofs.Common.{◌∙◌, arith}
+use Rattle.refusals.specs.Laws.Number.{Named}
 use Rattle.unit.specs.Rules.{Rule, rule, first, or_else}
 
 abbrev pub Some : ℕ → Type 0
@@ -11,6 +12,20 @@ Some (suc n) = Unit {0}
 abbrev pub Numbered : List Rule → Type 0
 Numbered [] = Unit {0}
 Numbered (r ∷ rs) = Some r.number × Numbered rs
+
+-- each rule has the number of a refusal
+abbrev pub Listed : List Rule → Type 0
+Listed [] = Unit {0}
+Listed (r ∷ rs) = Named r.number × Listed rs
+
+listed : (b : Bool) (n x : ℕ) → Named n → Named x → Named (cond b n x)
+listed true n x h g = h
+listed false n x h g = g
+
+-- so has the first broken one
+pub first_named : (rs : List Rule) → Listed rs → Named (first rs)
+first_named [] h = tt
+first_named (r ∷ rs) h = listed r.broken r.number (first rs) h.0 (first_named rs h.1)
 
 -- ---- rule n is b, with the rules rs behind it, and r is what the code finds for it
 module _ (n : ℕ) (rs : List Rule) {b r : Bool} (e : r ≡ b) where

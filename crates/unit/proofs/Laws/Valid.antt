@@ -10,6 +10,7 @@ use Rattle.unit.specs.declared.PictureKind.{PictureKind}
 use Rattle.unit.specs.declared.PictureKind.TheVariants.{LowDelay, HighQuality}
 use Rattle.unit.specs.declared.RateControl.{RateControl}
 use Rattle.unit.specs.declared.RateControl.TheVariants.{Lossless, FixedQuantIndex, PictureBytes}
+use Rattle.refusals.specs.Laws.Number.{Named}
 use Rattle.unit.specs.Limits.{depth_limit, deepest, last_wavelet, side_limit, slice_limit, prefix_limit, target_limit, last_format, last_mode, area_limit}
 use Rattle.unit.specs.Three.{Three}
 use Rattle.unit.specs.Sizes.{Size, area, halved_if, fields, luma_size, colour_size, depths_of}
@@ -23,7 +24,7 @@ use Rattle.unit.specs.Unit.{version_by, major_version, grid_of, parameters_by, t
 use Rattle.unit.proofs.Laws.Sound.{SliceFits, CarriedFits, Legal}
 use Rattle.unit.proofs.Laws.Intlog2.{depth_range}
 use Rattle.unit.proofs.Laws.Padded.{padded-wide, padded-high, wide_few, high_few, padded_mono}
-use Rattle.unit.proofs.Laws.Rules.{Numbered, NoneOf, none_of}
+use Rattle.unit.proofs.Laws.Rules.{Numbered, first_named, NoneOf, none_of}
 use Rattle.unit.proofs.Laws.Test.{no_truth, or-none, both, at_most, same, some_of, between, all_most}
 
 -- rules 5 to 7 are not broken
@@ -118,6 +119,12 @@ module _ (s : Settings) where
 module _ (s : Settings) (m : List ℕ) (p : Three (List ℕ)) (work : List ℤ) where
   pub numbered : Numbered (rules s m p work)
   numbered = (tt, (tt, (tt, (tt, (tt, (tt, (tt, (tt, (tt, (tt, (tt, (tt, (tt, tt)))))))))))))
+
+  -- the first broken rule has the number of a refusal
+  pub refusal_named : Named (refusal_of s m p work)
+  unfolding refusal_of
+  refusal_named =
+      first_named (rules s m p work) (refl, (refl, (refl, (refl, (refl, (refl, (refl, (refl, (refl, (refl, (refl, (refl, (refl, tt)))))))))))))
 
   kept : NoneOf (rules s m p work) ↔ Valid s m p work
   kept =

@@ -3,10 +3,11 @@ use Rattle.std.specs.Prelude.{ℕ, ◌+◌, ◌*◌, ◌≤◌, List, length, �
 use Rattle.laws.specs.Wrap.{wrap}
 use Rattle.wavelet.specs.Planes.{coefficients, dwt}
 use Rattle.wavelet.specs.Pad.{padded}
+use Rattle.wavelet.specs.Code.Pad.{SamplesOf}
 use Rattle.wavelet.specs.Code.Level.{Place}
 use Rattle.wavelet.specs.Code.Walk.{Deep}
-use Rattle.wavelet.specs.declared.component.Component as Sides
-use Rattle.wavelet.specs.declared.component.Transform as Levels
+use Rattle.wavelet.specs.declared.shape.Component as Sides
+use Rattle.wavelet.specs.declared.shape.Transform as Levels
 use Rattle.wavelet.specs.RowCall.{row_limit}
 
 -- the coefficients of a component, in the stream's order, with sums that wrap: rows by filter i, columns by filter j, k
@@ -15,11 +16,10 @@ abbrev pub component_of : ℕ → ℕ → ℕ → ℕ → List ℕ → ℕ → �
 component_of i j k d s o w h pw ph = coefficients (dwt wrap i j k d ph pw (padded s o w h))
 
 -- what the rows of a component ask: samples, and room for its padded plane
-pub record SamplesIn (s : List ℕ) (w h pw ph : ℕ) (l : List ℤ) : Type 0 where
-  pub some : (1 ≤ w) × (1 ≤ h)
-  pub whole : h * w ≤ length s
-  pub room : ph * pw ≤ length l
-  pub short : pw ≤ row_limit
+pub record SamplesIn (c : Sides.Component) (s : List ℕ) (l : List ℤ) : Type 0 where
+  pub samples : SamplesOf c s
+  pub room : c.ph * c.pw ≤ length l
+  pub short : c.pw ≤ row_limit
 
 -- what a component asks
 pub record ComponentIn (c : Sides.Component) (t : Levels.Transform) (s : List ℕ) (n off : ℕ) (l : List ℤ) : Type 0 where

@@ -1,4 +1,4 @@
--- Numbers copied from one place of a list into a part of it: what the copies ask and leave.
+-- Numbers copied from one list to another: what the copies ask and leave.
 use Rattle.std.specs.Prelude.{◌≡◌, ℕ, ◌+◌, ◌*◌, ◌/◌, ◌%◌, ◌^◌, ◌<◌, ◌≤◌, List, length, ℤ}
 use Rattle.laws.specs.Wrap.{wrap}
 use Rattle.laws.specs.Rows.{at, row}
@@ -11,22 +11,18 @@ use Rattle.wavelet.specs.RowCall.{row_limit}
 abbrev pub copied : ℕ → List ℤ → ℕ → ℕ → ℕ → List ℤ
 copied b l from step len = row len (λ k. raise wrap b (at l (from + step * k)))
 
--- the numbers may go into the part a .. e of l, from its place to on
-pub record Copies (l : List ℤ) (a e to len from step : ℕ) : Type 0 where
-  pub part : (a ≤ e) × (e ≤ length l)
-  pub fits : a + to + len ≤ e
+-- they are inside
+pub record Copies (l : List ℤ) (len from step : ℕ) : Type 0 where
   pub inside : (k : ℕ) → k < len → from + step * k < length l
-  pub apart : (k : ℕ) → k < len → a + to ≤ from + step * k → a + to + len ≤ from + step * k
 
 -- row n of a band
 abbrev pub band_row : List ℤ → ℕ → ℕ → ℕ → ℕ → List ℤ
 band_row l b from jump n = row b (λ x. at l (from + jump * n + 2 * x))
 
--- a rows of b may go to to: all that they are made of stands in front
-pub record BandIn (l : List ℤ) (to a b from jump : ℕ) : Type 0 where
-  pub fits : to + a * b ≤ length l
+-- a rows of b: all that they are made of is inside
+pub record BandIn (l : List ℤ) (a b from jump : ℕ) : Type 0 where
   pub starts : from + jump * a ≤ 2 ^ 62
-  pub inside : (y x : ℕ) → y < a → x < b → from + jump * y + 2 * x < to
+  pub inside : (y x : ℕ) → y < a → x < b → from + jump * y + 2 * x < length l
 
 -- every v-th row from i on, every other column from j on
 abbrev pub part_v : ℕ → ℕ → ℕ → Plane → Plane

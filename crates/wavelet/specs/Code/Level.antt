@@ -1,7 +1,9 @@
 -- One level on a list with scratch in front: what it asks, and the bands that it leaves.
-use Rattle.std.specs.Prelude.{◌≡◌, ℕ, ◌+◌, ◌*◌, ◌/◌, ◌%◌, ◌≤◌, List, ◌++◌, length, ℤ}
-use Rattle.laws.specs.Plane.{Plane, as_list}
+use Rattle.std.specs.Prelude.{◌≡◌, ℕ, ◌+◌, ◌*◌, ◌/◌, ◌%◌, ◌≤◌, List, ◌++◌, length, drop, ℤ}
+use Rattle.laws.specs.Code.Window.{piece, put}
+use Rattle.laws.specs.Plane.{Plane, as_plane, as_list}
 use Rattle.wavelet.specs.Planes.{part, part_h}
+use Rattle.wavelet.specs.declared.plane.Spot.{Spot}
 use Rattle.wavelet.specs.RowCall.{row_limit}
 
 -- ---- what the functions ask and leave
@@ -34,3 +36,16 @@ halves h w g = as_list h (w / 2) (part_h 0 g) ++ as_list h (w / 2) (part_h 1 g)
 
 abbrev pub quarters : ℕ → ℕ → Plane → List ℤ
 quarters h w g = as_list (h / 2) (w / 2) (part 0 0 g) ++ (as_list (h / 2) (w / 2) (part 0 1 g) ++ (as_list (h / 2) (w / 2) (part 1 0 g) ++ as_list (h / 2) (w / 2) (part 1 1 g)))
+
+-- ---- the plane at s
+-- it stands there, with the scratch in front
+abbrev pub Stands : Spot → List ℤ → Type 0
+Stands s l = Place s.n s.off (s.h * s.w) l
+
+-- the plane
+abbrev pub plane_at : Spot → List ℤ → Plane
+plane_at s l = as_plane s.w (piece s.off (s.h * s.w) (drop s.n l))
+
+-- what lies behind the scratch, with the numbers b in the plane's place
+abbrev pub put_at : Spot → List ℤ → List ℤ → List ℤ
+put_at s b l = put s.off (s.h * s.w) b (drop s.n l)

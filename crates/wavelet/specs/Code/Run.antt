@@ -1,10 +1,8 @@
 -- What the code's runs of updates ask and leave.
-use Rattle.std.specs.Prelude.{◌≡◌, ℕ, zero, suc, ◌+◌, ◌*◌, ◌/◌, ◌<◌, ◌≤◌, Bool, false, ◌≢◌, List, ◌∷◌, length, replicate, ℤ, pos, slice_index, slice_set}
+use Rattle.std.specs.Prelude.{◌≡◌, ℕ, zero, suc, ◌+◌, ◌*◌, ◌/◌, ◌<◌, ◌≤◌, Bool, false, ◌≢◌, List, [], ◌∷◌, length, replicate, ℤ, slice_index, slice_set}
 use Rattle.laws.specs.Wrap.{wrap}
 use Rattle.laws.specs.Rows.{at}
 use Rattle.wavelet.specs.Lifting.{Stage, place, dot, scaled, change}
-use Rattle.wavelet.specs.Code.Table.{Legal}
-use Rattle.wavelet.specs.declared.lift.LiftStage.{LiftStage}
 
 -- ---- what the functions ask and leave
 -- the places that the taps read for update n, each times w
@@ -22,16 +20,10 @@ pub record Moves (st : Stage) (len n m : ℕ) : Type 0 where
 abbrev pub taps_to : List ℤ → List ℕ → ℕ → List ℤ → ℕ → ℤ
 taps_to ts o x a k = dot wrap (at ts) (λ j. at a (slice_index o j + x)) k
 
-pub record TapsIn (a : List ℤ) (s : LiftStage) (o : List ℕ) (x : ℕ) : Type 0 where
-  pub legal : Legal s
+-- taps whose places, moved by x, are inside
+pub record TapsIn (a : List ℤ) (taps : ℕ) (o : List ℕ) (x : ℕ) : Type 0 where
   pub long : length o ≡ 8
-  pub inside : (j : ℕ) → j < s.count → slice_index o j + x < length a
-
--- m more taps from k on
-pub record TapIn (a : List ℤ) (s : LiftStage) (o : List ℕ) (x k : ℕ) (sum : ℤ) (m : ℕ) : Type 0 where
-  pub taps : TapsIn a s o x
-  pub so_far : sum ≡ taps_to s.taps o x a k
-  pub more : k + m ≤ s.count
+  pub inside : (j : ℕ) → j < taps → slice_index o j + x < length a
 
 -- the new number at place p + x
 abbrev pub value_of : Stage → Bool → List ℕ → ℕ → ℕ → List ℤ → ℤ
@@ -42,18 +34,18 @@ unfoldable pub ran : Stage → Bool → List ℕ → ℕ → ℕ → ℕ → Lis
 ran st plus o p step zero xs = xs
 ran st plus o p step (suc m) xs = slice_set (ran st plus o p step m xs) (p + step * m) (value_of st plus o p (step * m) xs)
 
-pub record RunIn (a : List ℤ) (s : LiftStage) (o : List ℕ) (p count step : ℕ) : Type 0 where
-  pub legal : Legal s
+-- updates of the places p, p + step, .., by so many taps
+pub record RunIn (a : List ℤ) (taps : ℕ) (o : List ℕ) (p count step : ℕ) : Type 0 where
   pub long : length o ≡ 8
   pub steps : 1 ≤ step
-  pub inside : (i j : ℕ) → i < count → j < s.count → slice_index o j + step * i < length a
+  pub inside : (i j : ℕ) → i < count → j < taps → slice_index o j + step * i < length a
   pub writes : (i : ℕ) → i < count → p + step * i < length a
   -- no place is read after it is updated
-  pub later : (h i j : ℕ) → h < i → i < count → j < s.count → slice_index o j + step * i ≢ p + step * h
+  pub later : (h i j : ℕ) → h < i → i < count → j < taps → slice_index o j + step * i ≢ p + step * h
 
 -- a stage of two taps, both t, and the places i and j that they read; a run depends on no other number of its stage
-abbrev pub two_taps : ℤ → ℕ → LiftStage
-two_taps t shift = record { to = 0; adds = false; shift = shift; ahead = 0; back = 0; count = 2; taps = t ∷ t ∷ replicate 6 (pos 0) }
+abbrev pub two_taps : ℤ → ℕ → Stage
+two_taps t shift = record { to = 0; adds = false; shift = shift; ahead = 0; back = 0; taps = t ∷ t ∷ [] }
 
 abbrev pub two_places : ℕ → ℕ → List ℕ
 two_places i j = i ∷ j ∷ replicate 6 0

@@ -15,10 +15,11 @@ use Rattle.wavelet.specs.Filters.{filter_of}
 use Rattle.wavelet.specs.Planes.{of_rows, rows_by, columns_by}
 use Rattle.wavelet.specs.Laws.Plane.{rows_at, columns_cong, columns_again}
 use Rattle.wavelet.specs.Laws.PlaneLists.{list_is, plane_is}
-use Rattle.wavelet.specs.Code.Table.{stage_of, stage_at, Legal}
+use Rattle.wavelet.specs.Code.Table.{stage_of, stage_at}
 use Rattle.wavelet.specs.Code.Run.{Placed, taps_to, value_of, ran, RunIn}
-use Rattle.wavelet.specs.Laws.Run.{ran_other, ran-at, length-ran, taps_long, analysis-turn}
-use Rattle.wavelet.specs.declared.lift.LiftStage.{LiftStage}
+use Rattle.wavelet.specs.Laws.Table.{count_le, taps_long}
+use Rattle.wavelet.specs.Laws.Run.{ran_other, ran-at, length-ran, analysis-turn}
+use Rattle.wavelet.specs.declared.stage.LiftStage.{LiftStage}
 
 -- ---- columns
 column-at : (A : List ℤ → List ℤ) (h w : ℕ) (f : Plane) (y x : ℕ) → x < w → columns_by A h w f y x ≡ at (A (row h (λ y. f y x))) y
@@ -53,11 +54,11 @@ stage-none st plus h w l e = record {
   now_is = record { same = λ y x hy hx. sym ((columns-none (lifted wrap st plus 0) h w (as_plane w l) (λ xs. sym (lifted-zero wrap st plus xs))).same y x hy hx) };
 }
 
-module _ (s : LiftStage) (plus : Bool) (h w : ℕ) (l now : List ℤ) (n : ℕ) (o : List ℕ) (legal : Legal s) (inv : ColumnsLifted (stage_of s) plus h w l now n) (more : n < h / 2)
+module _ (s : LiftStage) (plus : Bool) (h w : ℕ) (l now : List ℤ) (n : ℕ) (o : List ℕ) (inv : ColumnsLifted (stage_of s) plus h w l now n) (more : n < h / 2)
     (placed : Placed (stage_of s) h n w o) where
   side : (stage_of s).to ≤ 1
   unfolding stage_of
-  side = legal.side
+  side = s.side
 
   abbrev to : ℕ
   to = (stage_of s).to
@@ -66,11 +67,10 @@ module _ (s : LiftStage) (plus : Bool) (h w : ℕ) (l now : List ℤ) (n : ℕ) 
   place-lt j = (place_law (stage_of s) h n j side more).inside
 
   read_is : (j x : ℕ) → j < s.count → slice_index o j + 1 * x ≡ place (stage_of s) h n j * w + x
-  read_is j x hj = ap₂ ◌+◌ (placed.is j (omega (arith, legal.count_le))) (one-mul x)
+  read_is j x hj = ap₂ ◌+◌ (placed.is j (omega (arith, count_le s))) (one-mul x)
 
-  pub column-runs : RunIn now s o ((2 * n + to) * w) w 1
+  pub column-runs : RunIn now s.count o ((2 * n + to) * w) w 1
   column-runs = record {
-    legal = legal;
     long = placed.long;
     steps = omega arith;
     inside = λ x j hx hj. rw (read_is j x hj, inv.long) (digits_lt (place-lt j) hx);
@@ -103,7 +103,7 @@ module _ (s : LiftStage) (plus : Bool) (h w : ℕ) (l now : List ℤ) (n : ℕ) 
         ap (λ (z : ℕ). at now ((2 * n + to) * w + z)) (one-mul x) ∙ now_at (2 * n + to) (omega (arith, side)) ∙ here_old wrap st plus column n n side (omega arith) more_here in
         let sums : taps_to st.taps o (1 * x) now (length st.taps) ≡ dot wrap (at st.taps) (λ j. at column (place st (length column) n j)) (length st.taps) =
         dot_ext wrap (at st.taps) (at st.taps) (λ j. at now (slice_index o j + 1 * x)) (λ j. at column (place st (length column) n j)) (length st.taps) (λ j hj. refl)
-        (λ j hj. ap (at now) (read_is j x (rw (taps_long s legal) at hj)) ∙ now_at (place st h n j) (place-lt j)
+        (λ j hj. ap (at now) (read_is j x (rw (taps_long s) at hj)) ∙ now_at (place st h n j) (place-lt j)
         ∙ ap (λ (z : ℕ). at (lifted wrap st plus n column) (place st z n j)) (sym column-long) ∙ reads_old wrap st plus n n column side (omega arith) more_here j) in
         ap₂ (change wrap plus) here (ap (scaled wrap st) sums) ∙ sym (hit wrap st plus (n + 1) n column side (omega arith) (rw column-long (omega (arith, side))))
 

@@ -21,6 +21,7 @@ five_levels i j {n} h = by (deep_filter i && deep_filter j)
     by true = omega arith
     by false = h
 
+-- ---- further laws
 -- the limit, by what the code finds of the two filters
 pub limit_is : (i j : ℕ) {a b : Bool} → a ≡ deep_filter i → b ≡ deep_filter j → limit_by (a && b) ≡ depth_limit i j
 unfolding depth_limit

@@ -9,7 +9,7 @@ use Rattle.laws.specs.Laws.Rows.{row_ext, length-span}
 use Rattle.laws.specs.Code.Chunks.{chunks}
 use Rattle.laws.specs.Laws.Chunks.{length-chunks, at-chunks}
 use Rattle.laws.specs.Code.Window.{piece, put}
-use Rattle.laws.specs.Laws.Window.{length-put, put_in, put_again, put-lent, piece-put, drop-put, drop-put-front, at_piece, piece-drop, Parts, parts_room, parts_next, parts_same, parts_all}
+use Rattle.laws.specs.Laws.Window.{length-put, put_in, put_again, put-lent, piece-put, drop-put, drop-put-front, at_piece, piece-drop, Parts, parts_room, parts_next, parts_same, parts_all, length-lent, lent-next}
 use Rattle.laws.specs.Plane.{Plane, as_plane, as_list}
 use Rattle.laws.specs.Laws.Plane.{length-as_list, at-as_list, as_list_cong, Agree}
 use Rattle.wavelet.specs.Filters.{filter_of, analysis_by}
@@ -17,6 +17,7 @@ use Rattle.wavelet.specs.Laws.Lifting.{length-analysis}
 use Rattle.wavelet.specs.Planes.{raise, columns_by, h_pass, vh_pass, part, part_h}
 use Rattle.wavelet.specs.Laws.Plane.{rows_at, columns_cong, h_cong}
 use Rattle.wavelet.specs.Laws.PlaneLists.{list_is}
+use Rattle.wavelet.specs.Laws.Copy.{put_left, CopiesWithin}
 use Rattle.wavelet.specs.Code.Columns.{PlaneIn}
 use Rattle.wavelet.specs.Code.Copy.{copied, Copies, part_v, band_of, BandsIn}
 use Rattle.wavelet.specs.Code.Level.{RowsIn, Place, EvenWidth, EvenSides, halves, quarters}
@@ -55,34 +56,31 @@ rows_all i f l h w now n p inv hn =
     } in
     parts_all F l 0 h w now n p inv hn ∙ ap (λ (z : List ℤ). put 0 (h * w) z l) (list_is h w (chunks F h) (h_pass wrap i h w f) (length-chunks F w (length-row_of i f w) h) same)
 
--- the rows of the plane at from
-module _ (i : ℕ) (l : List ℤ) (from h w : ℕ) (q : RowsIn l from h w) (now : List ℤ) (n p : ℕ) (inv : Parts (row_of i (as_plane w (drop from l)) w) l 0 h w now n p) (hn : n < h) where
-  abbrev f : Plane
-  f = as_plane w (drop from l)
+-- the rows of the plane that g begins with
+module _ (i : ℕ) (g l : List ℤ) (h w : ℕ) (fits : h * w ≤ length l) (there : h * w ≤ length g) (now : List ℤ) (n p : ℕ) (inv : Parts (row_of i (as_plane w g) w) l 0 h w now n p) (hn : n < h) where
+  row_fits : p + w ≤ length now
+  row_fits = omega (arith, rows_room i (as_plane w g) l h w fits now n p inv hn, inv.long)
 
-  rows_fit : h * w ≤ length l
-  rows_fit = omega (arith, q.fits)
+  pub rows_copies : Copies g (length (piece p (p + w - p) now)) p 1
+  rows_copies = rw (length-lent p w now row_fits) (record { inside = λ k hk. omega (arith, rows_room i (as_plane w g) l h w fits now n p inv hn) })
 
-  pub rows_copies : Copies now 0 (h * w) p w (from + p) 1
-  rows_copies =
-      let room = rows_room i f l h w rows_fit now n p inv hn in
-      record {
-        part = (omega arith, omega (arith, q.fits, inv.long));
-        fits = omega (arith, room);
-        inside = λ k hk. omega (arith, room, q.fits, inv.long);
-        apart = λ k hk o. omega (arith, room, q.room);
-      }
-
-  pub rows-turn : (b : ℕ) → b ≡ (filter_of i).bits → (w1 ys : List ℤ) → w1 ≡ put (0 + p) w (copied b now (from + p) 1 w) now
-      → ys ≡ analysis_by wrap i (piece p (p + w - p) w1) → Parts (row_of i f w) l 0 h w (take p w1 ++ (ys ++ drop (p + w - p) (drop p w1))) (n + 1) (p + w)
-  rows-turn b eb w1 ys e1 ey =
-      let c = copied b now (from + p) 1 w in
-      let old : (k : ℕ) → k < w → at now (from + p + 1 * k) ≡ f n k = λ k hk.
-      parts_same (row_of i f w) l 0 h w now n p (length-row_of i f w) inv (front_fits i f l h w rows_fit now n p inv hn) hn (from + p + 1 * k) (λ o. omega arith)
-      ∙ ap (at l) (omega (arith, inv.place_is)) ∙ sym (get_or-drop from l (n * w + k) (pos 0)) in
+  -- a row that was lent, written and analysed
+  pub rows-turn : (b : ℕ) → b ≡ (filter_of i).bits → (c ys : List ℤ) → c ≡ copied b g p 1 (length (piece p (p + w - p) now))
+      → ys ≡ analysis_by wrap i c → Parts (row_of i (as_plane w g) w) l 0 h w (take p now ++ (ys ++ drop (p + w - p) (drop p now))) (n + 1) (p + w)
+  rows-turn b eb c ys ec ey =
+      let f : Plane = as_plane w g in
       let row_is : c ≡ row w (λ x. raise wrap (filter_of i).bits (f n x)) =
-      row_ext w (λ k. raise wrap b (at now (from + p + 1 * k))) (λ x. raise wrap (filter_of i).bits (f n x)) (λ k hk. ap₂ (raise wrap) eb (old k hk)) in
-      rows_next i f l h w rows_fit now n p inv hn c w1 ys row_is (e1 ∙ ap (λ (z : ℕ). put z w c now) (zero-add p)) ey
+      ec ∙ ap (copied b g p 1) (length-lent p w now row_fits)
+      ∙ row_ext w (λ k. raise wrap b (at g (p + 1 * k))) (λ x. raise wrap (filter_of i).bits (f n x)) (λ k hk. ap₂ (raise wrap) eb (ap (at g) (omega (arith, inv.place_is)))) in
+      lent-next (row_of i f w) l 0 h w now n p (length-row_of i f w) inv (omega arith) hn ys (ey ∙ ap (analysis_by wrap i) row_is)
+
+-- work was lent as scratch s, in which all rows are now, and the planes g behind it
+pub rows_joined : (i : ℕ) (work s g : List ℤ) (from h w : ℕ) (now : List ℤ) (n p : ℕ) → Parts (row_of i (as_plane w g) w) s 0 h w now n p → h ≤ n → h * w ≤ length s → work ≡ s ++ g → g ≡ drop from work
+    → now ++ g ≡ put 0 (h * w) (as_list h w (h_pass wrap i h w (as_plane w (drop from work)))) work
+rows_joined i work s g from h w now n p inv hn fits cut back =
+    let R : List ℤ → List ℤ = λ (z : List ℤ). as_list h w (h_pass wrap i h w (as_plane w z)) in
+    ap (λ (z : List ℤ). z ++ g) (rows_all i (as_plane w g) s h w now n p inv hn) ∙ put_left 0 (h * w) (R g) s g (omega arith)
+    ∙ ap₂ (λ (y z : List ℤ). put 0 (h * w) (R y) z) back (sym cut)
 
 -- ---- what lies in front and behind
 four : (G : ℕ → List ℤ) → chunks G 4 ≡ G 0 ++ (G 1 ++ (G 2 ++ G 3))
@@ -204,3 +202,33 @@ module _ (n off h w : ℕ) (l : List ℤ) (p : Place n off (h * w) l) where
   pub rows_there : (i : ℕ) (w1 : List ℤ) → w1 ≡ put 0 (h * w) (as_list h w (h_pass wrap i h w (as_plane w (drop (n + off) l)))) l
       → w1 ≡ put 0 (h * w) (as_list h w (h_pass wrap i h w (as_plane w (piece off (h * w) (drop n l))))) l
   rows_there i w1 e = e ∙ ap (λ (q : Plane). put 0 (h * w) (as_list h w q) l) (h_cong wrap i h w _ _ (plane_there n off h w l))
+
+-- ---- further laws
+-- the rows of the plane at from, copied within one list
+module _ (i : ℕ) (l : List ℤ) (from h w : ℕ) (q : RowsIn l from h w) (now : List ℤ) (n p : ℕ) (inv : Parts (row_of i (as_plane w (drop from l)) w) l 0 h w now n p) (hn : n < h) where
+  abbrev f : Plane
+  f = as_plane w (drop from l)
+
+  rows_fit : h * w ≤ length l
+  rows_fit = omega (arith, q.fits)
+
+  pub rows_copies_within : CopiesWithin now 0 (h * w) p w (from + p) 1
+  rows_copies_within =
+      let room = rows_room i f l h w rows_fit now n p inv hn in
+      record {
+        part = (omega arith, omega (arith, q.fits, inv.long));
+        fits = omega (arith, room);
+        inside = λ k hk. omega (arith, room, q.fits, inv.long);
+        apart = λ k hk o. omega (arith, room, q.room);
+      }
+
+  pub rows-turn-within : (b : ℕ) → b ≡ (filter_of i).bits → (w1 ys : List ℤ) → w1 ≡ put (0 + p) w (copied b now (from + p) 1 w) now
+      → ys ≡ analysis_by wrap i (piece p (p + w - p) w1) → Parts (row_of i f w) l 0 h w (take p w1 ++ (ys ++ drop (p + w - p) (drop p w1))) (n + 1) (p + w)
+  rows-turn-within b eb w1 ys e1 ey =
+      let c = copied b now (from + p) 1 w in
+      let old : (k : ℕ) → k < w → at now (from + p + 1 * k) ≡ f n k = λ k hk.
+      parts_same (row_of i f w) l 0 h w now n p (length-row_of i f w) inv (front_fits i f l h w rows_fit now n p inv hn) hn (from + p + 1 * k) (λ o. omega arith)
+      ∙ ap (at l) (omega (arith, inv.place_is)) ∙ sym (get_or-drop from l (n * w + k) (pos 0)) in
+      let row_is : c ≡ row w (λ x. raise wrap (filter_of i).bits (f n x)) =
+      row_ext w (λ k. raise wrap b (at now (from + p + 1 * k))) (λ x. raise wrap (filter_of i).bits (f n x)) (λ k hk. ap₂ (raise wrap) eb (old k hk)) in
+      rows_next i f l h w rows_fit now n p inv hn c w1 ys row_is (e1 ∙ ap (λ (z : ℕ). put z w c now) (zero-add p)) ey

@@ -1,12 +1,13 @@
--- The wrapped product of two 64-bit numbers, by halves of 32 bits; a tap times the wrapped sum of two numbers.
-use Rattle.std.specs.Prelude.{◌≡◌, ℕ, suc, ◌+◌, ◌-◌, ◌*◌, ◌/◌, ◌%◌, ◌^◌, ℤ, pos, negsuc, ◌+ℤ◌, ◌*ℤ◌, neg_ℤ, FitsSigned}
+-- The wrapped product of two 64-bit numbers, by halves of 32 bits; their wrapped difference; a tap times the wrapped
+-- sum of two numbers.
+use Rattle.std.specs.Prelude.{◌≡◌, ℕ, suc, ◌+◌, ◌-◌, ◌*◌, ◌/◌, ◌%◌, ◌^◌, ℤ, pos, negsuc, ◌+ℤ◌, ◌-ℤ◌, ◌*ℤ◌, neg_ℤ, FitsSigned}
 use Rattle.std.proofs.Common.{sym, ap, ◌∙◌, arith, add-mul, mul-add, mul_assoc, mul_comm, mul_right_comm, mul_left_comm, mul-le-mul, div-add-mod', to_z, of_z}
 use Rattle.std.proofs.Math.Nat.{mul-sub}
 use Rattle.std.proofs.Math.IntN.{+ℤ_comm}
 use Rattle.std.specs.Int.{w64}
 use Rattle.laws.specs.Laws.Integer.{up, dn, neg_law, times_law, Lin, var, ◌⊞◌, by_parts}
 use Rattle.laws.specs.Wrap.{wrap}
-use Rattle.laws.specs.Laws.Wrap.{wraps, unique, wrap-add, wrap-bits, neg-mul}
+use Rattle.laws.specs.Laws.Wrap.{wraps, unique, wrap-add, wrap-bits, of_z_lt, sub-bits as sub-of, neg-mul}
 
 pub by_halves : (x y : ℕ)
     → ((x % 2 ^ 32 * (y / 2 ^ 32) + y % 2 ^ 32 * (x / 2 ^ 32)) % 2 ^ 64 * 2 ^ 32 % 2 ^ 64 + x % 2 ^ 32 * (y % 2 ^ 32)) % 2 ^ 64 ≡ x * y % 2 ^ 64
@@ -30,6 +31,13 @@ by_halves x y =
       mul_comm k h,
     ) in
     omega arith
+
+-- the difference of the bits is that of the numbers, but for a multiple of 2 ^ 64
+pub sub-bits : (a b : ℤ) → FitsSigned w64 a → FitsSigned w64 b → to_z w64 ((of_z w64 a + (2 ^ 64 - of_z w64 b)) % 2 ^ 64) ≡ wrap (a -ℤ b)
+sub-bits a b f g =
+    let x = of_z_lt a f in
+    let y = of_z_lt b g in
+    sub-of a b _ f g (omega arith) (omega arith)
 
 opposites : (a b c d n j : ℕ) → a + c ≡ n → b + d ≡ n → c ≡ b + j → c * d ≡ a * b + n * j
 opposites a b c d n j ec ed ej =

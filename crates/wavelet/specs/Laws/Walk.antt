@@ -1,6 +1,6 @@
 -- Level after level: what the walk leaves are the definition's bands.
 use Rattle.std.specs.Prelude.{◌≡◌, ℕ, zero, suc, ◌+◌, ◌-◌, ◌*◌, ◌/◌, ◌%◌, ◌<◌, ◌≤◌, List, [], ◌∷◌, ◌++◌, length, take, drop, ℤ, refl}
-use Rattle.std.proofs.Common.{sym, ap, ap₂, ◌∙◌, subst₂, arith, mul-le-mul, append-nil, length-append, length-drop, take_at, drop_at}
+use Rattle.std.proofs.Common.{subst₂, sym, ap, ap₂, ◌∙◌, arith, mul-le-mul, append-nil, length-append, length-drop, take_at, drop_at}
 use Rattle.laws.specs.Wrap.{wrap}
 use Rattle.laws.specs.Code.Window.{piece, put}
 use Rattle.laws.specs.Laws.Window.{length-piece, put_self, put_inner, piece_inner}
@@ -11,6 +11,8 @@ use Rattle.wavelet.specs.Laws.Plane.{coefficients-append, dwt_cong, quarters_siz
 use Rattle.wavelet.specs.Laws.PlaneLists.{plane_is}
 use Rattle.wavelet.specs.Code.Level.{Place, EvenSides, EvenWidth, halves, quarters}
 use Rattle.wavelet.specs.Code.Walk.{Deep}
+use Rattle.wavelet.specs.declared.shape.Transform as Levels
+use Rattle.wavelet.specs.declared.plane.Spot.{Spot}
 
 -- the coefficients of the plane of h rows of w that a list is
 abbrev pub coefficients_of : ℕ → ℕ → ℕ → ℕ → ℕ → ℕ → List ℤ → List ℤ
@@ -142,9 +144,10 @@ pub record Walks (n off ih iv m : ℕ) (end : List ℤ) (k d h w : ℕ) (now : L
   pub long : length now ≡ m
   pub same : after n off (h * w) (coefficients_of ih iv k d h w) now ≡ end
 
--- before the first turn
-pub walk_start : (n off ih iv k d h w : ℕ) (l : List ℤ) → Deep k d h w ih iv → Place n off (h * w) l → Walks n off ih iv (length l) (after n off (h * w) (coefficients_of ih iv k d h w) l) k d h w l
-walk_start n off ih iv k d h w l deep place = record { deep = deep; place = place; long = refl; same = refl }
+-- The levels of t of the plane that stood at s in l: its first band is the plane at p in now, and has d levels both ways
+-- and k horizontal-only ones left.
+abbrev pub WalksAt : Spot → Levels.Transform → List ℤ → ℕ → ℕ → Spot → List ℤ → Type 0
+WalksAt s t l k d p now = Walks p.n p.off t.ih t.iv (length l) (after s.n s.off (s.h * s.w) (coefficients_of t.ih t.iv t.k t.d s.h s.w) l) k d p.h p.w now × (p.n ≡ s.n)
 
 -- a turn with a level both ways
 pub turn-both : (n off ih iv m : ℕ) (end : List ℤ) (k d h w : ℕ) (now new : List ℤ) → Walks n off ih iv m end k d h w now → length new ≡ length now → 0 < d
@@ -172,12 +175,18 @@ turn-across n off ih iv m end k h w now new v long z e =
       same = walk_across ih iv k 0 h w n off (as_plane w (piece off (h * w) (drop n now))) now new (omega arith) z t.0 v.place e ∙ v.same;
     }
 
--- between the loops, where level is k
-pub walk_flat : (n off ih iv m : ℕ) (end : List ℤ) (k level h w : ℕ) (now : List ℤ) → k ≤ level → level ≤ k → Walks n off ih iv m end k (level - k) h w now → Walks n off ih iv m end level 0 h w now
-walk_flat n off ih iv m end k level h w now x y v =
-    let e : k ≡ level = omega arith in
-    let z : level - k ≡ 0 = omega arith in
-    subst₂ (λ (a b : ℕ). Walks n off ih iv m end a b h w now) e z v
+-- between the loops: no level both ways is left, and all k others are
+pub walk_flat : (n off ih iv m : ℕ) (end : List ℤ) (k d h w : ℕ) (now : List ℤ) → d ≤ 0 → Walks n off ih iv m end k d h w now → Walks n off ih iv m end (k - 0) 0 h w now
+walk_flat n off ih iv m end k d h w now z v =
+    let e : k ≡ k - 0 = omega arith in
+    let f : d ≡ 0 = omega arith in
+    subst₂ (λ (a b : ℕ). Walks n off ih iv m end a b h w now) e f v
+
+-- the same where level is k
+pub walk_flat_at : (n off ih iv m : ℕ) (end : List ℤ) (k level h w : ℕ) (now : List ℤ) → k ≤ level → level ≤ k → Walks n off ih iv m end k (level - k) h w now → Walks n off ih iv m end level 0 h w now
+walk_flat_at n off ih iv m end k level h w now x y v =
+    let e : k - 0 ≡ level = omega arith in
+    rw e at (walk_flat n off ih iv m end k (level - k) h w now (omega arith) v)
 
 -- after the last turn
 pub walk_end : (n off ih iv m : ℕ) (end : List ℤ) (k h w : ℕ) (now : List ℤ) → Walks n off ih iv m end k 0 h w now → k ≤ 0 → drop n now ≡ end
@@ -186,3 +195,8 @@ walk_end n off ih iv m end k h w now v z =
     let o = piece off (h * w) u in
     let fit : off + h * w ≤ length u = rw (length-drop n now) (omega (arith, v.place.fits)) in
     put_self off (h * w) u ∙ ap (λ (x : List ℤ). put off (h * w) x u) (sym (as_list_back h w o (length-piece off (h * w) u fit)) ∙ no_level ih iv k 0 h w (as_plane w o) (omega arith) z) ∙ v.same
+
+-- ---- further laws
+-- before the first turn
+pub walk_start : (n off ih iv k d h w : ℕ) (l : List ℤ) → Deep k d h w ih iv → Place n off (h * w) l → Walks n off ih iv (length l) (after n off (h * w) (coefficients_of ih iv k d h w) l) k d h w l
+walk_start n off ih iv k d h w l deep place = record { deep = deep; place = place; long = refl; same = refl }

@@ -46,12 +46,6 @@ loop-i-init c =
     let none : n - n ≡ 0 = omega arith in
     (omega arith, rw (none, lit-none (x / 2 ^ n), interleaved-none) (wrote_none c.requires.0))
 
-pub overflow_cast-i : goal.overflow_cast-i
-overflow_cast-i c = omega (arith, c.requires.1, c.loop-i.invariant.0)
-
-pub overflow_shr-x : goal.overflow_shr-x
-overflow_shr-x c = omega (arith, c.requires.1, c.loop-i.invariant.0)
-
 pub put_short-s-requires : goal.put_short-s-requires
 put_short-s-requires c =
     let r = room_at (goal.at.put_short-s-requires c).At-loop-i in

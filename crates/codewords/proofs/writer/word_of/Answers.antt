@@ -1,33 +1,12 @@
 -- `codewords::writer::word_of` meets its contract.
-use mathlib.Core.Path.{◌≡◌, sym, ap, ◌∙◌}
-use Prim.Native.Nat.{ℕ, ◌+◌, ◌-◌, ◌≤◌}
+use mathlib.Core.Path.{sym, ap, ◌∙◌}
+use Prim.Native.Nat.{ℕ, ◌+◌, ◌≤◌}
 use native.Mathlib.Omega.{arith}
-use lib.Count.{count_leading_zeros}
 use Rattle.codewords.specs.Bit.{lit}
-use Rattle.codewords.specs.Laws.Bit.{val-lt, byte_val}
-use Rattle.codewords.specs.CodeWord.{log2, code_m}
-use Rattle.codewords.specs.Laws.Code.{leading_log2, code_m-zero}
+use Rattle.codewords.specs.CodeWord.{code_m}
+use Rattle.codewords.specs.Laws.Code.{log2_is, leading_log2, code_m-zero}
 use Rattle.codewords.specs.Laws.Word.{code-lit}
 use Rattle.codewords.proofs.writer.word_of.Goals as goal
-use Rattle.codewords.proofs.writer.word_of.Goals.{Start}
-
--- the place of the leading one of m + 1, by the count of leading zeros
-record Place (x : ℕ) : Type 0 where
-  zeros : count_leading_zeros 64 x ≤ 63
-  is : 63 - count_leading_zeros 64 x ≡ log2 x
-  low : log2 x ≤ 8
-
-place : (c : Start) → Place (c.args.m + 1)
-place c =
-    let x = c.args.m + 1 in
-    let l = leading_log2 64 x (omega arith) (omega arith) in
-    record { zeros = omega arith; is = omega arith; low = omega (arith, leading_log2 9 x (omega arith) (omega arith)) }
-
-pub overflow_sub-n : goal.overflow_sub-n
-overflow_sub-n c = (place c).zeros
-
-pub overflow_add-result : goal.overflow_add-result
-overflow_add-result c = omega (arith, byte_val c.args.minus, val-lt c.args.minus)
 
 pub returns-then-m-eq0 : goal.returns-then-m-eq0
 unfolding lit
@@ -38,6 +17,7 @@ returns-then-m-eq0 c =
 pub returns-else-m-eq0 : goal.returns-else-m-eq0
 returns-else-m-eq0 c =
     let a = c.args in
-    let p = place (goal.at.returns-else-m-eq0 c).Start in
-    let n = 63 - count_leading_zeros 64 (a.m + 1) in
-    (rw (code-lit a.m n a.minus (omega (arith, c.if-m-eq0.false)) p.is (omega (arith, p)), c.spread.ensures.0), omega (arith, p))
+    let n = c.ilog2-n.result in
+    let e = log2_is (a.m + 1) n c.ilog2-n.ensures.power_le c.ilog2-n.ensures.next_power_gt in
+    let low : n ≤ 8 = omega (arith, leading_log2 9 (a.m + 1) (omega arith) (omega arith)) in
+    (rw (code-lit a.m n a.minus (omega (arith, c.if-m-eq0.false)) e low, c.spread.ensures.0), omega arith)

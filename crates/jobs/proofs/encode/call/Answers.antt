@@ -13,16 +13,6 @@ use Rattle.jobs.proofs.encode.call.Goals.{Start}
 facts : (st : Start) → Able st.args.words.now st.args.e (length st.args.matrix.now) (length st.args.samples.now)
 facts st = able st.args.words.now st.args.e (length st.args.matrix.now) (length st.args.samples.now) st.requires
 
-pub overflow_sub-m : goal.overflow_sub-m
-overflow_sub-m c =
-    let f = facts (goal.at.overflow_sub-m c).Start in
-    omega (arith, f.to-matrix, f.to_y, f.to_c1, f.to_c2, f.within, f.matrix_room, f.samples_room)
-
-pub overflow_sub-n : goal.overflow_sub-n
-overflow_sub-n c =
-    let f = facts (goal.at.overflow_sub-n c).Start in
-    omega (arith, f.to-matrix, f.to_y, f.to_c1, f.to_c2, f.within, f.matrix_room, f.samples_room)
-
 pub slice_bounds-settings_of-end : goal.slice_bounds-settings_of-end
 slice_bounds-settings_of-end c =
     let a = c.args in
@@ -32,62 +22,11 @@ slice_bounds-settings_of-end c =
 pub settings_of-s-requires : goal.settings_of-s-requires
 settings_of-s-requires c = (facts (goal.at.settings_of-s-requires c).Start).settings_known
 
-pub offset_bounds-words-settings : goal.offset_bounds-words-settings
-offset_bounds-words-settings c =
-    let f = facts (goal.at.offset_bounds-words-settings c).Start in
-    omega (arith, f.to-matrix, f.to_y, f.to_c1, f.to_c2, f.within, f.matrix_room, f.samples_room)
-
-pub slice_bounds-load_matrix-count : goal.slice_bounds-load_matrix-count
-slice_bounds-load_matrix-count c =
-    let f = facts (goal.at.slice_bounds-load_matrix-count c).Start in
-    omega (arith, f.to-matrix, f.to_y, f.to_c1, f.to_c2, f.within, f.matrix_room, f.samples_room)
-
-pub slice_bounds-load_matrix-start : goal.slice_bounds-load_matrix-start
-slice_bounds-load_matrix-start c =
-    let f = facts (goal.at.slice_bounds-load_matrix-start c).Start in
-    omega (arith, f.to-matrix, f.to_y, f.to_c1, f.to_c2, f.within, f.matrix_room, f.samples_room)
-
-pub slice_bounds-load_matrix-end : goal.slice_bounds-load_matrix-end
-slice_bounds-load_matrix-end c =
-    let f = facts (goal.at.slice_bounds-load_matrix-end c).Start in
-    omega (arith, f.to-matrix, f.to_y, f.to_c1, f.to_c2, f.within, f.matrix_room, f.samples_room)
-
-pub load_matrix-requires : goal.load_matrix-requires
-load_matrix-requires c =
-    let a = c.args in
-    let f = facts (goal.at.load_matrix-requires c).Start in
-    omega (arith, length_part a.e.settings a.e.matrix a.words.now f.to-matrix (omega (arith, f.to_y, f.to_c1, f.to_c2, f.within)), f.matrix_room)
-
-pub offset_bounds-words-few : goal.offset_bounds-words-few
-offset_bounds-words-few c =
-    let f = facts (goal.at.offset_bounds-words-few c).Start in
-    omega (arith, f.to-matrix, f.to_y, f.to_c1, f.to_c2, f.within, f.matrix_room, f.samples_room)
-
-pub slice_bounds-load_samples-count : goal.slice_bounds-load_samples-count
-slice_bounds-load_samples-count c =
-    let f = facts (goal.at.slice_bounds-load_samples-count c).Start in
-    omega (arith, f.to-matrix, f.to_y, f.to_c1, f.to_c2, f.within, f.matrix_room, f.samples_room)
-
-pub slice_bounds-load_samples-start : goal.slice_bounds-load_samples-start
-slice_bounds-load_samples-start c =
-    let f = facts (goal.at.slice_bounds-load_samples-start c).Start in
-    omega (arith, f.to-matrix, f.to_y, f.to_c1, f.to_c2, f.within, f.matrix_room, f.samples_room)
-
-pub slice_bounds-load_samples-end : goal.slice_bounds-load_samples-end
-slice_bounds-load_samples-end c =
-    let f = facts (goal.at.slice_bounds-load_samples-end c).Start in
-    omega (arith, f.to-matrix, f.to_y, f.to_c1, f.to_c2, f.within, f.matrix_room, f.samples_room)
-
 pub load_samples-requires : goal.load_samples-requires
 load_samples-requires c =
     let a = c.args in
     let f = facts (goal.at.load_samples-requires c).Start in
     (omega (arith, length_part a.e.matrix a.e.c2 a.words.now (omega (arith, f.to_y, f.to_c1, f.to_c2)) f.within, f.samples_room), f.samples_small)
-
-pub slice_bounds-encode-end : goal.slice_bounds-encode-end
-slice_bounds-encode-end c =
-    let f = facts (goal.at.slice_bounds-encode-end c).Start in
-    omega (arith, f.to-matrix, f.to_y, f.to_c1, f.to_c2, f.within, f.matrix_room, f.samples_room, c.load_matrix.ensures.size)
 
 pub slice_bounds-encode-end-2 : goal.slice_bounds-encode-end-2
 slice_bounds-encode-end-2 c =
@@ -95,26 +34,11 @@ slice_bounds-encode-end-2 c =
     let f = facts (goal.at.slice_bounds-encode-end-2 c).Start in
     sym (length-take-le (a.e.matrix - a.e.settings) c.load_matrix.new.matrix (omega (arith, f.matrix_room, c.load_matrix.ensures.size)))
 
-pub slice_bounds-encode-end-3 : goal.slice_bounds-encode-end-3
-slice_bounds-encode-end-3 c =
-    let f = facts (goal.at.slice_bounds-encode-end-3 c).Start in
-    omega (arith, f.to-matrix, f.to_y, f.to_c1, f.to_c2, f.within, f.matrix_room, f.samples_room, c.load_samples.ensures.size)
-
 pub slice_bounds-encode-end-4 : goal.slice_bounds-encode-end-4
 slice_bounds-encode-end-4 c =
     let a = c.args in
     let f = facts (goal.at.slice_bounds-encode-end-4 c).Start in
     sym (length-take-le (a.e.c2 - a.e.matrix) c.load_samples.new.samples (omega (arith, f.samples_room, c.load_samples.ensures.size)))
-
-pub overflow_sub-e : goal.overflow_sub-e
-overflow_sub-e c =
-    let f = facts (goal.at.overflow_sub-e c).Start in
-    omega (arith, f.to-matrix, f.to_y, f.to_c1, f.to_c2, f.within, f.matrix_room, f.samples_room)
-
-pub overflow_sub-e-2 : goal.overflow_sub-e-2
-overflow_sub-e-2 c =
-    let f = facts (goal.at.overflow_sub-e-2 c).Start in
-    omega (arith, f.to-matrix, f.to_y, f.to_c1, f.to_c2, f.within, f.matrix_room, f.samples_room)
 
 pub encode-requires : goal.encode-requires
 encode-requires c =

@@ -14,11 +14,6 @@ returns-then-not-well_formed c =
     let f = sym w.ensures ∙ c.if-not-well_formed.true in
     (job-laid a.words.now a.out.now a.work.now f p, omega (arith, p.next, p.size, c.requires.1.1.1))
 
-pub call-r-requires : goal.call-r-requires
-call-r-requires c =
-    let w = c.well_formed-2 in
-    (c.ends_of-e.ensures, (sym w.ensures ∙ c.if-not-well_formed.false, (c.requires.0, c.requires.1.0)))
-
 pub put_answer-requires : goal.put_answer-requires
 put_answer-requires c =
     let a = c.args in

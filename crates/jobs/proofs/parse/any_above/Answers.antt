@@ -1,28 +1,14 @@
-use mathlib.Core.Path.{refl, ◌∙◌}
-use mathlib.Core.List.{map}
+-- `parse::any_above` meets its contract.
+use mathlib.Core.Path.{◌∙◌}
+use lib.Dec.{ltb}
+use Rattle.std.proofs.Common.{rules, tests}
+use Rattle.std.proofs.lemmas.Iterator.{YieldsList-from_slice}
+use Rattle.std.proofs.lemmas.Iterator.Search.{any_from_yields_List}
 use Rattle.jobs.specs.Job.{content_of}
-use Rattle.picture.specs.Laws.Refusal.{above_here, above_next, above_none}
-use Rattle.jobs.specs.Laws.Parse.{contents_count, content_at}
-use native.Mathlib.Omega.{arith}
+use Rattle.jobs.specs.Laws.Parse.{any_content}
 use Rattle.jobs.proofs.parse.any_above.Goals as goal
-
-pub loop-i-init : goal.loop-i-init
-loop-i-init c = (omega arith, refl)
-
-pub returns-then-content_of-gt65535 : goal.returns-then-content_of-gt65535
-returns-then-content_of-gt65535 c =
-    let ws = c.args.words.now in
-    let l = c.loop-i in
-    above_here 65535 (map content_of ws) l.i (rw (contents_count ws) c.loop-i-test.true) (rw (c.content_of.ensures ∙ content_at ws l.i) at c.if-content_of-gt65535.true) ∙ l.invariant.1
-
-pub loop-i-preserved : goal.loop-i-preserved
-loop-i-preserved c =
-    let ws = c.args.words.now in
-    let l = c.loop-i in
-    (omega arith, above_next 65535 (map content_of ws) l.i (rw (contents_count ws) c.loop-i-test.true) (rw (c.content_of.ensures ∙ content_at ws l.i) at c.if-content_of-gt65535.false) ∙ l.invariant.1)
 
 pub returns : goal.returns
 returns c =
     let ws = c.args.words.now in
-    let l = c.loop-i in
-    above_none 65535 (map content_of ws) l.i (rw (contents_count ws) c.loop-i-test.false) ∙ l.invariant.1
+    any_from_yields_List (λ w. ltb 65535 (content_of w)) _ _ c.any.result c.any.ensures.ran (YieldsList-from_slice ws (cc)) (λ x b q k. search (rules, tests)) ∙ any_content ws

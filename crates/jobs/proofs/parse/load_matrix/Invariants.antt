@@ -1,13 +1,5 @@
--- `parse::load_matrix` meets its contract. The invariant: the first i contents are laid.
-use mathlib.Core.List.{map}
-use Prim.Native.Nat.{◌-◌, ◌≤◌}
-use lib.ListN.{length, take}
-use Rattle.laws.specs.Code.Laid.{Lays}
-use Rattle.jobs.specs.Job.{content_of}
+-- `parse::load_matrix` meets its contract: a content is itself.
 use Rattle.jobs.proofs.parse.load_matrix.Given as goal
 
-abbrev pub invariant-loop-i : goal.invariant-loop-i
-invariant-loop-i l = (l.i ≤ length l.words) × Lays l.initial.matrix 0 (take l.i (map content_of l.words)) l.matrix l.i
-
-abbrev pub decreases-loop-i : goal.decreases-loop-i
-decreases-loop-i l = length l.words - l.i
+abbrev pub ghost-load : goal.ghost-load
+ghost-load a = λ content. content

@@ -1,25 +1,20 @@
-use mathlib.Core.Path.{refl, sym, ◌∙◌}
-use Rattle.jobs.specs.Laws.Parse.{run_stop, run-next, run_over}
-use native.Mathlib.Omega.{arith}
+-- `parse::run_end` meets its contract.
+use Rattle.std.proofs.Common.{◌∙◌, rules, tests, arith, eqb, drop}
+use Rattle.std.proofs.lemmas.Iterator.{YieldsList-from_slice}
+use Rattle.std.proofs.lemmas.Iterator.Consumers.{count_from_yields_List, YieldsList-at}
+use Rattle.std.proofs.lemmas.Iterator.Search.{YieldsList-from_take_while}
+use Rattle.jobs.specs.Job.{kind_of}
+use Rattle.jobs.specs.Laws.Parse.{lent_rest, run_is, run-within}
 use Rattle.jobs.proofs.parse.run_end.Goals as goal
-
-pub loop-i-init : goal.loop-i-init
-loop-i-init c = (c.requires, refl)
-
-pub returns-then-kind_of-kind : goal.returns-then-kind_of-kind
-returns-then-kind_of-kind c =
-    let a = c.args in
-    let l = c.loop-i in
-    (run_stop a.kind a.words.now l.i c.loop-i-test.true (λ e. c.if-kind_of-kind.true (c.kind_of.ensures ∙ e)) ∙ l.invariant.1, l.invariant.0)
-
-pub loop-i-preserved : goal.loop-i-preserved
-loop-i-preserved c =
-    let a = c.args in
-    let l = c.loop-i in
-    (omega arith, run-next a.kind a.words.now l.i c.loop-i-test.true (sym c.kind_of.ensures ∙ c.if-kind_of-kind.false) ∙ l.invariant.1)
 
 pub returns : goal.returns
 returns c =
     let a = c.args in
-    let l = c.loop-i in
-    (run_over a.kind a.words.now l.i c.loop-i-test.false ∙ l.invariant.1, l.invariant.0)
+    let ws = a.words.now in
+    let rest = drop a.from ws in
+    let all = c.iter.ensures.rest ∙ lent_rest a.from ws in
+    let e =
+    run_is a.kind ws a.from (count_from_yields_List c.take_while.result c.count.result c.count.ensures.ran
+    (YieldsList-from_take_while _ (λ w. eqb (kind_of w) a.kind) (YieldsList-at c.take_while.ensures.source (YieldsList-from_slice rest all))
+    c.take_while.ensures.closure c.take_while.ensures.done (λ x b q k. search (rules, tests)))) in
+    (e, omega (arith, e, run-within a.kind ws a.from c.requires))

@@ -8,20 +8,17 @@ use native.Mathlib.Omega.{arith}
 use Rattle.jobs.proofs.parse.unpack.Goals as goal
 
 pub loop-i-init : goal.loop-i-init
-loop-i-init c = (omega arith, lays_start c.args.words.now 0)
-
-pub bounds-words-i : goal.bounds-words-i
-bounds-words-i c = omega (arith, c.loop-i.invariant.1.size, c.requires)
+loop-i-init c = lays_start c.args.words.now 0
 
 pub loop-i-preserved : goal.loop-i-preserved
 loop-i-preserved c =
     let bs = c.args.bytes.now in
     let l = c.loop-i in
     let t = c.loop-i-test.true in
-    (omega arith, fill-next (words_of bs) l.i c.word_at.result (rw (words_count bs) t) (c.word_at.ensures ∙ words_at_lem bs l.i t) l.invariant.1)
+    fill-next (words_of bs) l.i c.word_at.result 0 (rw (words_count bs) t) (c.word_at.ensures ∙ words_at_lem bs l.i t) l.invariant
 
 pub returns : goal.returns
 returns c =
     let bs = c.args.bytes.now in
     let l = c.loop-i in
-    fill_all (words_of bs) l.i (length bs / 4) (words_count bs) (omega (arith, l.invariant.0, c.loop-i-test.false)) l.invariant.1
+    fill_all (words_of bs) l.i (length bs / 4) (words_count bs) (omega (arith, l.auto.i-end, c.loop-i-test.false)) l.invariant

@@ -10,15 +10,15 @@ put-requires t c = omega (arith, c.requires, ap length (decimal-one c.args.n c.i
 pub returns-then-n-lt10 : goal.returns-then-n-lt10
 returns-then-n-lt10 t c = lays_same (sym (decimal-one c.args.n c.if-n-lt10.true)) c.put.ensures
 
-pub put_number-e-requires : goal.put_number-e-requires
-put_number-e-requires t c =
+pub put_number-requires : goal.put_number-requires
+put_number-requires t c =
     let h = c.if-n-lt10.false in
     (omega (arith, c.decreases, h), omega (arith, c.requires, decimal_room c.args.n h))
 
-pub put-requires-2 : goal.put-requires-2
-put-requires-2 t c =
-    let p = c.put_number-e.ensures in
+pub put-requires-else-n-lt10 : goal.put-requires-else-n-lt10
+put-requires-else-n-lt10 t c =
+    let p = c.put_number.ensures in
     omega (arith, c.requires, p.next, p.size, decimal_room c.args.n c.if-n-lt10.false)
 
-pub returns : goal.returns
-returns t c = lays_same (sym (decimal-more c.args.n c.if-n-lt10.false)) (lays_on c.put_number-e.ensures c.put-2.ensures)
+pub returns-else-n-lt10 : goal.returns-else-n-lt10
+returns-else-n-lt10 t c = lays_same (sym (decimal-more c.args.n c.if-n-lt10.false)) (lays_on c.put_number.ensures c.put-else-n-lt10.ensures)

@@ -6,4 +6,4 @@ pub returns : goal.returns
 returns c =
     let a = c.args in
     chunk-laid a.b a.last c.digit.ensures c.digit-2.ensures c.gap.ensures
-    c.put-i.ensures c.put-j.ensures c.put.ensures
+    c.put.ensures c.put-2.ensures c.put-3.ensures

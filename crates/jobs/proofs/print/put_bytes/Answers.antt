@@ -10,22 +10,22 @@ use Rattle.jobs.proofs.print.put_bytes.Goals as goal
 pub loop-i-init : goal.loop-i-init
 loop-i-init c =
     let a = c.args in
-    (omega arith, lays_same (sym (chunks-none (chunk_at a.bytes.now))) (lays_start a.text.now a.at))
+    lays_same (sym (chunks-none (chunk_at a.bytes.now))) (lays_start a.text.now a.at.now)
 
-pub put_byte-t-requires : goal.put_byte-t-requires
-put_byte-t-requires c =
+pub put_byte-requires : goal.put_byte-requires
+put_byte-requires c =
     let l = c.loop-i in
-    omega (arith, l.invariant.1.next, l.invariant.1.size, length_text c.args.bytes.now l.i, c.requires, c.loop-i-test.true)
+    omega (arith, l.invariant.next, l.invariant.size, length_text c.args.bytes.now l.i, c.requires, c.loop-i-test.true)
 
 pub loop-i-preserved : goal.loop-i-preserved
 loop-i-preserved c =
     let bs = c.args.bytes.now in
     let l = c.loop-i in
-    (omega arith, lays_same (sym (chunks-more (chunk_at bs) l.i)) (lays_on l.invariant.1 c.put_byte-t.ensures))
+    lays_same (sym (chunks-more (chunk_at bs) l.i)) (lays_on l.invariant c.put_byte.ensures)
 
 pub returns : goal.returns
 returns c =
     let bs = c.args.bytes.now in
     let l = c.loop-i in
-    let e : l.i ≡ length bs = omega (arith, l.invariant.0, c.loop-i-test.false) in
-    lays_same (ap (chunks (chunk_at bs)) e ∙ text_is bs) l.invariant.1
+    let e : l.i ≡ length bs = omega (arith, l.auto.i-end, c.loop-i-test.false) in
+    lays_same (ap (chunks (chunk_at bs)) e ∙ text_is bs) l.invariant

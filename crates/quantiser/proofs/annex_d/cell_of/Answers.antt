@@ -7,8 +7,8 @@ use Rattle.quantiser.proofs.annex_d.cell_of.Goals.{Else-depth_ho-gt4}
 at : (c : Else-depth_ho-gt4) → PlaceAt c.args.depth c.args.depth_ho
 at c = place c.args.depth c.args.depth_ho c.if-depth_ho-gt4.false
 
-pub returns-then-depth_ho-gt4 : goal.returns-then-depth_ho-gt4
-returns-then-depth_ho-gt4 c = cell_past c.args.depth c.args.depth_ho c.if-depth_ho-gt4.true
+pub returns-then-depth_ho-gt4-clause-is : goal.returns-then-depth_ho-gt4-clause-is
+returns-then-depth_ho-gt4-clause-is c = cell_past c.args.depth c.args.depth_ho c.if-depth_ho-gt4.true
 
 pub overflow_sub-k : goal.overflow_sub-k
 overflow_sub-k c = (at (goal.at.overflow_sub-k c).Else-depth_ho-gt4).order
@@ -16,8 +16,8 @@ overflow_sub-k c = (at (goal.at.overflow_sub-k c).Else-depth_ho-gt4).order
 pub overflow_add-result : goal.overflow_add-result
 overflow_add-result c = record { fits = (at (goal.at.overflow_add-result c).Else-depth_ho-gt4).small c.if-depth-k.true }
 
-pub returns-then-depth-k : goal.returns-then-depth-k
-returns-then-depth-k c = (at (goal.at.returns-then-depth-k c).Else-depth_ho-gt4).there c.if-depth-k.true
+pub returns-then-depth-k-clause-is : goal.returns-then-depth-k-clause-is
+returns-then-depth-k-clause-is c = (at (goal.at.returns-then-depth-k-clause-is c).Else-depth_ho-gt4).there c.if-depth-k.true
 
-pub returns-else-depth-k : goal.returns-else-depth-k
-returns-else-depth-k c = (at (goal.at.returns-else-depth-k c).Else-depth_ho-gt4).not_there c.if-depth-k.false
+pub returns-else-depth-k-clause-is : goal.returns-else-depth-k-clause-is
+returns-else-depth-k-clause-is c = (at (goal.at.returns-else-depth-k-clause-is c).Else-depth_ho-gt4).not_there c.if-depth-k.false

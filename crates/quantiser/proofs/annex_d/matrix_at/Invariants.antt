@@ -1,12 +1,8 @@
 -- `quantiser::annex_d::matrix_at` meets its contract. The invariant: the first i values stand in their places.
 use mathlib.Core.Path.{◌≡◌}
-use Prim.Native.Nat.{◌-◌, ◌≤◌}
 use Rattle.quantiser.specs.Code.Cells.{matrix_at}
 use Rattle.quantiser.specs.Laws.Cell.{filled}
 use Rattle.quantiser.proofs.annex_d.matrix_at.Given as goal
 
 abbrev pub invariant-loop-i : goal.invariant-loop-i
-invariant-loop-i l = (l.i ≤ 14) × (l.values ≡ filled (matrix_at l.table l.cell) l.i)
-
-abbrev pub decreases-loop-i : goal.decreases-loop-i
-decreases-loop-i l = 14 - l.i
+invariant-loop-i l = l.values ≡ filled (matrix_at l.table l.cell) l.i

@@ -6,16 +6,17 @@ use Rattle.quantiser.specs.Quant.{quant_offset}
 use Rattle.quantiser.specs.Laws.Cap.{quant_offset_half}
 use Rattle.quantiser.proofs.factors.offset_by.Goals as goal
 
-pub returns-then-index-eq0 : goal.returns-then-index-eq0
+pub returns-in-0 : goal.returns-in-0
 unfolding quant_offset
-returns-then-index-eq0 c = (sym (ap quant_offset c.if-index-eq0.true), omega arith)
+returns-in-0 c = (sym (ap quant_offset c.in-0.is), omega arith)
 
-pub returns-then-index-eq1 : goal.returns-then-index-eq1
+pub returns-in-1 : goal.returns-in-1
 unfolding quant_offset
-returns-then-index-eq1 c = (sym (ap quant_offset c.if-index-eq1.true), omega arith)
+returns-in-1 c = (sym (ap quant_offset c.in-1.is), omega arith)
 
-pub returns : goal.returns
-returns c =
+pub returns-in_default : goal.returns-in_default
+returns-in_default c =
+    let h = c.in_default in
     let i = c.args.index in
     let e : c.cap.result / 2 ≡ quant_offset i = rw (quant_offset_half i (omega arith), ← c.requires.0, c.cap.ensures.0) in
     (e, omega arith)

@@ -1,42 +1,24 @@
--- `replay::words::put_all` is safe: the bits of a case fit the 24 bytes.
-use mathlib.Core.Bool.{true}
-use lib.ListN.{length-replicate}
+-- `replay::codes::put_all` is safe: the bits of a case fit the 24 bytes.
+use Rattle.std.proofs.Common.{arith}
 use Rattle.codewords.specs.Code.Writer.{Room}
-use Rattle.codewords.specs.Laws.Writer.{room_after}
-use Rattle.replay.specs.Laws.Put.{short}
-use native.Mathlib.Omega.{arith}
-use Rattle.replay.proofs.codes.put_all.Lts as lts
-use Rattle.replay.proofs.codes.put_all.Tie as tie
-use Rattle.replay.proofs.codes.put_all.Reads as reads
+use Rattle.replay.specs.Laws.Put.{ones_room, case_room, end_room}
 use Rattle.replay.proofs.codes.put_all.Goals as goal
-use Rattle.replay.proofs.codes.put_all.Goals.{After-slice_known-3-1, Start}
+use Rattle.replay.proofs.codes.put_all.Goals.{After-put_one}
 
--- a place on the way to a goal
-abbrev Raw-After-slice_known3 : Type 0
-Raw-After-slice_known3 = lts.After-slice_known3 tie.the-claims reads.Pre reads.Post
+pub put_one-requires : goal.put_one-requires
+put_one-requires c = (case_room c.args.p c.requires.1.1 (ones_room c.args.s c.requires.0 c.new-w.ensures c.requires.1.0 c.put_ones.ensures), c.requires.1.1)
 
-abbrev Raw-Start : Type 0
-Raw-Start = lts.Start tie.the-claims reads.Pre reads.Post
-
--- a case's bits fit the 24 bytes
-ones_room : (c : Raw-Start) → Room c.args.out.now (record { at = 0; pending = 0; pending_bits = 0 }) 192
-ones_room c = record { sound = record { part = omega arith; small = omega arith }; room = omega (arith, c.requires.0) }
-
-end-room : (c : Raw-After-slice_known3) → Room c.before.before.put_one-b.new.out c.before.before.put_one-b.result 8
-end-room c =
-    let st = c.before.before.before.before.before.before.before.before.before in
-    let p = c.before.before.before.before.before.before.put_ones-a.ensures in
-    let r = room_after 185 (ones_room st) p (omega (arith, st.requires.1.0, length-replicate st.args.s true)) in
-    room_after 8 r c.before.before.put_one-b.ensures (omega (arith, short st.args.p st.requires.1.1))
-
-pub put_one-b-requires : goal.put_one-b-requires
-put_one-b-requires c = (room_after _ (ones_room (goal.at.put_one-b-requires c).Start) c.put_ones-a.ensures (omega (arith, c.requires.1.0, short c.args.p c.requires.1.1, length-replicate c.args.s true)), c.requires.1.1)
+-- a byte more fits
+byte : (c : After-put_one) → Room c.put_one.new.out c.put_one.new.w 8
+byte c = end_room c.args.p c.requires.1.1 (ones_room c.args.s c.requires.0 c.new-w.ensures c.requires.1.0 c.put_ones.ensures) c.put_one.ensures
 
 pub overflow_mul-bits : goal.overflow_mul-bits
-overflow_mul-bits c = omega (arith, end-room c.before)
+overflow_mul-bits c = omega (arith, (byte (goal.at.overflow_mul-bits c).After-put_one).room)
 
 pub overflow_add-bits : goal.overflow_add-bits
-overflow_add-bits c = omega (arith, end-room (goal.at.overflow_add-bits c).After-slice_known-3-1.before)
+overflow_add-bits c = omega (arith, (byte (goal.at.overflow_add-bits c).After-put_one).room)
 
 pub byte_align-requires : goal.byte_align-requires
-byte_align-requires c = let r = end-room (goal.at.byte_align-requires c).After-slice_known-3-1.before in record { sound = r.sound; room = omega (arith, r.room, r.sound.part) }
+byte_align-requires c =
+    let r = byte (goal.at.byte_align-requires c).After-put_one in
+    record { sound = r.sound; room = omega (arith, r.room, r.sound.part) }

@@ -1,18 +1,9 @@
 -- `lift::analyse` meets its contract. The loop's invariant: all stages from k on are undone.
-use Rattle.std.proofs.Common.{◌≡◌, ℕ, ◌+◌, ◌*◌, ◌≤◌, List, length, drop, ℤ}
+use Rattle.std.proofs.Common.{◌≡◌, drop}
 use Rattle.laws.specs.Wrap.{wrap}
 use Rattle.wavelet.specs.Lifting.{analysis}
 use Rattle.wavelet.specs.Filters.{filter_of}
 use Rattle.wavelet.proofs.lift.analyse.Given as goal
 
-pub record I (xs : List ℤ) (i : ℕ) (ys : List ℤ) (k : ℕ) : Type 0 where
-  pub k_le : k ≤ length (filter_of i).stages
-  pub room : 2 * i + length (filter_of i).stages ≤ 16
-  pub long : length ys ≡ length xs
-  pub now_is : ys ≡ analysis wrap (drop k (filter_of i).stages) xs
-
 abbrev pub invariant-loop-k : goal.invariant-loop-k
-invariant-loop-k l = I l.initial.row l.index l.row l.k
-
-abbrev pub decreases-loop-k : goal.decreases-loop-k
-decreases-loop-k l = l.k
+invariant-loop-k l = l.row ≡ analysis wrap (drop l.k (filter_of l.index).stages) l.initial.row

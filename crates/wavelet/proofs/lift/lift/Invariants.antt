@@ -1,5 +1,5 @@
 -- `lift::lift` meets its contract. The loop's invariant: the row is what the first n updates leave.
-use Rattle.std.proofs.Common.{◌≡◌, ℕ, ◌-◌, ◌/◌, ◌≤◌, Bool, List, length, ℤ}
+use Rattle.std.proofs.Common.{◌≡◌, ℕ, ◌-◌, ◌/◌, ◌≤◌, Bool, not, List, length, ℤ}
 use Rattle.laws.specs.Wrap.{wrap}
 use Rattle.wavelet.specs.Lifting.{Stage, lifted}
 use Rattle.wavelet.specs.Code.Table.{stage_of}
@@ -11,7 +11,7 @@ pub record I (a₀ : List ℤ) (st : Stage) (plus : Bool) (a : List ℤ) (n : �
   pub now_is : a ≡ lifted wrap st plus n a₀
 
 abbrev pub invariant-loop-n : goal.invariant-loop-n
-invariant-loop-n l = I l.initial.a (stage_of l.s) l.plus l.a l.n
+invariant-loop-n l = I l.initial.a (stage_of l.s) (not l.s.adds) l.a l.n
 
 abbrev pub decreases-loop-n : goal.decreases-loop-n
 decreases-loop-n l = length l.initial.a / 2 - l.n

@@ -9,5 +9,5 @@ pub returns : goal.returns
 unfolding stage_of
 returns c =
     let a = c.args in
-    let e : c.within.result ≡ place (stage_of a.s) a.len a.n a.k = c.within.ensures ∙ rw c.monus-c.ensures in
-    (e, rw e (place_law (stage_of a.s) a.len a.n a.k c.requires.0.side c.requires.1.1.0).inside)
+    let e : c.within.result ≡ place (stage_of a.s) a.len a.n a.k = c.within.ensures ∙ rw c.saturating_sub-c.ensures in
+    (e, rw e (place_law (stage_of a.s) a.len a.n a.k a.s.side c.requires.1.0).inside)

@@ -1,7 +1,5 @@
 -- `plane::h_analysis` meets its contract.
-use Rattle.std.proofs.Common.{◌*◌, drop}
-use Rattle.laws.specs.Code.Window.{piece}
-use Rattle.laws.specs.Plane.{as_plane}
+use Rattle.wavelet.specs.Code.Level.{plane_at}
 use Rattle.wavelet.specs.Laws.Level.{h_level, rows_there}
 use Rattle.wavelet.proofs.plane.h_analysis.Goals as goal
 
@@ -11,5 +9,5 @@ returns c =
     let p = c.requires.1.0 in
     let r = c.rows in
     let b = c.h_bands in
-    h_level a.n a.off a.h a.w a.work.now p a.ih (as_plane a.w (piece a.off (a.h * a.w) (drop a.n a.work.now))) r.new.work b.new.work c.requires.0
-    (rows_there a.n a.off a.h a.w a.work.now p a.ih r.new.work r.ensures) b.ensures
+    h_level a.s.n a.s.off a.s.h a.s.w a.work.now p a.ih (plane_at a.s a.work.now) r.new.work b.new.work c.requires.0
+    (rows_there a.s.n a.s.off a.s.h a.s.w a.work.now p a.ih r.new.work r.ensures) b.ensures

@@ -6,4 +6,4 @@ pub returns : goal.returns
 returns c =
     let a = c.args in
     let b = c.bands in
-    h_bands a.n a.off a.h a.w a.work.now c.requires.1 b.new.work b.ensures
+    h_bands a.s.n a.s.off a.s.h a.s.w a.work.now c.requires.1 b.new.work b.ensures

@@ -1,6 +1,9 @@
 -- `coder::analysis::analyse` meets its contract.
-use Prim.Native.Nat.{ℕ, ◌+◌, ◌-◌, ◌*◌}
-use lib.ListN.{drop}
+use mathlib.Core.Path.{◌≡◌, sym}
+use Prim.Native.Nat.{ℕ, ◌+◌, ◌*◌, ◌≤◌}
+use lib.IntN.{pos}
+use lib.ListN.{length, take, drop, replicate}
+use Rattle.std.proofs.Common.{length-take-le}
 use Rattle.unit.proofs.Laws.Valid.{levels_few}
 use Rattle.unit.specs.Sizes.{luma_size, colour_size}
 use Rattle.unit.specs.Three.{planes}
@@ -8,7 +11,7 @@ use Rattle.picture.specs.Laws.Analysis.{padded_asks, taken_is, Taken, taken_of_l
 use native.Mathlib.Omega.{arith}
 use borrow.Author.Rules.{rules}
 use Rattle.picture.proofs.coder.analysis.analyse.Goals as goal
-use Rattle.picture.proofs.coder.analysis.analyse.Goals.{After-component_of-colour, After-shared_slice_known-3-1}
+use Rattle.picture.proofs.coder.analysis.analyse.Goals.{After-analyse_components, After-component_of-colour, After-shared_slice_known-3-1}
 
 -- samples have 16 bits
 samples : (c : After-shared_slice_known-3-1) → Sampled (planes c.args.y.now c.args.c1.now c.args.c2.now)
@@ -42,22 +45,6 @@ padded_size-requires-2 c =
     let k = c.colour_size-c in
     padded_asks c.args.s k.result (colour_size c.args.s) (levels_few c.args.s c.requires.shape) c.requires.colour k.ensures
 
-pub overflow_mul-front : goal.overflow_mul-front
-overflow_mul-front c = omega (arith, (known (goal.at.overflow_mul-front c).After-component_of-colour).luma_few)
-
-pub overflow_mul-front-2 : goal.overflow_mul-front-2
-overflow_mul-front-2 c = omega (arith, (known (goal.at.overflow_mul-front-2 c).After-component_of-colour).colour_few)
-
-pub overflow_add-front : goal.overflow_add-front
-overflow_add-front c = let k = known (goal.at.overflow_add-front c).After-component_of-colour in omega (arith, k.luma_few, k.colour_few)
-
-pub overflow_mul-front-3 : goal.overflow_mul-front-3
-overflow_mul-front-3 c = omega (arith, (known (goal.at.overflow_mul-front-3 c).After-component_of-colour).colour_few)
-
-pub overflow_add-front-2 : goal.overflow_add-front-2
-overflow_add-front-2 c =
-    let k = known (goal.at.overflow_add-front-2 c).After-component_of-colour in omega (arith, k.luma_few, k.colour_few)
-
 pub analyse_components-requires : goal.analyse_components-requires
 analyse_components-requires c =
     let a = c.args in
@@ -65,11 +52,23 @@ analyse_components-requires c =
     let u = c.component_of-colour.result in
     components_in a.s (planes a.y.now a.c1.now a.c2.now) a.work.now c.requires l u (known (goal.at.analyse_components-requires c).After-component_of-colour) (l.pw * l.ph + u.pw * u.ph + u.pw * u.ph) (front_is a.s l u (known (goal.at.analyse_components-requires c).After-component_of-colour))
 
-pub slice_bounds-clear-end : goal.slice_bounds-clear-end
-slice_bounds-clear-end c =
+-- the front stands in the work slice
+room : (c : After-analyse_components) → let l = c.component_of-luma.result in let u = c.component_of-colour.result in
+    Taken c.args.s l u → l.pw * l.ph + u.pw * u.ph + u.pw * u.ph ≤ length c.analyse_components.new.work
+room c k =
     let a = c.args in
     let r = c.analyse_components in
-    front_room a.s (planes a.y.now a.c1.now a.c2.now) a.work.now r.new.work c.requires c.component_of-luma.result c.component_of-colour.result (known (goal.at.slice_bounds-clear-end c).After-component_of-colour) r.auto.work
+    front_room a.s (planes a.y.now a.c1.now a.c2.now) a.work.now r.new.work c.requires c.component_of-luma.result c.component_of-colour.result k r.auto.work
+
+pub slice_bounds-fill-end : goal.slice_bounds-fill-end
+slice_bounds-fill-end c =
+    let g = goal.at.slice_bounds-fill-end c in
+    room g.After-analyse_components (known g.After-component_of-colour)
+
+pub slice_bounds-fill-end-2 : goal.slice_bounds-fill-end-2
+slice_bounds-fill-end-2 c =
+    let g = goal.at.slice_bounds-fill-end-2 c in
+    sym (length-take-le _ c.analyse_components.new.work (room g.After-analyse_components (known g.After-component_of-colour)))
 
 pub returns : goal.returns
 returns c =
@@ -78,9 +77,10 @@ returns c =
     let u = c.component_of-colour.result in
     let w = a.work.now in
     let r = c.analyse_components in
-    let z = c.clear in
-    let n : ℕ = l.pw * l.ph + u.pw * u.ph + u.pw * u.ph in (
-      analysed-of a.s (planes a.y.now a.c1.now a.c2.now) w r.new.work z.new.a c.requires (samples (goal.at.returns c).After-shared_slice_known-3-1) l u (known (goal.at.returns c).After-component_of-colour) n (n - 0) (front_is a.s l u (known (goal.at.returns c).After-component_of-colour)) (omega arith)
-          (drop (l.ph * l.pw + u.ph * u.pw + u.ph * u.pw) (drop n w)) r.auto.work r.ensures z.ensures (search rules),
+    let n : ℕ = l.pw * l.ph + u.pw * u.ph + u.pw * u.ph in
+    let z = c.fill.new.self in
+    let e : z ≡ replicate (length (take n r.new.work)) (pos 0) = search rules in (
+      analysed-of a.s (planes a.y.now a.c1.now a.c2.now) w r.new.work z c.requires (samples (goal.at.returns c).After-shared_slice_known-3-1) l u (known (goal.at.returns c).After-component_of-colour) n (front_is a.s l u (known (goal.at.returns c).After-component_of-colour))
+          (drop (l.ph * l.pw + u.ph * u.pw + u.ph * u.pw) (drop n w)) r.auto.work r.ensures e (search rules),
       search rules,
     )

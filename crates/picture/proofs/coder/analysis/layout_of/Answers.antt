@@ -5,4 +5,4 @@ use Rattle.picture.proofs.coder.analysis.layout_of.Goals as goal
 
 pub returns : goal.returns
 returns c =
-    layout_is c.args.s (lent_in c.args.m) c.args.m.values c.is_low.result c.requires.values c.is_low.ensures
+    layout_is c.args.call.settings (lent_in c.args.call.matrix) c.args.call.matrix.values c.is_low.result c.args.call.carries.values c.is_low.ensures

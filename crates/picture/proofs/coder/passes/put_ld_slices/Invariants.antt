@@ -1,10 +1,6 @@
 -- `coder::passes::put_ld_slices` meets its contract. The loop's invariant: the slices before the k-th are coded.
-use Prim.Native.Nat.{◌-◌}
 use Rattle.picture.specs.Laws.LowSlice.{Coded}
 use Rattle.picture.proofs.coder.passes.put_ld_slices.Given as goal
 
 abbrev pub invariant-loop-k : goal.invariant-loop-k
 invariant-loop-k l = Coded l.p l.n l.initial.work l.initial.out l.at l.k l.work l.out l.c
-
-abbrev pub decreases-loop-k : goal.decreases-loop-k
-decreases-loop-k l = l.slices - l.k

@@ -1,31 +1,13 @@
 -- `coder::plan::plan_again` meets its contract.
-use mathlib.Core.Path.{refl, sym, ap, ◌∙◌, subst}
-use mathlib.Core.List.{List}
-use lib.IntN.{ℤ}
-use Rattle.picture.specs.declared.high.size.Terms.{Terms}
+use mathlib.Core.Path.{sym, ap, ◌∙◌}
+use Rattle.picture.specs.declared.high.plan.Terms.{Terms}
 use Rattle.picture.specs.Code.Matrix.{lent_in}
-use Rattle.picture.specs.Code.Picture.{slices_in}
-use Rattle.picture.specs.Code.Choice.{terms_of}
-use Rattle.picture.specs.Code.Notes.{Notes}
-use Rattle.picture.specs.Laws.HighPlan.{plan_in_lem, plans_same, slices_from}
+use Rattle.picture.specs.Laws.HighPlan.{plan_in_lem}
 use Rattle.picture.proofs.coder.plan.plan_again.Goals as goal
 
 pub plan_noted_slices-requires : goal.plan_noted_slices-requires
 plan_noted_slices-requires c =
     let t = c.terms_of-t in (
-      plan_in_lem (lent_in c.args.m) c.args.c c.requires.0 c.requires.1.1.0.0 c.requires.1.1.0.1 t.result t.ensures,
-      (c.requires.1.1.1.notes (sym c.is_target.ensures ∙ c.if-is_target.false) t.result (ap (λ (t : Terms). t.rate) t.ensures), c.overhead-at.ensures.1),
-    )
-
-pub returns : goal.returns
-returns c =
-    let a = c.args in
-    let t = c.terms_of-t in
-    let o = c.overhead-at in
-    let r = c.plan_noted_slices in
-    let u = terms_of a.s (lent_in a.m) a.c in (
-      plans_same a.work.now a.p t.result u o.result (slices_from a.s (lent_in a.m) a.c) (slices_in a.p)
-          r.result t.ensures o.ensures.0 r.ensures.0,
-      subst (λ (v : List ℤ). Notes a.work.now a.p u (slices_in a.p) v) (sym r.ensures.1)
-          (c.requires.1.1.1.notes (sym c.is_target.ensures ∙ c.if-is_target.false) u refl),
+      plan_in_lem (lent_in c.args.call.matrix) c.args.c c.requires.0 c.requires.1.0.0 c.requires.1.0.1 t.result t.ensures,
+      (c.requires.1.1.notes (sym c.is_target.ensures ∙ c.if-is_target.false) t.result (ap (λ (t : Terms). t.rate) t.ensures), c.slices_from-at.ensures.1),
     )

@@ -9,7 +9,7 @@ use Rattle.picture.specs.Laws.HighPlan.{Settling}
 use Rattle.picture.proofs.coder.plan.settle.Given as goal
 
 abbrev pub invariant-loop-c : goal.invariant-loop-c
-invariant-loop-c l = Settling l.initial.work l.p l.s (lent_in l.m) l.c l.r × Notes l.initial.work l.p (terms_of l.s (lent_in l.m) l.c) (slices_in l.p) l.work
+invariant-loop-c l = Settling l.initial.work l.p l.call.settings (lent_in l.call.matrix) l.c l.r × Notes l.initial.work l.p (terms_of l.call.settings (lent_in l.call.matrix) l.c) (slices_in l.p) l.work
 
 abbrev pub decreases-loop-c : goal.decreases-loop-c
 decreases-loop-c l = 2 ^ 24 - l.c

@@ -5,14 +5,11 @@ use lib.ListN.{length}
 use Rattle.picture.specs.Laws.Head.{carried_some, carried_none}
 use Rattle.picture.proofs.front.header.matrix_len.Goals as goal
 
-pub values_len-requires : goal.values_len-requires
-values_len-requires c = c.requires
-
-pub returns-then-m : goal.returns-then-m
-returns-then-m c =
-    let e = ap length (carried_some c.args.m c.if-m.true) in
+pub returns-in-Some : goal.returns-in-Some
+returns-in-Some c =
+    let e = ap length (carried_some c.args.m c.in-Some.n c.in-Some.is) in
     let v = c.values_len.ensures in
     (omega (arith, e, v.0), omega (arith, v.1))
 
-pub returns-else-m : goal.returns-else-m
-returns-else-m c = let e = ap length (carried_none c.args.m c.if-m.false) in (omega (arith, e), omega arith)
+pub returns-in-None : goal.returns-in-None
+returns-in-None c = let e = ap length (carried_none c.args.m c.in-None.is) in (omega (arith, e), omega arith)

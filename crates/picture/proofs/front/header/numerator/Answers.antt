@@ -8,8 +8,8 @@ use Rattle.picture.proofs.front.header.numerator.Goals as goal
 pub returns : goal.returns
 returns c =
     let a = c.args in
-    let s = a.s in
-    let m = lent_in a.m in
+    let s = a.call.settings in
+    let m = lent_in a.call.matrix in
     c.numerator_after.ensures
     ∙ ap (numerator_after s m) (c.numerator_after-first.ensures ∙ ap (numerator_after s m) c.target_of.ensures)
     ∙ sym (numerator_twice s m)

@@ -8,11 +8,8 @@ use lib.ListN.{length}
 use Rattle.unit.specs.Parameters.{matrix_bits}
 use Rattle.picture.specs.Code.Matrix.{lent_in}
 use Rattle.picture.specs.Code.Head.{slice_in}
-use Rattle.picture.specs.Laws.Head.{carried_is, carries_places, bytes_of_parts}
+use Rattle.picture.specs.Laws.Head.{carried_is, bytes_of_parts}
 use Rattle.picture.proofs.front.header.overhead.Goals as goal
-
-pub matrix_len-requires : goal.matrix_len-requires
-matrix_len-requires c = carries_places c.requires.carries
 
 pub returns : goal.returns
 returns c =
@@ -20,5 +17,5 @@ returns c =
     let x = c.shape_len.ensures in
     let y = c.slice_parameters_len.ensures in
     let z = c.matrix_len.ensures in
-    let e = ap (λ (o : Option (List ℕ)). length (matrix_bits o)) (carried_is c.requires.carries) in
-    (omega (arith, bytes_of_parts a.s (lent_in a.m) (slice_in a.p), x.0, y.0, z.0, e), omega (arith, x.1, y.1, z.1))
+    let e = ap (λ (o : Option (List ℕ)). length (matrix_bits o)) (carried_is a.call.carries) in
+    (omega (arith, bytes_of_parts a.call.settings (lent_in a.call.matrix) (slice_in a.p), x.0, y.0, z.0, e), omega (arith, x.1, y.1, z.1))

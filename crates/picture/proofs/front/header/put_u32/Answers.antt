@@ -5,4 +5,4 @@ use Rattle.picture.proofs.front.header.put_u32.Goals as goal
 
 pub put_nbits-requires : goal.put_nbits-requires
 put_nbits-requires c =
-    (rw (length-lit 32 c.args.v) at c.requires, omega arith)
+    omega (arith, length-lit 32 c.args.v)

@@ -1,25 +1,15 @@
-use mathlib.Core.Path.{refl, ◌∙◌}
-use Rattle.picture.specs.Laws.Refusal.{above_here, above_next, above_none}
-use native.Mathlib.Omega.{arith}
+-- `front::refusal::any_above` meets its contract.
+use Rattle.std.proofs.Common.{◌∙◌, refl, ltb, ◌||◌, rules, tests}
+use Rattle.std.specs.List.{list_any}
+use Rattle.std.proofs.lemmas.Iterator.{YieldsList-from_slice}
+use Rattle.std.proofs.lemmas.Iterator.Search.{any_from_yields_List}
+use Rattle.std.proofs.lemmas.List.Recursion.{same_from_clauses}
+use Rattle.unit.specs.Refusal.{any_above}
 use Rattle.picture.proofs.front.refusal.any_above.Goals as goal
-
-pub loop-i-init : goal.loop-i-init
-loop-i-init c = (omega arith, refl)
-
-pub returns-then-values-i : goal.returns-then-values-i
-returns-then-values-i c =
-    let a = c.args in
-    let l = c.loop-i in
-    above_here a.most a.values.now l.i c.loop-i-test.true c.if-values-i.true ∙ l.invariant.1
-
-pub loop-i-preserved : goal.loop-i-preserved
-loop-i-preserved c =
-    let a = c.args in
-    let l = c.loop-i in
-    (omega arith, above_next a.most a.values.now l.i c.loop-i-test.true c.if-values-i.false ∙ l.invariant.1)
 
 pub returns : goal.returns
 returns c =
-    let a = c.args in
-    let l = c.loop-i in
-    above_none a.most a.values.now l.i c.loop-i-test.false ∙ l.invariant.1
+    let most = c.args.most in
+    let vs = c.args.values.now in
+    any_from_yields_List (ltb most) _ _ c.any.result c.any.ensures.ran (YieldsList-from_slice vs cc) (λ v b q k. search (rules, tests))
+    ∙ same_from_clauses (list_any (ltb most)) (any_above most) (λ v b. ltb most v || b) refl (λ v w. refl) (λ v w. refl) vs

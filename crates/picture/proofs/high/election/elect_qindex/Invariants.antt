@@ -8,7 +8,7 @@ use Rattle.picture.specs.Laws.Search.{Searches}
 use Rattle.picture.proofs.high.election.elect_qindex.Given as goal
 
 abbrev pub invariant-loop-r : goal.invariant-loop-r
-invariant-loop-r l = Searches (fits_by l.t.prefix l.t.scaler l.share (numbers_in l.work l.p l.k)) l.t.lo (last_index HighQuality) l.r × ((1 ≤ l.step) × (l.step ≤ 256))
+invariant-loop-r l = Searches (fits_by l.d.terms.prefix l.d.terms.scaler l.share (numbers_in l.work l.d.picture l.k)) l.d.terms.lo (last_index HighQuality) l.r × ((1 ≤ l.step) × (l.step ≤ 256))
 
 abbrev pub decreases-loop-r : goal.decreases-loop-r
 decreases-loop-r l = l.r.hi - l.r.lo

@@ -19,26 +19,26 @@ use Rattle.picture.proofs.high.notes.noted_choice.Goals as goal
 use Rattle.picture.proofs.high.notes.noted_choice.Goals.{Start}
 
 -- where the work slice reaches so far the choice stands there, and it has few bits
-stands : (c : Start) → let a = c.args in a.p.end + 7 * a.k + 6 < length a.work.now → ChoiceAt a.work.now (a.p.end + 7 * a.k) (choice_in a.work.now a.p a.t a.k)
+stands : (c : Start) → let a = c.args in a.d.picture.end + 7 * a.k + 6 < length a.work.now → ChoiceAt a.work.now (a.d.picture.end + 7 * a.k) (choice_in a.work.now a.d.picture a.d.terms a.k)
 stands c h = c.requires.1.1.0.choice c.args.k c.requires.1.0 h
 
-few : (c : Start) → let a = c.args in FewBits (choice_in a.work.now a.p a.t a.k)
+few : (c : Start) → let a = c.args in FewBits (choice_in a.work.now a.d.picture a.d.terms a.k)
 few c =
     let a = c.args in
-    own_few a.work.now a.p a.t a.k _ c.requires.0.arranged (index-most a.work.now a.p a.t a.k c.requires.0.terms) refl
+    own_few a.work.now a.d.picture a.d.terms a.k _ c.args.d.arranged (index-most a.work.now a.d.picture a.d.terms a.k c.args.d.fits) refl
 
 -- its words stand
-stood : (c : Start) → let a = c.args in words_at a.work.now a.from (length (words_in a.work.now a.p a.t a.k)) ≡ words_in a.work.now a.p a.t a.k
+stood : (c : Start) → let a = c.args in words_at a.work.now a.from (length (words_in a.work.now a.d.picture a.d.terms a.k)) ≡ words_in a.work.now a.d.picture a.d.terms a.k
 stood c =
     let a = c.args in
-    ap (λ (i : ℕ). words_at a.work.now i (length (words_in a.work.now a.p a.t a.k))) c.requires.1.1.1
-    ∙ words_stand a.work.now a.work.now a.p a.t (slices_in a.p) a.k c.requires.1.0 c.requires.1.1.0.words
+    ap (λ (i : ℕ). words_at a.work.now i (length (words_in a.work.now a.d.picture a.d.terms a.k))) c.requires.1.1.1
+    ∙ words_stand a.work.now a.work.now a.d.picture a.d.terms (slices_in a.d.picture) a.k c.requires.1.0 c.requires.1.1.0.words
 
 -- the index that is read
-index_is : (c : Start) → let a = c.args in a.p.end + 7 * a.k + 6 < length a.work.now
-    → (to_z w64 (of_z w64 (at a.work.now (a.p.end + 7 * a.k))) ≡ pos (index_in a.work.now a.p a.t a.k)) × (index_in a.work.now a.p a.t a.k ≤ 255)
+index_is : (c : Start) → let a = c.args in a.d.picture.end + 7 * a.k + 6 < length a.work.now
+    → (to_z w64 (of_z w64 (at a.work.now (a.d.picture.end + 7 * a.k))) ≡ pos (index_in a.work.now a.d.picture a.d.terms a.k)) × (index_in a.work.now a.d.picture a.d.terms a.k ≤ 255)
 index_is c h =
-    let q : ℕ = index_in c.args.work.now c.args.p c.args.t c.args.k in
+    let q : ℕ = index_in c.args.work.now c.args.d.picture c.args.d.terms c.args.k in
     let m : q ≤ 255 = (few c).index in
     (rw (stands c h).index (to_z-of_z {w = w64} {z = pos q} (fit (pos q) (omega arith))), m)
 
@@ -64,13 +64,13 @@ returns-then-i-work c =
 pub choice_of-requires : goal.choice_of-requires
 choice_of-requires c =
     let a = c.args in
-    (c.requires.0, (c.requires.1.0, omega (arith, c.requires.1.1.1, words_room a.work.now a.p a.t a.k c.requires.0.arranged c.requires.1.0)))
+    (c.requires.0, (c.requires.1.0, omega (arith, c.requires.1.1.1, words_room a.work.now a.d.picture a.d.terms a.k c.args.d.arranged c.requires.1.0)))
 
 pub returns : goal.returns
 returns c =
     let a = c.args in
     let r = c.choice_of.ensures in (
       r.0,
-      r.1.0 ∙ laid_again a.work.now a.from (words_in a.work.now a.p a.t a.k)
-          (omega (arith, c.requires.1.1.1, words_end a.work.now a.p a.t a.k c.requires.0.arranged c.requires.1.0, c.requires.0.small.order, c.requires.0.small.long)) (stood (goal.at.returns c).Start),
+      r.1.0 ∙ laid_again a.work.now a.from (words_in a.work.now a.d.picture a.d.terms a.k)
+          (omega (arith, c.requires.1.1.1, words_end a.work.now a.d.picture a.d.terms a.k c.args.d.arranged c.requires.1.0, c.requires.0.order, c.requires.0.long)) (stood (goal.at.returns c).Start),
     )

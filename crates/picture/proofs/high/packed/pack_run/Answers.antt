@@ -6,79 +6,62 @@ use Rattle.picture.specs.Laws.Layout.{start_first, strip_in, strip_from, start-t
 use Rattle.picture.specs.Laws.Packed.{packs_same, packs_run-none, run_packable, band_ready, band-turn}
 use Rattle.picture.proofs.high.packed.pack_run.Goals as goal
 
-pub overflow_add-bands : goal.overflow_add-bands
-overflow_add-bands c = omega (arith, c.requires.holds.0.layout.depths)
-
-pub overflow_mul-bands : goal.overflow_mul-bands
-overflow_mul-bands c = omega (arith, c.requires.holds.0.layout.depths)
-
-pub overflow_add-bands-2 : goal.overflow_add-bands-2
-overflow_add-bands-2 c = omega (arith, c.requires.holds.0.layout.depths)
-
-pub window_at-v-requires : goal.window_at-v-requires
-window_at-v-requires c = run-window c.requires.holds.0 0 (omega arith)
+pub first_window-v-requires : goal.first_window-v-requires
+first_window-v-requires c = run-window c.requires.1.holds.0 0 (omega arith)
 
 pub loop-n-init : goal.loop-n-init
 loop-n-init c =
     let a = c.args in
-    (omega arith, (sym (start_first a.l a.c), (window-first a.l a.c a.k _ c.window_at-v.ensures, packs_run-none a.work.now a.l a.c a.k a.q _)))
+    (sym (start_first a.r.layout a.r.first), (window-first _ _ _ _ c.first_window-v.ensures, packs_run-none a.work.now a.r.layout a.r.first a.r.slice a.r.index _))
 
 pub next_window-v-requires : goal.next_window-v-requires
 next_window-v-requires c =
     let v = c.loop-n in
-    (run-window c.requires.holds.0 v.n c.loop-n-test.true, v.invariant.1.1.0)
+    (run-window c.requires.1.holds.0 v.n (rw c.band_count-n-end.ensures at c.loop-n-test.true), v.invariant.1.0)
 
 pub strip_in-s-requires : goal.strip_in-s-requires
 strip_in-s-requires c =
     let v = c.loop-n in
-    (strip_in c.requires.holds.0 v.n v.start c.loop-n-test.true v.invariant.1.0, c.next_window-v.ensures)
+    rw c.requires.0 (strip_in c.requires.1.holds.0 v.n v.start (rw c.band_count-n-end.ensures at c.loop-n-test.true) v.invariant.0, c.next_window-v.ensures)
 
-pub pack_strip-t-requires : goal.pack_strip-t-requires
-pack_strip-t-requires c =
+pub pack_strip-requires : goal.pack_strip-requires
+pack_strip-requires c =
     let a = c.args in
-    let h = c.requires.holds in
+    let h = c.requires.1.holds in
     let v = c.loop-n in
     let s = c.strip_in-s in
-    let f = strip_from a.l a.c a.c false a.k a.q s.result v.n v.start s.ensures v.invariant.1.0 in
-    band_ready a.work.now a.l a.c a.k a.q h.0 h.1.0 s.result v.n c.loop-n-test.true f
-    (run_packable a.at _ h.0.small h.1.1) v.invariant.1.1.1
+    let e = rw c.requires.0 at s.ensures in
+    let f = strip_from _ _ _ _ _ _ s.result v.n v.start e v.invariant.0 in
+    band_ready a.work.now _ _ _ _ h.0 h.1.0 s.result v.n (rw c.band_count-n-end.ensures at c.loop-n-test.true) f
+    (run_packable a.at _ h.0.small h.1.1) v.invariant.1.1
 
 pub overflow_mul-start : goal.overflow_mul-start
 overflow_mul-start c =
     let a = c.args in
     let v = c.loop-n in
     let s = c.strip_in-s in
-    omega (arith, start_small a.work.now a.l a.c a.c false a.k a.q c.requires.holds.0 s.result v.n c.loop-n-test.true v.start s.ensures v.invariant.1.0)
+    omega (arith, start_small _ _ _ _ _ _ _ c.requires.1.holds.0 s.result v.n (rw c.band_count-n-end.ensures at c.loop-n-test.true) v.start (rw c.requires.0 at s.ensures) v.invariant.0)
 
 pub overflow_add-start : goal.overflow_add-start
 overflow_add-start c =
     let a = c.args in
     let v = c.loop-n in
     let s = c.strip_in-s in
-    omega (arith, start_small a.work.now a.l a.c a.c false a.k a.q c.requires.holds.0 s.result v.n c.loop-n-test.true v.start s.ensures v.invariant.1.0)
-
-pub overflow_add-n : goal.overflow_add-n
-overflow_add-n c = omega (arith, c.requires.holds.0.layout.depths, c.loop-n-test.true)
-
-pub loop-n-smaller : goal.loop-n-smaller
-loop-n-smaller c = omega (arith, c.loop-n-test.true)
+    omega (arith, start_small _ _ _ _ _ _ _ c.requires.1.holds.0 s.result v.n (rw c.band_count-n-end.ensures at c.loop-n-test.true) v.start (rw c.requires.0 at s.ensures) v.invariant.0)
 
 pub loop-n-preserved : goal.loop-n-preserved
 loop-n-preserved c =
     let a = c.args in
-    let h = c.requires.holds in
+    let h = c.requires.1.holds in
     let v = c.loop-n in
     let s = c.strip_in-s in
-    let d = c.loop-n-test.true in
-    let f = strip_from a.l a.c a.c false a.k a.q s.result v.n v.start s.ensures v.invariant.1.0 in
+    let e = rw c.requires.0 at s.ensures in
+    let f = strip_from _ _ _ _ _ _ s.result v.n v.start e v.invariant.0 in
     let p = run_packable a.at _ h.0.small h.1.1 in (
-      omega (arith, d),
+      start-turn _ _ _ _ _ _ s.result v.n v.start e v.invariant.0,
       (
-        start-turn a.l a.c a.c false a.k a.q s.result v.n v.start s.ensures v.invariant.1.0,
-        (
-          window-turn a.l a.c v.n a.k _ c.next_window-v.ensures,
-          band-turn a.work.now a.l a.c a.k a.q h.0 h.1.0 s.result v.n d f p v.invariant.1.1.1 c.pack_strip-t.ensures,
-        ),
+        window-turn _ _ v.n _ _ c.next_window-v.ensures,
+        band-turn a.work.now _ _ _ _ h.0 h.1.0 s.result v.n (rw c.band_count-n-end.ensures at c.loop-n-test.true) f p v.invariant.1.1 c.pack_strip.ensures,
       ),
     )
 
@@ -86,5 +69,5 @@ pub returns : goal.returns
 returns c =
     let a = c.args in
     let v = c.loop-n in
-    let e : v.n ≡ band_count a.l = omega (arith, v.invariant.0, c.loop-n-test.false) in
-    packs_same (ap (run_numbers a.work.now a.l a.c a.c false a.k a.q) e) v.invariant.1.1.1
+    let e : v.n ≡ band_count a.r.layout = omega (arith, v.auto.n-end, c.loop-n-test.false, c.band_count-n-end.ensures) in
+    rw c.requires.0 (packs_same (ap (run_numbers a.work.now a.r.layout a.r.first a.r.first false a.r.slice a.r.index) e) v.invariant.1.1)

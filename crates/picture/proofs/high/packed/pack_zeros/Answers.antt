@@ -15,10 +15,6 @@ use Rattle.picture.proofs.high.packed.pack_zeros.Goals as goal
 pub returns-then-n-eq0 : goal.returns-then-n-eq0
 returns-then-n-eq0 c = let a = c.args in zeros-none a.work.now a.at a.n c.if-n-eq0.true
 
-pub overflow_add-work : goal.overflow_add-work
-overflow_add-work c =
-    rw (word_is c.args.n c.requires.1) (fit (pos (mark + c.args.n)) (omega (arith, c.requires.1)))
-
 pub bounds-work-at : goal.bounds-work-at
 bounds-work-at c =
     omega (arith, c.requires.0, some-due c.args.n c.if-n-eq0.false)

@@ -1,57 +1,40 @@
-use Rattle.picture.specs.Laws.Again.{tried_none, tried_more, tried_then}
-use Rattle.picture.specs.Laws.LowRest.{slice_at, known_is, known-rebuilt}
+-- `low::bracket::bracket_at` meets its contract.
+use Rattle.picture.specs.Laws.Again.{tried_none, tried_more}
+use Rattle.picture.specs.Laws.LowRest.{slice_at, known-rebuilt}
 use native.Mathlib.Omega.{arith}
+use Rattle.picture.specs.Code.Low.{Tried}
+use Rattle.picture.specs.Code.LowRest.{Known}
 use Rattle.picture.proofs.low.bracket.bracket_at.Goals as goal
-use Rattle.picture.proofs.low.bracket.bracket_at.Goals.{then-t, else-t}
+use Rattle.picture.proofs.low.bracket.bracket_at.Goals.{Joined-t, then-t, else-t}
 
-pub probe_at-start-requires : goal.probe_at-start-requires
-probe_at-start-requires c = let h = c.requires in (slice_at c.args.work.now c.args.g h.0 h.0.small (omega (arith, h.1.0)), h.1.1)
-
-pub loop-left-init : goal.loop-left-init
-loop-left-init c =
+pub loop-step-init : goal.loop-step-init
+loop-step-init c =
+    let a = c.args in
     let t = c.probe_at-start in
     let d = t.ensures.1 in
-    (tried_none c.args.p c.args.k t.new.work d.0, ((d.1, d.1), (c.requires.1.0, (omega arith, omega arith))))
+    let h = c.requires.0 in
+    (tried_more a.s.picture a.s.k a.work.now a.work.now t.new.work a.g h.arranged h.slice (tried_none a.s.picture a.s.k a.work.now h.small) t.ensures.0 d.0, ((d.1, d.1), c.requires.1))
 
-pub moved-next-requires : goal.moved-next-requires
-moved-next-requires c = let v = c.loop-left.invariant.1.1 in (v.0, v.1.1)
-
-pub probe_at-t-requires : goal.probe_at-t-requires
-probe_at-t-requires c =
-    let v = c.loop-left in
-    let m = c.moved-next in
-    let h = c.requires in
-    (slice_at v.work m.result h.0 v.invariant.0.small (omega (arith, m.ensures)), h.1.1)
-
-pub turns_left-left-requires : goal.turns_left-left-requires
-turns_left-left-requires c = c.loop-left-test.true
-
-pub widened-step-requires : goal.widened-step-requires
-widened-step-requires c = c.loop-left.invariant.1.1.1
-
-pub loop-left-preserved : goal.loop-left-preserved
-loop-left-preserved c =
+-- the trials and the runs known after a turn
+turned : (c : Joined-t) → let v = c.probe_at-t.new.work in
+    Tried c.args.s.picture c.args.s.k c.args.work.now v × (Known v c.args.s.picture c.args.s.k c.if-t.b.low × Known v c.args.s.picture c.args.s.k c.if-t.b.high)
+turned c =
     let a = c.args in
-    let v = c.loop-left in
-    let m = c.moved-next in
+    let v = c.loop-step in
+    let q = c.moved-next.result in
     let t = c.probe_at-t in
+    let h = c.requires.0 in
     let e = t.ensures in
-    let w = c.probe_at-start.new.work in
-    let i = slice_at v.work 0 c.requires.0 v.invariant.0.small (omega arith) in
-    let low = known-rebuilt t.new.work m.result i e.0 v.invariant.1.0.0 in
-    let high = known-rebuilt t.new.work m.result i e.0 v.invariant.1.0.1 in
+    let i = slice_at v.work 0 h v.invariant.0.small (omega arith) in
+    let low = known-rebuilt t.new.work q i e.0 v.invariant.1.0.0 in
+    let high = known-rebuilt t.new.work q i e.0 v.invariant.1.0.1 in
     let here = e.1.1 in (
-      tried_more a.p a.k w v.work t.new.work m.result c.requires.0.arranged c.requires.0.slice v.invariant.0 e.0 e.1.0,
-      (elim c.if-t.branch [ then-t w ↦ (known_is w.low-is low, known_is w.high-is here) | else-t w ↦ (known_is w.low-is here, known_is w.high-is high) ], (m.ensures, c.widened-step.ensures)),
+      tried_more a.s.picture a.s.k a.work.now v.work t.new.work q h.arranged h.slice v.invariant.0 e.0 e.1.0,
+      elim c.if-t.branch [ then-t w ↦ rw w.b-is (low, here) | else-t w ↦ rw w.b-is (here, high) ],
     )
 
-pub returns : goal.returns
-returns c =
-    let a = c.args in
-    let t = c.probe_at-start in
-    let v = c.loop-left in (
-      tried_then a.p a.k a.work.now t.new.work v.work
-          (tried_more a.p a.k a.work.now a.work.now t.new.work a.g c.requires.0.arranged c.requires.0.slice (tried_none a.p a.k a.work.now c.requires.0.small) t.ensures.0 t.ensures.1.0)
-          v.invariant.0,
-      v.invariant.1.0,
-    )
+pub loop-step-preserved : goal.loop-step-preserved
+loop-step-preserved c = let t = turned (goal.at.loop-step-preserved c).Joined-t in (t.0, (t.1, c.moved-next.ensures))
+
+pub returns-then-t-down : goal.returns-then-t-down
+returns-then-t-down c = turned (goal.at.returns-then-t-down c).Joined-t

@@ -10,7 +10,7 @@ use Rattle.picture.specs.Laws.ElectLoop.{Halving}
 use Rattle.picture.proofs.low.election.elect_qindex.Given as goal
 
 abbrev pub invariant-loop-r : goal.invariant-loop-r
-invariant-loop-r l = Halving (low_fits_in l.initial.work l.p l.room l.k) l.lo (last_index LowDelay) l.r × (Tried l.p l.k l.initial.work l.work × (Known l.work l.p l.k l.low × Known l.work l.p l.k l.high))
+invariant-loop-r l = Halving (low_fits_in l.fn.work l.s.picture l.room l.s.k) l.lo (last_index LowDelay) l.r × (Tried l.s.picture l.s.k l.fn.work l.work × (Known l.work l.s.picture l.s.k l.b.low × Known l.work l.s.picture l.s.k l.b.high))
 
 abbrev pub decreases-loop-r : goal.decreases-loop-r
 decreases-loop-r l = l.r.hi - l.r.lo

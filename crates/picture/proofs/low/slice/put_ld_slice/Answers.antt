@@ -3,40 +3,37 @@ use native.Mathlib.Omega.{arith}
 use Rattle.picture.specs.Laws.LowSlice.{length_room, runs_room, ones_room, flush_room, slice_laid}
 use Rattle.picture.proofs.low.slice.put_ld_slice.Goals as goal
 
-pub put_nbits-b-requires : goal.put_nbits-b-requires
-put_nbits-b-requires c =
+pub put_nbits-requires-2 : goal.put_nbits-requires-2
+put_nbits-requires-2 c =
     let a = c.args in
     let n = c.room_of-room in
     let r = c.kept_runs-r in
     let m = c.length_bits in
-    (length_room a.out.now a.at a.work.now a.p a.n a.k a.q n.result m.result r.result n.ensures.0 m.ensures.0 r.ensures c.requires.1.0.0 c.requires.1.1.0 c.put_nbits-a.ensures, omega (arith, m.ensures.1))
+    (length_room a.out.now a.at c.new-w.ensures a.work.now a.s.picture a.n a.s.k a.q n.result m.result r.result n.ensures.0 m.ensures.0 r.ensures c.requires.1.0.0 c.requires.1.1.0 c.put_nbits.ensures, omega (arith, m.ensures.1))
 
-pub put_runs-c-requires : goal.put_runs-c-requires
-put_runs-c-requires c =
+pub put_runs-requires : goal.put_runs-requires
+put_runs-requires c =
     let a = c.args in
     let n = c.room_of-room in
     let r = c.kept_runs-r in
     let m = c.length_bits in
-    (c.requires.0, runs_room a.out.now a.at a.work.now a.p a.n a.k a.q n.result m.result r.result n.ensures.0 m.ensures.0 r.ensures c.requires.1.0.0 c.requires.1.1.0 c.put_nbits-a.ensures c.put_nbits-b.ensures)
+    (c.requires.0, runs_room a.out.now a.at c.new-w.ensures a.work.now a.s.picture a.n a.s.k a.q n.result m.result r.result n.ensures.0 m.ensures.0 r.ensures c.requires.1.0.0 c.requires.1.1.0 c.put_nbits.ensures c.put_nbits-2.ensures)
 
-pub overflow_sub-room-2 : goal.overflow_sub-room-2
-overflow_sub-room-2 c = omega (arith, c.kept_runs-r.ensures.fits)
-
-pub put_ones-d-requires : goal.put_ones-d-requires
-put_ones-d-requires c =
+pub put_ones-requires : goal.put_ones-requires
+put_ones-requires c =
     let a = c.args in
     let n = c.room_of-room in
     let r = c.kept_runs-r in
     let m = c.length_bits in
-    ones_room a.out.now a.at a.work.now a.p a.n a.k a.q n.result m.result r.result n.ensures.0 m.ensures.0 r.ensures c.requires.1.0.0 c.requires.1.1.0 c.put_nbits-a.ensures c.put_nbits-b.ensures c.put_runs-c.ensures
+    ones_room a.out.now a.at c.new-w.ensures a.work.now a.s.picture a.n a.s.k a.q n.result m.result r.result n.ensures.0 m.ensures.0 r.ensures c.requires.1.0.0 c.requires.1.1.0 c.put_nbits.ensures c.put_nbits-2.ensures c.put_runs.ensures
 
-pub flush-z-requires : goal.flush-z-requires
-flush-z-requires c =
+pub flush-requires : goal.flush-requires
+flush-requires c =
     let a = c.args in
     let n = c.room_of-room in
     let r = c.kept_runs-r in
     let m = c.length_bits in
-    flush_room a.out.now a.at a.work.now a.p a.n a.k a.q n.result m.result r.result n.ensures.0 m.ensures.0 r.ensures c.requires.1.0.0 c.requires.1.1.0 c.put_nbits-a.ensures c.put_nbits-b.ensures c.put_runs-c.ensures c.put_ones-d.ensures
+    flush_room a.out.now a.at c.new-w.ensures a.work.now a.s.picture a.n a.s.k a.q n.result m.result r.result n.ensures.0 m.ensures.0 r.ensures c.requires.1.0.0 c.requires.1.1.0 c.put_nbits.ensures c.put_nbits-2.ensures c.put_runs.ensures c.put_ones.ensures
 
 pub returns : goal.returns
 returns c =
@@ -44,4 +41,4 @@ returns c =
     let n = c.room_of-room in
     let r = c.kept_runs-r in
     let m = c.length_bits in
-    slice_laid a.out.now a.at a.work.now a.p a.n a.k a.q n.result m.result r.result n.ensures.0 m.ensures.0 r.ensures c.requires.1.0.0 c.requires.1.1.0 c.put_nbits-a.ensures c.put_nbits-b.ensures c.put_runs-c.ensures c.put_ones-d.ensures c.flush-z.ensures
+    slice_laid a.out.now a.at c.new-w.ensures a.work.now a.s.picture a.n a.s.k a.q n.result m.result r.result n.ensures.0 m.ensures.0 r.ensures c.requires.1.0.0 c.requires.1.1.0 c.put_nbits.ensures c.put_nbits-2.ensures c.put_runs.ensures c.put_ones.ensures c.flush.ensures

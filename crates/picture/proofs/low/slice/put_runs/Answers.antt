@@ -11,18 +11,18 @@ use Rattle.picture.proofs.low.slice.put_runs.Goals as goal
 use Rattle.picture.proofs.low.slice.put_runs.Goals.{Start}
 
 abbrev luma_bits : Start → Bits
-luma_bits c = codes (take c.args.r.luma (luma_in c.args.work.now c.args.p c.args.k c.args.q))
+luma_bits c = codes (take c.args.r.luma.count (luma_in c.args.work.now c.args.s.picture c.args.s.k c.args.q))
 
 abbrev colour_bits : Start → Bits
-colour_bits c = codes (take c.args.r.colour (colour_in c.args.work.now c.args.p c.args.k c.args.q))
+colour_bits c = codes (take c.args.r.colour.count (colour_in c.args.work.now c.args.s.picture c.args.s.k c.args.q))
 
-pub put_run-a-requires : goal.put_run-a-requires
-put_run-a-requires c =
-    (run_lies (run_y c.requires.0), room_first (luma_bits (goal.at.put_run-a-requires c).Start) (colour_bits (goal.at.put_run-a-requires c).Start) c.requires.1)
+pub run-requires-2 : goal.run-requires-2
+run-requires-2 c =
+    rw c.run.ensures (run_lies (run_y c.requires.0), room_first (luma_bits (goal.at.run-requires-2 c).Start) (colour_bits (goal.at.run-requires-2 c).Start) c.requires.1)
 
-pub put_run-b-requires : goal.put_run-b-requires
-put_run-b-requires c =
-    (run_lies (run_pair c.requires.0), room_rest (luma_bits (goal.at.put_run-b-requires c).Start) (colour_bits (goal.at.put_run-b-requires c).Start) c.requires.1 c.put_run-a.ensures.wrote)
+pub run-requires-3 : goal.run-requires-3
+run-requires-3 c =
+    rw c.colours.ensures (run_lies (run_pair c.requires.0), room_rest (luma_bits (goal.at.run-requires-3 c).Start) (colour_bits (goal.at.run-requires-3 c).Start) c.requires.1 (rw c.run.ensures at c.run-2.ensures))
 
 pub returns : goal.returns
-returns c = wrote_then c.requires.1.sound c.put_run-a.ensures.wrote c.put_run-b.ensures.wrote
+returns c = wrote_then c.requires.1.sound (rw c.run.ensures at c.run-2.ensures) (rw c.colours.ensures at c.run-3.ensures)

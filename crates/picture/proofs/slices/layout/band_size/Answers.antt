@@ -6,14 +6,10 @@ use Rattle.picture.specs.Code.Layout.{band_size}
 use Rattle.picture.proofs.slices.layout.band_size.Goals as goal
 
 pub subband_width-requires : goal.subband_width-requires
-subband_width-requires c =
-    let a = c.args in
-    omega (arith, c.requires.0.depths, c.level_of-level.ensures, level_most_lem a.l.depth_ho a.l.depth a.n c.requires.1)
+subband_width-requires c = let a = c.args in omega (arith, level_most_lem a.l.depth_ho a.l.depth a.n c.requires.1)
 
 pub subband_height-requires : goal.subband_height-requires
-subband_height-requires c =
-    let a = c.args in
-    omega (arith, c.requires.0.depths, c.level_of-level.ensures, level_most_lem a.l.depth_ho a.l.depth a.n c.requires.1)
+subband_height-requires c = let a = c.args in omega (arith, level_most_lem a.l.depth_ho a.l.depth a.n c.requires.1)
 
 pub returns : goal.returns
 unfolding band_size

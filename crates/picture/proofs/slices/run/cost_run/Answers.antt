@@ -1,69 +1,36 @@
-use mathlib.Core.Path.{◌≡◌, sym, ap, ◌∙◌}
-use Rattle.picture.specs.Code.Cost.{add_all}
-use Rattle.picture.specs.Code.Layout.{band_count, run_numbers}
-use Rattle.picture.specs.Laws.Layout.{start_first, strip_in, strip_from, start-turn, start_small, cost-none, cost-turn, cost_ready}
+-- `slices::run::cost_run` meets its contract.
+use mathlib.Core.Path.{◌≡◌, ap, ◌∙◌}
+use Prim.Native.Nat.{◌*◌, ◌-◌}
 use native.Mathlib.Omega.{arith}
+use Rattle.picture.specs.declared.slices.strip.Strip.{Strip}
+use Rattle.picture.specs.Code.Strip.{strip_numbers}
+use Rattle.picture.specs.Code.Cost.{add1, add_all}
+use Rattle.picture.specs.Code.Layout.{run_strip, second_of, pair_of}
+use Rattle.picture.specs.Code.Counter.{cost_counts}
+use Rattle.picture.specs.Laws.Counter.{counted_fewer, counted_after}
+use Rattle.picture.specs.Laws.Strip.{rows_small}
+use Rattle.picture.specs.Laws.Layout.{window-area, first_most, first_lies, first_part, first_length, added_whole}
 use Rattle.picture.proofs.slices.run.cost_run.Goals as goal
+use Rattle.picture.proofs.slices.run.cost_run.Goals.{After-add_strip-first}
 
-pub overflow_add-bands : goal.overflow_add-bands
-overflow_add-bands c = omega (arith, c.requires.0.holds.layout.depths)
+added : (c : After-add_strip-first) → let a = c.args in c.add_strip-first.result ≡ add_all a.t (strip_numbers a.work.now (run_strip a.r 0 0))
+added c = let a = c.args in c.add_strip-first.ensures ∙ ap (λ (s : Strip). add_all a.t (strip_numbers a.work.now s)) c.strip_in-s.ensures
 
-pub overflow_mul-bands : goal.overflow_mul-bands
-overflow_mul-bands c = omega (arith, c.requires.0.holds.layout.depths)
-
-pub overflow_add-bands-2 : goal.overflow_add-bands-2
-overflow_add-bands-2 c = omega (arith, c.requires.0.holds.layout.depths)
-
-pub loop-n-init : goal.loop-n-init
-loop-n-init c = let a = c.args in (omega arith, (sym (start_first a.l a.c), cost-none a.work.now a.l a.c a.second a.pair a.k a.q a.t))
-
-pub strip_at-s-requires : goal.strip_at-s-requires
-strip_at-s-requires c =
+pub add_strip-first-requires : goal.add_strip-first-requires
+add_strip-first-requires c =
     let a = c.args in
-    let v = c.loop-n in
-    strip_in c.requires.0.holds v.n v.start c.loop-n-test.true v.invariant.1.0
+    let s = c.strip_in-s in
+    let h = c.requires.0.holds in
+    (first_lies h _ s.result s.ensures, (tt, counted_fewer c.requires.1 (omega (arith, first_part _ _ _ _ _ _ s.result s.ensures, first_most a.r.layout a.r.first))))
 
-pub cost_strip-r-requires : goal.cost_strip-r-requires
-cost_strip-r-requires c =
+pub add_rest-requires : goal.add_rest-requires
+add_rest-requires c =
     let a = c.args in
-    let v = c.loop-n in
-    let s = c.strip_at-s in
-    let d = c.loop-n-test.true in
-    cost_ready a.work.now a.l a.c a.second a.pair a.k a.q c.requires.0.holds s.result v.n d a.t v.r (strip_from a.l a.c a.second a.pair a.k a.q s.result v.n v.start s.ensures v.invariant.1.0) v.invariant.1.1 c.requires.1
-
-pub overflow_mul-start : goal.overflow_mul-start
-overflow_mul-start c =
-    let a = c.args in
-    let v = c.loop-n in
-    let s = c.strip_at-s in
-    let d = c.loop-n-test.true in
-    omega (arith, start_small a.work.now a.l a.c a.second a.pair a.k a.q c.requires.0.holds s.result v.n d v.start s.ensures v.invariant.1.0)
-
-pub overflow_add-start : goal.overflow_add-start
-overflow_add-start c =
-    let a = c.args in
-    let v = c.loop-n in
-    let s = c.strip_at-s in
-    let d = c.loop-n-test.true in
-    omega (arith, start_small a.work.now a.l a.c a.second a.pair a.k a.q c.requires.0.holds s.result v.n d v.start s.ensures v.invariant.1.0)
-
-pub overflow_add-n : goal.overflow_add-n
-overflow_add-n c = omega (arith, c.requires.0.holds.layout.depths, c.loop-n-test.true)
-
-pub loop-n-smaller : goal.loop-n-smaller
-loop-n-smaller c = omega (arith, c.loop-n-test.true)
-
-pub loop-n-preserved : goal.loop-n-preserved
-loop-n-preserved c =
-    let a = c.args in
-    let v = c.loop-n in
-    let s = c.strip_at-s in
-    let d = c.loop-n-test.true in
-    (omega (arith, d), (start-turn a.l a.c a.second a.pair a.k a.q s.result v.n v.start s.ensures v.invariant.1.0, cost-turn a.work.now a.l a.c a.second a.pair a.k a.q a.t v.r _ s.result v.n (strip_from a.l a.c a.second a.pair a.k a.q s.result v.n v.start s.ensures v.invariant.1.0) v.invariant.1.1 c.cost_strip-r.ensures))
+    let v = c.first_window-v in
+    let s = run_strip a.r 0 0 in
+    let r = counted_after cost_counts a.t (strip_numbers a.work.now s) _ (2 * (a.r.first.width * a.r.first.height - v.result.width * v.result.height)) c.requires.1 (rows_small a.work.now s _ _)
+    (omega (arith, first_length a.work.now a.r.layout a.r.first (second_of a.r) (pair_of a.r) a.r.slice a.r.index, first_most a.r.layout a.r.first, window-area _ _ _ v.result v.ensures)) in
+    (c.requires.0, (rw (added c) r, v.ensures))
 
 pub returns : goal.returns
-returns c =
-    let a = c.args in
-    let v = c.loop-n in
-    let e : v.n ≡ band_count a.l = omega (arith, v.invariant.0, c.loop-n-test.false) in
-    v.invariant.1.1 ∙ ap (λ n. add_all a.t (run_numbers a.work.now a.l a.c a.second a.pair a.k a.q n)) e
+returns c = let a = c.args in added_whole a.work.now a.r.layout a.r.first (second_of a.r) (pair_of a.r) a.r.slice a.r.index add1 a.t _ _ (added (goal.at.returns c).After-add_strip-first) c.add_rest.ensures

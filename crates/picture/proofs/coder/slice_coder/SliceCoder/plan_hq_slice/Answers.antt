@@ -18,14 +18,14 @@ use Rattle.picture.proofs.coder.slice_coder.SliceCoder.plan_hq_slice.Goals.{Afte
 few : (c : After-choice_of-c) → FewBits c.choice_of-c.result
 few c =
     let a = c.args in
-    own_few a.work.now a.p a.t a.k _ c.requires.0.arranged (index-most a.work.now a.p a.t a.k c.requires.0.terms) c.choice_of-c.ensures.0
+    own_few a.work.now a.d.picture a.d.terms a.k _ c.args.d.arranged (index-most a.work.now a.d.picture a.d.terms a.k c.args.d.fits) c.choice_of-c.ensures.0
 
 pub note_choice-requires : goal.note_choice-requires
-note_choice-requires c = (omega (arith, c.requires.0.small.few, c.requires.0.arranged.slices, c.requires.1.0), few (goal.at.note_choice-requires c).After-choice_of-c)
+note_choice-requires c = (omega (arith, c.requires.0.few, c.args.d.arranged.slices, c.requires.1.0), few (goal.at.note_choice-requires c).After-choice_of-c)
 
 pub plan_choice-requires : goal.plan_choice-requires
 plan_choice-requires c =
-    (c.requires.0.terms, (few (goal.at.plan_choice-requires c).After-choice_of-c, (c.requires.1.1.0, omega (arith, c.requires.1.1.1, c.requires.0.small.few, c.requires.0.small.order))))
+    (few (goal.at.plan_choice-requires c).After-choice_of-c, (c.requires.1.1.0, omega (arith, c.requires.1.1.1, c.requires.0.few, c.requires.0.order)))
 
 pub returns : goal.returns
 returns c =
@@ -33,9 +33,9 @@ returns c =
     let q = c.choice_of-c in
     let n = c.note_choice in
     let r = c.plan_choice in (
-      slice_planned a.work.now a.p a.t a.k q.result a.self r.result c.requires.0.terms.scaler.0 (few (goal.at.returns c).After-choice_of-c) q.ensures.0 r.ensures.0 r.ensures.1,
+      slice_planned a.work.now a.d.picture a.d.terms a.k q.result a.self r.result c.args.d.fits.scaler.0 (few (goal.at.returns c).After-choice_of-c) q.ensures.0 r.ensures.0 r.ensures.1,
       (
-        n.ensures ∙ ap₂ (λ (v : List ℤ) (c : Choice). note_in v (a.p.end + 7 * a.k) c) q.ensures.1.0 q.ensures.0,
-        subst (Small a.p.front a.p.end) (sym n.ensures) (note_small (a.p.end + 7 * a.k) q.result (omega arith) q.ensures.1.1),
+        n.ensures ∙ ap₂ (λ (v : List ℤ) (c : Choice). note_in v (a.d.picture.end + 7 * a.k) c) q.ensures.1.0 q.ensures.0,
+        subst (Small a.d.picture.front a.d.picture.end) (sym n.ensures) (note_small (a.d.picture.end + 7 * a.k) q.result (omega arith) q.ensures.1.1),
       ),
     )

@@ -11,18 +11,15 @@ use Rattle.picture.proofs.coder.slice_coder.SliceCoder.plan_noted_slice.Goals.{A
 few : (c : After-noted_choice-c) → FewBits c.noted_choice-c.result
 few c =
     let a = c.args in
-    own_few a.work.now a.p a.t a.k _ c.requires.0.arranged (index-most a.work.now a.p a.t a.k c.requires.0.terms) c.noted_choice-c.ensures.0
+    own_few a.work.now a.d.picture a.d.terms a.k _ c.args.d.arranged (index-most a.work.now a.d.picture a.d.terms a.k c.args.d.fits) c.noted_choice-c.ensures.0
 
 pub plan_choice-requires : goal.plan_choice-requires
 plan_choice-requires c =
     let a = c.args in (
-      c.requires.0.terms,
+      few (goal.at.plan_choice-requires c).After-noted_choice-c,
       (
-        few (goal.at.plan_choice-requires c).After-noted_choice-c,
-        (
-          c.requires.1.1.1.0,
-          omega (arith, c.requires.1.1.1.1, words_room a.work.now a.p a.t a.k c.requires.0.arranged c.requires.1.0, c.requires.0.small.few, c.requires.0.small.order),
-        ),
+        c.requires.1.1.1.0,
+        omega (arith, c.requires.1.1.1.1, words_room a.work.now a.d.picture a.d.terms a.k c.args.d.arranged c.requires.1.0, c.requires.0.few, c.requires.0.order),
       ),
     )
 
@@ -31,4 +28,4 @@ returns c =
     let a = c.args in
     let q = c.noted_choice-c in
     let r = c.plan_choice in
-    (slice_planned a.work.now a.p a.t a.k q.result a.self r.result c.requires.0.terms.scaler.0 (few (goal.at.returns c).After-noted_choice-c) q.ensures.0 r.ensures.0 r.ensures.1, q.ensures.1)
+    (slice_planned a.work.now a.d.picture a.d.terms a.k q.result a.self r.result c.args.d.fits.scaler.0 (few (goal.at.returns c).After-noted_choice-c) q.ensures.0 r.ensures.0 r.ensures.1, q.ensures.1)

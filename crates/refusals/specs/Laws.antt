@@ -1,0 +1,2 @@
+-- Laws, for proofs. No contract cites these files.
+pub mod Number
