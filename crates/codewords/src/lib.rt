@@ -24,7 +24,7 @@ pub fn uint_code_len(v: u32) -> u32
 pub fn sint_code_len(v: i64) -> u32
     ensures { result ≡ length (code_s v) }
 {
-    let m = v.unsigned_abs();
+    let m = unsigned_abs(v);
     if m == 0 {
         1
     } else {

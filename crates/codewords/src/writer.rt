@@ -62,7 +62,7 @@ impl BitWriter {
         requires { Room out.old self.old (length (code_s v)) }
         ensures { Wrote out.old self.old (code_s v) out.new self.new }
     {
-        self.put_signed(out, v.unsigned_abs(), v < 0);
+        self.put_signed(out, crate::unsigned_abs(v), v < 0);
     }
 
     // Puts the signed code word of the magnitude m, below 0 where minus is set.

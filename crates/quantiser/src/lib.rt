@@ -124,7 +124,7 @@ pub fn forward_by(c: i64, f: u64) -> i64
     requires { (4 ≤ f) × (f < 2 ^ 63) }
     ensures { result ≡ forward_by f c }
 {
-    let m = c.unsigned_abs();
+    let m = codewords::unsigned_abs(c);
     signed(c, cap(four_over(m, f)))
 }
 
@@ -134,7 +134,7 @@ pub fn forward_size(c: i64, f: u64) -> u64
     requires { ((4 ≤ f) × (f < 2 ^ 63)) × (nat_abs c < 2 ^ 60) }
     ensures { (result ≡ nat_abs (forward_by f c)) × (result ≤ 2 ^ 60) }
 {
-    let m = c.unsigned_abs();
+    let m = codewords::unsigned_abs(c);
     if f == 4 {
         return m;
     }
@@ -165,7 +165,7 @@ pub fn forward_len_by(c: i64, f: u64) -> u32
     requires { ((4 ≤ f) × (f < 2 ^ 63)) × (nat_abs c < 2 ^ 60) }
     ensures { result ≡ length (code_s (forward_by f c)) }
 {
-    let n = 4 * c.unsigned_abs() + f;
+    let n = 4 * codewords::unsigned_abs(c) + f;
     let e = quotient_log2(n, f);
     if e == 0 { 1 } else { 2 * e + 2 }
 }
@@ -182,7 +182,7 @@ pub fn inverse_by(q: i64, f: u64, off: u64) -> i64
     requires { (4 ≤ f) × (off < 2 ^ 63) }
     ensures { result ≡ inverse_by f off q }
 {
-    let m = q.unsigned_abs();
+    let m = codewords::unsigned_abs(q);
     if m == 0 {
         return 0;
     }

@@ -12,7 +12,7 @@ use Rattle.codewords.proofs.sint_code_len.Goals.{After-unsigned_abs-m}
 
 -- a signed argument is passed as its bits, and read back
 is-abs : (c : After-unsigned_abs-m) → c.unsigned_abs-m.result ≡ nat_abs c.args.v
-is-abs c = c.unsigned_abs-m.ensures.value ∙ ap nat_abs (to_z-of_z {w = w64} c.ranges.v)
+is-abs c = c.unsigned_abs-m.ensures.0 ∙ ap nat_abs (to_z-of_z {w = w64} c.ranges.v)
 
 pub returns-then-m-eq0 : goal.returns-then-m-eq0
 returns-then-m-eq0 c = sym (length-code_s-zero c.args.v (sym (is-abs (goal.at.returns-then-m-eq0 c).After-unsigned_abs-m) ∙ c.if-m-eq0.true))

@@ -11,4 +11,4 @@ returns c =
     let z = c.args.c in
     let m = c.unsigned_abs-m.result in
     back _ c.signed.type_inv ∙ c.signed.ensures
-    ∙ rw (to_z-of_z {w = w64} c.ranges.c) (forward_is f m _ _ z (abs_read z m c.ranges.c c.unsigned_abs-m.ensures.value) c.four_over.ensures c.cap.ensures.0)
+    ∙ rw (to_z-of_z {w = w64} c.ranges.c) (forward_is f m _ _ z (abs_read z m c.ranges.c c.unsigned_abs-m.ensures.0) c.four_over.ensures c.cap.ensures.0)

@@ -8,7 +8,7 @@ use Rattle.quantiser.proofs.forward_len_by.Goals as goal
 use Rattle.quantiser.proofs.forward_len_by.Goals.{After-quotient_log2-e, After-unsigned_abs}
 
 is-abs : (c : After-unsigned_abs) → c.unsigned_abs.result ≡ nat_abs c.args.c
-is-abs c = abs_read c.args.c _ c.ranges.c c.unsigned_abs.ensures.value
+is-abs c = abs_read c.args.c _ c.ranges.c c.unsigned_abs.ensures.0
 
 pub overflow_mul-n : goal.overflow_mul-n
 overflow_mul-n c = omega (arith, is-abs c)
@@ -18,7 +18,7 @@ overflow_add-n c = omega (arith, is-abs c)
 
 known : (c : After-quotient_log2-e) → Length c.args.f c.quotient_log2-e.result c.args.c
 known c =
-    length_law c.args.f c.unsigned_abs.result c.quotient_log2-e.result c.args.c (omega arith) (abs_read c.args.c _ c.ranges.c c.unsigned_abs.ensures.value) c.requires.1 c.quotient_log2-e.ensures
+    length_law c.args.f c.unsigned_abs.result c.quotient_log2-e.result c.args.c (omega arith) (abs_read c.args.c _ c.ranges.c c.unsigned_abs.ensures.0) c.requires.1 c.quotient_log2-e.ensures
 
 pub overflow_mul-result : goal.overflow_mul-result
 overflow_mul-result c = omega (arith, (known (goal.at.overflow_mul-result c).After-quotient_log2-e).short)

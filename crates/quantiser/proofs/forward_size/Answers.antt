@@ -9,7 +9,7 @@ use Rattle.quantiser.proofs.forward_size.Goals as goal
 use Rattle.quantiser.proofs.forward_size.Goals.{After-unsigned_abs-m}
 
 is-abs : (c : After-unsigned_abs-m) → c.unsigned_abs-m.result ≡ nat_abs c.args.c
-is-abs c = abs_read c.args.c _ c.ranges.c c.unsigned_abs-m.ensures.value
+is-abs c = abs_read c.args.c _ c.ranges.c c.unsigned_abs-m.ensures.0
 
 size_is : (c : After-unsigned_abs-m) → 4 * c.unsigned_abs-m.result / c.args.f ≡ nat_abs (forward_by c.args.f c.args.c)
 size_is c =

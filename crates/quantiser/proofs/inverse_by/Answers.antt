@@ -9,7 +9,7 @@ use Rattle.quantiser.proofs.inverse_by.Goals as goal
 use Rattle.quantiser.proofs.inverse_by.Goals.{After-unsigned_abs-m}
 
 is-abs : (c : After-unsigned_abs-m) → c.unsigned_abs-m.result ≡ nat_abs c.args.q
-is-abs c = abs_read c.args.q _ c.ranges.q c.unsigned_abs-m.ensures.value
+is-abs c = abs_read c.args.q _ c.ranges.q c.unsigned_abs-m.ensures.0
 
 pub returns-then-m-eq0 : goal.returns-then-m-eq0
 returns-then-m-eq0 c =
