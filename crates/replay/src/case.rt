@@ -26,6 +26,7 @@ pub(crate) fn word(b: &[u8]) -> u64
 // The words of bytes.
 pub(crate) fn unpack(bytes: &[u8], words: &mut [u64])
     requires { 8 * length words.old ≤ length bytes.now }
+    ensures { length words.new ≡ length words.old }
 {
     for i in 0..words.len() {
         words[i] = word(&bytes[8 * i..8 * i + 8]);
