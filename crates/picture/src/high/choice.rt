@@ -31,10 +31,10 @@ fn pack_slice(work: &mut [i64], d: Plan, k: u32, q: u32, from: usize) -> Choice
     ensures { (result ≡ choice_by (numbers_in work.old d.picture k) q)
         × ((work.new ≡ laid work.old from (slice_words (numbers_in work.old d.picture k q))) × Small d.picture.front d.picture.end work.new) }
 {
-    let p = d.picture;
-    let y = crate::high::packed::pack_run(work, from, p.run(p.y, k, q));
-    let c1 = crate::high::packed::pack_run(work, y.at, p.run(p.c1, k, q));
-    let c2 = crate::high::packed::pack_run(work, c1.at, p.run(p.c2, k, q));
+    let p = &d.picture;
+    let y = crate::high::packed::pack_run(work, from, &p.run(p.y, k, q));
+    let c1 = crate::high::packed::pack_run(work, y.at, &p.run(p.c1, k, q));
+    let c2 = crate::high::packed::pack_run(work, c1.at, &p.run(p.c2, k, q));
     Choice {
         index: q,
         y: Packed {

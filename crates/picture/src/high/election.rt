@@ -17,9 +17,9 @@ use crate::slices::tally::Trimmed;
 use unit::RateControl;
 
 // A run without its trailing zeros.
-fn trimmed_run(work: &[i64], r: Run) -> Trimmed
-    requires { Lying r work.now × (r.first.width * r.first.height ≤ area_limit) }
-    ensures { result ≡ trimmed_of (numbers_of work.now r) }
+fn trimmed_run(work: &[i64], r: &Run) -> Trimmed
+    requires { Lying r.now work.now × (r.now.first.width * r.now.first.height ≤ area_limit) }
+    ensures { result ≡ trimmed_of (numbers_of work.now r.now) }
 {
     let v = r.first_window();
     let first = crate::slices::run::first_tally(work, r, v);
@@ -32,13 +32,13 @@ fn fits(work: &[i64], d: Plan, share: u64, k: u32, q: u32) -> bool
     requires { SliceIn d.picture work.now k q }
     ensures { result ≡ fits_by d.terms.prefix d.terms.scaler share (numbers_in work.now d.picture k) q }
 {
-    let p = d.picture;
-    let y = trimmed_run(work, p.run(p.y, k, q));
+    let p = &d.picture;
+    let y = trimmed_run(work, &p.run(p.y, k, q));
     if crate::high::size::slice_size(crate::high::size::needs_of(y.bits, 0, 0), d) > share {
         return false;
     }
-    let c1 = trimmed_run(work, p.run(p.c1, k, q));
-    let c2 = trimmed_run(work, p.run(p.c2, k, q));
+    let c1 = trimmed_run(work, &p.run(p.c1, k, q));
+    let c2 = trimmed_run(work, &p.run(p.c2, k, q));
     crate::high::size::slice_size(crate::high::size::needs_of(y.bits, c1.bits, c2.bits), d) <= share
 }
 

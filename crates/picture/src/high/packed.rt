@@ -93,9 +93,9 @@ impl Packing {
 }
 
 // Packs the run of one component, from place at on.
-pub(crate) fn pack_run(work: &mut [i64], at: usize, r: Run) -> Packing
-    requires { PackRunIn r at work.old }
-    ensures { Packs work.old (record { at = at; zeros = 0; bits = 0 }) (numbers_of work.old r) work.new result }
+pub(crate) fn pack_run(work: &mut [i64], at: usize, r: &Run) -> Packing
+    requires { PackRunIn r.now at work.old }
+    ensures { Packs work.old (record { at = at; zeros = 0; bits = 0 }) (numbers_of work.old r.now) work.new result }
 {
     let mut v = r.first_window();
     let mut t = Packing {

@@ -16,6 +16,7 @@ pub(crate) struct Probe {
 
 // Whether slice s takes at most room bits at index q, and its runs there. The rebuilt planes are left as this index
 // makes them.
+#[inline(always)]
 fn probe_at(work: &mut [i64], s: Slice, room: u64, q: u32) -> Probe
     requires { SliceIn s.picture work.old s.k q }
     ensures { (work.new ≡ rebuilt_in work.old s.picture s.k q) × (Small s.picture.front s.picture.end work.new × Known work.new s.picture s.k result.rest) }

@@ -42,9 +42,9 @@ fn cut(work: &[i64], s: Slice, room: u64, q: u32) -> Kept
 {
     let p = s.picture;
     let none = crate::slices::cost::no_cost(room);
-    let y = shorter(crate::slices::run::cost_run(work, p.run(p.y, s.k, q), none));
+    let y = shorter(crate::slices::run::cost_run(work, &p.run(p.y, s.k, q), none));
     let none = crate::slices::cost::no_cost(room - y.bits);
-    let c = shorter(crate::slices::run::cost_run(work, p.colours(s.k, q), none));
+    let c = shorter(crate::slices::run::cost_run(work, &p.colours(s.k, q), none));
     Kept {
         luma: y,
         colour: c,

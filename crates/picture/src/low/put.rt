@@ -110,9 +110,9 @@ impl Put {
 
     // Puts the numbers of a run that are kept, and gives the writer back. The put is not lent, so that it stays in
     // registers.
-    pub(crate) fn run(mut self, out: &mut [u8], work: &[i64], r: Run) -> BitWriter
-        requires { Lying r work.now × RoomFor out.old self (numbers_of work.now r) }
-        ensures { Wrote out.old self.writer (codes (take self.left (numbers_of work.now r))) out.new result }
+    pub(crate) fn run(mut self, out: &mut [u8], work: &[i64], r: &Run) -> BitWriter
+        requires { Lying r.now work.now × RoomFor out.old self (numbers_of work.now r.now) }
+        ensures { Wrote out.old self.writer (codes (take self.left (numbers_of work.now r.now))) out.new result }
     {
         let mut v = r.first_window();
         let mut start: usize = 0;

@@ -30,12 +30,12 @@ fn put_runs(out: &mut [u8], w: &mut BitWriter, work: &[i64], s: Slice, q: u32, r
         writer: *w,
         left: r.luma.count,
     };
-    *w = luma.run(out, work, p.run(p.y, s.k, q));
+    *w = luma.run(out, work, &p.run(p.y, s.k, q));
     let colour = Put {
         writer: *w,
         left: r.colour.count,
     };
-    *w = colour.run(out, work, p.colours(s.k, q));
+    *w = colour.run(out, work, &p.colours(s.k, q));
 }
 
 // Writes slice s of n bytes at index q from place at on. rest has its runs behind level 0 at q or at another index.

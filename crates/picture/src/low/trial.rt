@@ -51,9 +51,9 @@ pub(crate) struct Bracket {
 }
 
 // A run of the subbands behind the first, without trailing zeros.
-fn rest_run(work: &[i64], r: Run, v: Window) -> Trimmed
-    requires { Lying r work.now × ((r.first.width * r.first.height ≤ area_limit) × (v ≡ run_window r 0)) }
-    ensures { result ≡ trimmed_of (rest_of work.now r) }
+fn rest_run(work: &[i64], r: &Run, v: Window) -> Trimmed
+    requires { Lying r.now work.now × ((r.now.first.width * r.now.first.height ≤ area_limit) × (v ≡ run_window r.now 0)) }
+    ensures { result ≡ trimmed_of (rest_of work.now r.now) }
 {
     let none = Tally {
         bits: 0,
@@ -81,27 +81,29 @@ impl Slice {
     }
 
     // Its part of the three rebuilt planes, made at index q.
+    #[inline(always)]
     pub(crate) fn rebuild_planes(self, work: &mut [i64], q: u32)
         requires { SliceIn self.picture work.old self.k q }
         ensures { (work.new ≡ rebuilt_in work.old self.picture self.k q) × Small self.picture.front self.picture.end work.new }
     {
-        let p = self.picture;
-        crate::slices::run::rebuild_run(work, p.run(p.y, self.k, q), self.windows.luma);
-        crate::slices::run::rebuild_run(work, p.run(p.c1, self.k, q), self.windows.colour);
-        crate::slices::run::rebuild_run(work, p.run(p.c2, self.k, q), self.windows.colour);
+        let p = &self.picture;
+        crate::slices::run::rebuild_run(work, &p.run(p.y, self.k, q), self.windows.luma);
+        crate::slices::run::rebuild_run(work, &p.run(p.c1, self.k, q), self.windows.colour);
+        crate::slices::run::rebuild_run(work, &p.run(p.c2, self.k, q), self.windows.colour);
     }
 
     // The tallies of its level-0 numbers at index q, where the planes are rebuilt.
+    #[inline(always)]
     pub(crate) fn first_tallies(self, work: &[i64], q: u32) -> First
         requires { SliceIn self.picture work.now self.k q }
         ensures { FirstOf work.now self.picture self.k q result }
     {
-        let p = self.picture;
+        let p = &self.picture;
         First {
-            luma: crate::slices::run::first_tally(work, p.run(p.y, self.k, q), self.windows.luma),
+            luma: crate::slices::run::first_tally(work, &p.run(p.y, self.k, q), self.windows.luma),
             colour: crate::slices::run::first_tally(
                 work,
-                p.colours(self.k, q),
+                &p.colours(self.k, q),
                 self.windows.colour,
             ),
         }
@@ -109,15 +111,16 @@ impl Slice {
 
     // Its runs of the subbands behind the first at index q. No prediction is in them, so that they do not depend on
     // the rebuilt planes.
+    #[inline(always)]
     pub(crate) fn rest_of(self, work: &[i64], q: u32) -> Rest
         requires { SliceIn self.picture work.now self.k q }
         ensures { Known work.now self.picture self.k result × (result.index ≡ q) }
     {
-        let p = self.picture;
+        let p = &self.picture;
         Rest {
             index: q,
-            luma: rest_run(work, p.run(p.y, self.k, q), self.windows.luma),
-            colour: rest_run(work, p.colours(self.k, q), self.windows.colour),
+            luma: rest_run(work, &p.run(p.y, self.k, q), self.windows.luma),
+            colour: rest_run(work, &p.colours(self.k, q), self.windows.colour),
         }
     }
 

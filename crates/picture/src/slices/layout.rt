@@ -69,8 +69,9 @@ pub(crate) struct Run {
 
 impl Picture {
     // Slice k's run of a component at index q.
-    pub(crate) fn run(self, c: Component, k: u32, q: u32) -> Run
-        ensures { result ≡ run_in self c k q }
+    #[inline(always)]
+    pub(crate) fn run(&self, c: Component, k: u32, q: u32) -> Run
+        ensures { result ≡ run_in self.now c k q }
     {
         Run {
             layout: self.layout,
@@ -82,8 +83,9 @@ impl Picture {
     }
 
     // Slice k's run of the two colours together at index q.
-    pub(crate) fn colours(self, k: u32, q: u32) -> Run
-        ensures { result ≡ colours_in self k q }
+    #[inline(always)]
+    pub(crate) fn colours(&self, k: u32, q: u32) -> Run
+        ensures { result ≡ colours_in self.now k q }
     {
         Run {
             layout: self.layout,
@@ -207,6 +209,7 @@ impl Run {
     // The strip of the n-th subband, of which its slice has the window v and whose coefficients begin start places
     // behind those of its component.
     #[tactic(auto, unfolding(crate::specs::Code::Layout::strip_of, crate::specs::Code::Layout::window_of))]
+    #[inline(always)]
     pub(crate) fn strip_in(&self, n: u32, start: usize, v: Window) -> Strip
         requires { StripIn self.now.layout self.now.first (second_of self.now) n start self.now.slice self.now.index × (v ≡ run_window self.now n) }
         ensures { result ≡ run_strip self.now n start }

@@ -12,9 +12,9 @@ use crate::slices::layout::{Run, Window};
 use crate::slices::tally::Tally;
 
 // t with the numbers of the subbands behind the first added; first is the window of the first one.
-fn add_rest<C: Counter>(work: &[i64], r: Run, first: Window, t: C) -> C
-    requires { Lying r work.now × (Counted (C.bits t) (C.count t) (2 * (r.first.width * r.first.height - first.width * first.height)) × (first ≡ run_window r 0)) }
-    ensures { result ≡ added C.step t (rest_of work.now r) }
+fn add_rest<C: Counter>(work: &[i64], r: &Run, first: Window, t: C) -> C
+    requires { Lying r.now work.now × (Counted (C.bits t) (C.count t) (2 * (r.now.first.width * r.now.first.height - first.width * first.height)) × (first ≡ run_window r.now 0)) }
+    ensures { result ≡ added C.step t (rest_of work.now r.now) }
 {
     let mut v = first;
     let mut sum = t;
@@ -29,9 +29,9 @@ fn add_rest<C: Counter>(work: &[i64], r: Run, first: Window, t: C) -> C
 }
 
 // The cost t with the numbers of all subbands added.
-pub(crate) fn cost_run(work: &[i64], r: Run, t: Cost) -> Cost
-    requires { Lying r work.now × Countable t (2 * (r.first.width * r.first.height)) }
-    ensures { result ≡ add_all t (numbers_of work.now r) }
+pub(crate) fn cost_run(work: &[i64], r: &Run, t: Cost) -> Cost
+    requires { Lying r.now work.now × Countable t (2 * (r.now.first.width * r.now.first.height)) }
+    ensures { result ≡ add_all t (numbers_of work.now r.now) }
 {
     let v = r.first_window();
     let s = r.strip_in(0, 0, v);
@@ -40,9 +40,10 @@ pub(crate) fn cost_run(work: &[i64], r: Run, t: Cost) -> Cost
 }
 
 // The tally of the numbers of the first subband, of which the slice has the window v.
-pub(crate) fn first_tally(work: &[i64], r: Run, v: Window) -> Tally
-    requires { Lying r work.now × ((r.first.width * r.first.height ≤ area_limit) × (v ≡ run_window r 0)) }
-    ensures { result ≡ tally_all no_tally (strip_numbers work.now (run_strip r 0 0)) }
+#[inline(always)]
+pub(crate) fn first_tally(work: &[i64], r: &Run, v: Window) -> Tally
+    requires { Lying r.now work.now × ((r.now.first.width * r.now.first.height ≤ area_limit) × (v ≡ run_window r.now 0)) }
+    ensures { result ≡ tally_all no_tally (strip_numbers work.now (run_strip r.now 0 0)) }
 {
     let none = crate::slices::cost::no_cost(0);
     let s = r.strip_in(0, 0, v);
@@ -50,17 +51,18 @@ pub(crate) fn first_tally(work: &[i64], r: Run, v: Window) -> Tally
 }
 
 // The tally t with the numbers of the other subbands added; first is the window of the first one.
-pub(crate) fn rest_tally(work: &[i64], r: Run, first: Window, t: Tally) -> Tally
-    requires { Lying r work.now × (Addable t (2 * (r.first.width * r.first.height)) × (first ≡ run_window r 0)) }
-    ensures { result ≡ tally_all t (rest_of work.now r) }
+pub(crate) fn rest_tally(work: &[i64], r: &Run, first: Window, t: Tally) -> Tally
+    requires { Lying r.now work.now × (Addable t (2 * (r.now.first.width * r.now.first.height)) × (first ≡ run_window r.now 0)) }
+    ensures { result ≡ tally_all t (rest_of work.now r.now) }
 {
     add_rest(work, r, first, t)
 }
 
 // The slice's part of the rebuilt level-0 plane of the first component, of which it has the window v.
-pub(crate) fn rebuild_run(work: &mut [i64], r: Run, v: Window)
-    requires { Lying r work.old × (v ≡ run_window r 0) }
-    ensures { work.new ≡ rebuilt_strip work.old (run_strip r 0 0) }
+#[inline(always)]
+pub(crate) fn rebuild_run(work: &mut [i64], r: &Run, v: Window)
+    requires { Lying r.now work.old × (v ≡ run_window r.now 0) }
+    ensures { work.new ≡ rebuilt_strip work.old (run_strip r.now 0 0) }
 {
     let s = r.strip_in(0, 0, v);
     crate::slices::rebuild::rebuild_strip(work, s);

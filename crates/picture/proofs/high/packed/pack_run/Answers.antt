@@ -12,7 +12,7 @@ first_window-v-requires c = run-window c.requires.1.holds.0 0 (omega arith)
 pub loop-n-init : goal.loop-n-init
 loop-n-init c =
     let a = c.args in
-    (sym (start_first a.r.layout a.r.first), (window-first _ _ _ _ c.first_window-v.ensures, packs_run-none a.work.now a.r.layout a.r.first a.r.slice a.r.index _))
+    (sym (start_first a.r.now.layout a.r.now.first), (window-first _ _ _ _ c.first_window-v.ensures, packs_run-none a.work.now a.r.now.layout a.r.now.first a.r.now.slice a.r.now.index _))
 
 pub next_window-v-requires : goal.next_window-v-requires
 next_window-v-requires c =
@@ -69,5 +69,5 @@ pub returns : goal.returns
 returns c =
     let a = c.args in
     let v = c.loop-n in
-    let e : v.n ≡ band_count a.r.layout = omega (arith, v.auto.n-end, c.loop-n-test.false, c.band_count-n-end.ensures) in
-    rw c.requires.0 (packs_same (ap (run_numbers a.work.now a.r.layout a.r.first a.r.first false a.r.slice a.r.index) e) v.invariant.1.1)
+    let e : v.n ≡ band_count a.r.now.layout = omega (arith, v.auto.n-end, c.loop-n-test.false, c.band_count-n-end.ensures) in
+    rw c.requires.0 (packs_same (ap (run_numbers a.work.now a.r.now.layout a.r.now.first a.r.now.first false a.r.now.slice a.r.now.index) e) v.invariant.1.1)

@@ -7,7 +7,7 @@ use Rattle.picture.proofs.low.trial.rest_run.Goals.{After-rest_tally-t}
 
 -- the tally of the run
 whole : (c : After-rest_tally-t) → let a = c.args in
-    TallyOf (rest_of a.work.now a.r) c.rest_tally-t.result
+    TallyOf (rest_of a.work.now a.r.now) c.rest_tally-t.result
 whole c = tally_of_lem _ c.rest_tally-t.result c.rest_tally-t.ensures
 
 pub trimmed_of-requires : goal.trimmed_of-requires

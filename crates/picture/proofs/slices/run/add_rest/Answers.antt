@@ -9,7 +9,7 @@ overflow_mul-start g c = omega (arith, window_few c.requires.0.holds c.args.firs
 pub loop-n-init : goal.loop-n-init
 loop-n-init g c =
     let a = c.args in
-    (window-area a.r.layout a.r.first a.r.slice a.first c.requires.1.1, (window-turn _ _ 0 _ _ c.requires.1.1, rest-added-none a.work.now a.r.layout a.r.first (second_of a.r) (pair_of a.r) a.r.slice a.r.index g.C.Counter.step a.t))
+    (window-area a.r.now.layout a.r.now.first a.r.now.slice a.first c.requires.1.1, (window-turn _ _ 0 _ _ c.requires.1.1, rest-added-none a.work.now a.r.now.layout a.r.now.first (second_of a.r.now) (pair_of a.r.now) a.r.now.slice a.r.now.index g.C.Counter.step a.t))
 
 pub strip_in-s-requires : goal.strip_in-s-requires
 strip_in-s-requires g c =
@@ -21,7 +21,7 @@ add_strip-sum-requires g c =
     let a = c.args in
     let v = c.loop-n in
     let s = c.strip_in-s in
-    let i = rw (window-area a.r.layout a.r.first a.r.slice a.first c.requires.1.1) at c.requires.1.0 in
+    let i = rw (window-area a.r.now.layout a.r.now.first a.r.now.slice a.first c.requires.1.1) at c.requires.1.0 in
     let f = strip_from _ _ _ _ _ _ s.result v.n v.start s.ensures v.invariant.0 in
     let h = rest_ready _ _ _ _ _ _ _ c.requires.0.holds s.result v.n (rw c.band_count-n-end.ensures at c.loop-n-test.true) g.C.Counter.laws a.t v.sum v.auto.n f v.invariant.1.1 i in
     (h.0, (rw h.1.0 g.C.Counter.plain, h.1.1))
@@ -46,4 +46,4 @@ loop-n-preserved g c =
     let v = c.loop-n in
     let s = c.strip_in-s in
     let f = strip_from _ _ _ _ _ _ s.result v.n v.start s.ensures v.invariant.0 in
-    (start-turn _ _ _ _ _ _ s.result v.n v.start s.ensures v.invariant.0, (window-turn _ _ v.n _ _ c.next_window-v.ensures, rest-added-turn a.work.now a.r.layout a.r.first (second_of a.r) (pair_of a.r) a.r.slice a.r.index g.C.Counter.step a.t v.sum _ s.result v.n v.auto.n f v.invariant.1.1 c.add_strip-sum.ensures))
+    (start-turn _ _ _ _ _ _ s.result v.n v.start s.ensures v.invariant.0, (window-turn _ _ v.n _ _ c.next_window-v.ensures, rest-added-turn a.work.now a.r.now.layout a.r.now.first (second_of a.r.now) (pair_of a.r.now) a.r.now.slice a.r.now.index g.C.Counter.step a.t v.sum _ s.result v.n v.auto.n f v.invariant.1.1 c.add_strip-sum.ensures))

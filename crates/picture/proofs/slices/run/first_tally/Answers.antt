@@ -14,7 +14,7 @@ pub add_strip-requires : goal.add_strip-requires
 add_strip-requires c =
     let a = c.args in
     let s = c.strip_in-s in
-    rw c.no_cost-none.ensures (first_lies c.requires.0.holds _ s.result s.ensures, (tt, record { bits = omega arith; count = omega (arith, first_part _ _ _ _ _ _ s.result s.ensures, first_most a.r.layout a.r.first, c.requires.1.0) }))
+    rw c.no_cost-none.ensures (first_lies c.requires.0.holds _ s.result s.ensures, (tt, record { bits = omega arith; count = omega (arith, first_part _ _ _ _ _ _ s.result s.ensures, first_most a.r.now.layout a.r.now.first, c.requires.1.0) }))
 
 pub returns : goal.returns
 returns c =

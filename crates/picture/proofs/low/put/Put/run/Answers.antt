@@ -8,7 +8,7 @@ use Rattle.picture.proofs.low.put.Put.run.Goals as goal
 pub loop-n-init : goal.loop-n-init
 loop-n-init c =
     let a = c.args in
-    (sym (start_first a.r.layout a.r.first), (window-first _ _ _ _ c.first_window-v.ensures, put-none a.work.now a.r.layout a.r.first (second_of a.r) (pair_of a.r) a.r.slice a.r.index c.requires.1))
+    (sym (start_first a.r.now.layout a.r.now.first), (window-first _ _ _ _ c.first_window-v.ensures, put-none a.work.now a.r.now.layout a.r.now.first (second_of a.r.now) (pair_of a.r.now) a.r.now.slice a.r.now.index c.requires.1))
 
 pub strip_in-s-requires : goal.strip_in-s-requires
 strip_in-s-requires c =
@@ -41,4 +41,4 @@ loop-n-preserved c =
     let a = c.args in
     let v = c.loop-n in
     let s = c.strip_in-s in
-    (start-turn _ _ _ _ _ _ s.result v.n v.start s.ensures v.invariant.0, (window-turn _ _ v.n _ _ c.next_window-v.ensures, put-turn a.work.now a.r.layout a.r.first (second_of a.r) (pair_of a.r) a.r.slice a.r.index s.result v.n (strip_from _ _ _ _ _ _ s.result v.n v.start s.ensures v.invariant.0) c.requires.1.sound v.invariant.1.1 c.strip.ensures))
+    (start-turn _ _ _ _ _ _ s.result v.n v.start s.ensures v.invariant.0, (window-turn _ _ v.n _ _ c.next_window-v.ensures, put-turn a.work.now a.r.now.layout a.r.now.first (second_of a.r.now) (pair_of a.r.now) a.r.now.slice a.r.now.index s.result v.n (strip_from _ _ _ _ _ _ s.result v.n v.start s.ensures v.invariant.0) c.requires.1.sound v.invariant.1.1 c.strip.ensures))
