@@ -69,7 +69,12 @@ const LARGEST: u64 = 0x7FFF_FFFF_FFFF_FFFF;
 fn cap(n: u64) -> u64
     ensures { (result ≡ cap n) × (result < 2 ^ 63) }
 {
-    n.min(LARGEST)
+    // The bound and the cap are two numbers, so that the edit `least_uncapped` changes the bound alone.
+    if n < LARGEST {
+        n
+    } else {
+        0x7FFF_FFFF_FFFF_FFFF
+    }
 }
 
 // A quotient and its remainder.
